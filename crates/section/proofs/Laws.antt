@@ -1,0 +1,3 @@
+pub mod Crc
+pub mod Refusals
+pub mod Exact

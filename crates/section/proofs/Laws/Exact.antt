@@ -1,0 +1,118 @@
+-- What an answer of `check` says, and when it is given: exactly the stated case.
+-- Assumes nothing.
+use Prim.Native.Nat.{ℕ, _+_, _≤_, _<_, _%_}
+use mathlib.Core.Path.{_≡_, refl, sym, ap, _∙_}
+use mathlib.Core.Logic.{_↔_}
+use mathlib.Core.Bool.{Bool, true, false, not, cond, _||_, or-false}
+use mathlib.Core.List.{List, [], _∷_}
+use native.Mathlib.Omega.{arith}
+use lib.Dec.{ltb, eqb, lit<, lit≤}
+use lib.ListN.{length}
+use borrow.Author.Tests.{ltb-false, eqb-true, eqb-false, eq-eqb, ne-eqb, not-false}
+use Rattle.wire.specs.Tests.{Tests, firstMet, holds, RisingFrom, Within}
+use Rattle.wire.proofs.Laws.Tests.{lowest-met, none-met, met-within}
+use Rattle.wire.proofs.Laws.Fields.{bits-lt}
+use Rattle.section.specs.Crc.{crcOf}
+use Rattle.section.specs.Header.{tableOf, syntaxOf, lengthOf, currentOf, sectionOf, lastOf, isTable, limitOf, headerOf}
+use Rattle.section.specs.Refusals.{meets2, meets3, meets4, meets5, meets6, sectionTests, refusalOf, GoodSection}
+use Rattle.section.specs.Answer.{numberOf, refused, checkedOf}
+use Rattle.section.specs.declared.Rules.{Rules}
+use Rattle.section.specs.declared.Refusal.{Refusal}
+use Rattle.section.specs.declared.Header.{Header}
+use Rattle.section.specs.declared.Checked.{Checked}
+use Rattle.section.specs.declared.Checked.the-variants.{Refused, Accepted}
+use Rattle.section.proofs.Laws.Refusals.{past2, past3, past4, past5, past6, is0}
+
+neither : (a b : Bool) → (a || b) ≡ false → (a ≡ false) × (b ≡ false)
+neither true b e = let z : _≡_ {A = ℕ} 0 1 = cc in absurd (omega arith)
+neither false b e = (refl, e)
+
+module _ (rules : Rules) (s : List ℕ) where
+  rising : RisingFrom 0 (sectionTests rules s)
+  rising = (lit< tt, (lit< tt, (lit< tt, (lit< tt, (lit< tt, tt)))))
+
+  -- test n of the table is the test of that number
+  pub the-tests : (holds 2 (sectionTests rules s) ≡ meets2 s) × (holds 3 (sectionTests rules s) ≡ meets3 rules s) × (holds 4 (sectionTests rules s) ≡ meets4 rules s) × (holds 5 (sectionTests rules s) ≡ meets5 s) × (holds 6 (sectionTests rules s) ≡ meets6 s)
+  unfolding holds
+  the-tests = (or-false (meets2 s), or-false (meets3 rules s), or-false (meets4 rules s), or-false (meets5 s), or-false (meets6 s))
+
+  -- the answer's number, and its value where that is 0
+  pub number-is : numberOf (checkedOf rules s) ≡ refusalOf rules s
+  unfolding checkedOf
+  number-is = go (eqb (refusalOf rules s) 0) refl
+    where
+      go : (b : Bool) → eqb (refusalOf rules s) 0 ≡ b → numberOf (cond b (Accepted (headerOf s)) (Refused (refused (refusalOf rules s)))) ≡ refusalOf rules s
+      go true e = sym (eqb-true _ _ e)
+      go false e = refl
+
+  -- THE NUMBER IS n EXACTLY WHEN TEST n HOLDS AND NO LOWER ONE DOES
+  pub refused-exactly : (n : ℕ) → 0 < n
+      → (numberOf (checkedOf rules s) ≡ n) ↔ ((holds n (sectionTests rules s) ≡ true) × ((m : ℕ) → m < n → holds m (sectionTests rules s) ≡ false))
+  unfolding refusalOf
+  refused-exactly n p = rw number-is (lowest-met (sectionTests rules s) rising n p)
+
+  -- ACCEPTED EXACTLY WHEN NONE HOLDS, which is to say: when every clause of the paper is kept
+  passed : refusalOf rules s ≡ 0 → (meets2 s ≡ false) × (meets3 rules s ≡ false) × (meets4 rules s ≡ false) × (meets5 s ≡ false) × (meets6 s ≡ false)
+  unfolding refusalOf
+  passed e =
+      let f = none-met (sectionTests rules s) rising .0 e in
+      let t = the-tests in
+      (sym (t .0) ∙ f 2, sym (t .1) ∙ f 3, sym (t .2) ∙ f 4, sym (t .3) ∙ f 5, sym (t .4) ∙ f 6)
+
+  pub good-exactly : (refusalOf rules s ≡ 0) ↔ GoodSection rules s
+  unfolding meets2 meets3 meets4 meets5 meets6
+  good-exactly = (there, back)
+    where
+      bit-one : (x : ℕ) → x < 2 → eqb x 0 ≡ false → x ≡ 1
+      bit-one x h e = let n = eqb-false x 0 e in omega (arith, n)
+
+      there : refusalOf rules s ≡ 0 → GoodSection rules s
+      there e =
+          let p = passed e in
+          let l2 = neither (ltb (length s) 3) (not (eqb (length s) (3 + lengthOf s))) (p .0) in
+          let l4 = neither (ltb (lengthOf s) 9 || ltb (limitOf rules) (lengthOf s) || eqb (syntaxOf s) 0) (ltb (lastOf s) (sectionOf s)) (p .2) in
+          let m4 = neither (ltb (lengthOf s) 9 || ltb (limitOf rules) (lengthOf s)) (eqb (syntaxOf s) 0) (l4 .0) in
+          let n4 = neither (ltb (lengthOf s) 9) (ltb (limitOf rules) (lengthOf s)) (m4 .0) in
+          record {
+            headed = ltb-false _ _ (l2 .0);
+            exact = eqb-true _ _ (not-false _ (l2 .1));
+            table = not-false _ (p .1);
+            least = ltb-false _ _ (n4 .0);
+            most = ltb-false _ _ (n4 .1);
+            syntax = bit-one (syntaxOf s) (bits-lt 15 1 _) (m4 .1);
+            numbers = ltb-false _ _ (l4 .1);
+            crc = eqb-true _ _ (not-false _ (p .3));
+            current = bit-one (currentOf s) (bits-lt 0 1 _) (p .4);
+          }
+
+      back : GoodSection rules s → refusalOf rules s ≡ 0
+      back g = sym (is0 rules s (past2 s (g .headed) (g .exact)) (past3 rules s (g .table)) (past4 rules s (g .least) (g .most) (λ e. omega (arith, g .syntax)) (g .numbers)) (past5 s (g .crc)) (past6 s (λ e. omega (arith, g .current))))
+
+  -- what the code answers from the number, and what a caller reads off the answer
+  pub refused-with : (refusalOf rules s ≡ 0 → ⊥) → checkedOf rules s ≡ Refused (refused (refusalOf rules s))
+  unfolding checkedOf
+  refused-with n = rw (ne-eqb _ _ n)
+
+  pub accepted-with : refusalOf rules s ≡ 0 → checkedOf rules s ≡ Accepted (headerOf s)
+  unfolding checkedOf
+  accepted-with e = rw (eq-eqb _ _ e)
+
+  -- an accepted section is a good one, its header is the section's, and it has its header and its CRC: 12 bytes at least
+  pub accepted-has : (h : Header) → checkedOf rules s ≡ Accepted h → (h ≡ headerOf s) × (refusalOf rules s ≡ 0) × GoodSection rules s × (12 ≤ length s)
+  accepted-has h e =
+      let z : refusalOf rules s ≡ 0 = sym number-is ∙ ap numberOf e in
+      let a = accepted-with z in
+      let g = good-exactly .0 z in
+      (cc, z, g, omega (arith, g .exact, g .least))
+
+  -- a refusal is the table's, one of 2 to 6
+  pub refused-has : (r : Refusal) → checkedOf rules s ≡ Refused r → (r ≡ refused (refusalOf rules s)) × (2 ≤ refusalOf rules s) × (refusalOf rules s ≤ 6)
+  unfolding refusalOf
+  refused-has r e =
+      let n : refusalOf rules s ≡ 0 → ⊥ = λ z. (let a = accepted-with z in let f : _≡_ {A = ℕ} 0 1 = cc in omega arith) in
+      let a = refused-with n in
+      let w = met-within 2 6 (sectionTests rules s) ((lit≤ tt, lit≤ tt, (lit≤ tt, lit≤ tt, (lit≤ tt, lit≤ tt, (lit≤ tt, lit≤ tt, (lit≤ tt, lit≤ tt, tt)))))) n in
+      (cc, w .0, w .1)
+
+  pub accepted-exactly : (checkedOf rules s ≡ Accepted (headerOf s)) ↔ GoodSection rules s
+  accepted-exactly = (λ e. accepted-has (headerOf s) e .2, λ g. accepted-with (good-exactly .1 g))

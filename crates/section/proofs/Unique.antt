@@ -1,0 +1,14 @@
+-- Each public call of this crate leaves one answer.
+-- Assumes nothing.
+use mathlib.Core.Path.{sym, _∙_}
+use Rattle.wire.proofs.Once.{OneAnswer}
+use Rattle.section.proofs.check.Kinds as check-kinds
+use Rattle.section.proofs.check.Reads as check-reads
+use Rattle.section.proofs.register.crc.Kinds as crc-kinds
+use Rattle.section.proofs.register.crc.Reads as crc-reads
+
+check : OneAnswer 1 check-kinds.ps check-kinds.r check-reads.Post
+check κs a x y s t p q = p .0 ∙ sym (q .0)
+
+crc : OneAnswer 1 crc-kinds.ps crc-kinds.r crc-reads.Post
+crc κs a x y s t p q = p ∙ sym q

@@ -1,0 +1,4 @@
+pub mod Crc
+pub mod Header
+pub mod Refusals
+pub mod Answer

@@ -1,0 +1,130 @@
+// One section: its header, its CRC, and the check that every table shares (refusals 2 to 6).
+//
+// What each field, the CRC and each refusal is, is said in specs/; the answer of `check` is an
+// equation with `checkedOf` of specs/Answer.antt for every slice, the empty one included.
+mod register;
+
+ghost use mathlib.Core.Path.{_≡_};
+ghost use Rattle.section.specs.Header.{isTable, limitOf, headerOf};
+ghost use Rattle.section.specs.Refusals.{refusalOf};
+ghost use Rattle.section.specs.Answer.{numberOf, checkedOf};
+pub use register::crc;
+
+pub const APPLICATION_TABLE: u8 = 0x74;
+
+pub const ANNOUNCEMENT_TABLE: u8 = 0x3B;
+
+pub const BLOCK_TABLE: u8 = 0x3C;
+
+// The largest lengths L: of an application section, and of a carousel section.
+pub const APPLICATION_LIMIT: usize = 1021;
+
+pub const CAROUSEL_LIMIT: usize = 4093;
+
+// By whose rules a section is judged: the application's, or the carousel's.
+pub enum Rules {
+    Application,
+    Carousel,
+}
+
+// A refusal, by its number in the paper. Callers hand it on as it is.
+pub struct Refusal {
+    pub number: u8,
+}
+
+// The fields of an accepted section's header.
+pub struct Header {
+    pub table: u8,
+    pub extension: u16,
+    pub version: u8,
+    pub section: u8,
+    pub last: u8,
+}
+
+pub enum Checked {
+    Refused(Refusal),
+    Accepted(Header),
+}
+
+// Whether `s` is one whole section by these rules.
+pub fn check(s: &[u8], rules: Rules) -> Checked
+    ensures { λ r. ⌜ (r ≡ checkedOf rules (now (s .entry))) × (numberOf r ≡ refusalOf rules (now (s .entry))) ⌝ }
+{
+    let number = refusal_number(s, rules);
+    if number != 0 {
+        return Checked::Refused(Refusal { number: number });
+    }
+    Checked::Accepted(header_of(s))
+}
+
+// The number that answers `s`, and 0 where it is accepted.
+fn refusal_number(s: &[u8], rules: Rules) -> u8
+    ensures { λ r. ⌜ r ≡ refusalOf rules (now (s .entry)) ⌝ }
+{
+    if s.len() < 3 {
+        return 2;
+    }
+    let length = wire::twelve_at(s, 1);
+    if s.len() != 3 + length {
+        return 2;
+    }
+    if !has_table(rules, s[0]) {
+        return 3;
+    }
+    if length < 9 {
+        return 4;
+    }
+    if limit(rules) < length {
+        return 4;
+    }
+    if wire::sixteen_at(s, 1) >> 15 == 0 {
+        return 4;
+    }
+    if s[7] < s[6] {
+        return 4;
+    }
+    if register::crc(s) != 0 {
+        return 5;
+    }
+    if s[5] & 1 == 0 {
+        return 6;
+    }
+    0
+}
+
+// Whether these rules take a table of this number.
+fn has_table(rules: Rules, table: u8) -> bool
+    ensures { λ r. ⌜ r ≡ isTable rules table ⌝ }
+{
+    match rules {
+        Rules::Application => table == APPLICATION_TABLE,
+        Rules::Carousel => {
+            if table == ANNOUNCEMENT_TABLE {
+                return true;
+            }
+            table == BLOCK_TABLE
+        }
+    }
+}
+
+// The largest L that these rules take.
+fn limit(rules: Rules) -> usize
+    ensures { λ r. ⌜ r ≡ limitOf rules ⌝ }
+{
+    match rules {
+        Rules::Application => APPLICATION_LIMIT,
+        Rules::Carousel => CAROUSEL_LIMIT,
+    }
+}
+
+fn header_of(s: &[u8]) -> Header
+    ensures { λ r. ⌜ r ≡ headerOf (now (s .entry)) ⌝ }
+{
+    Header {
+        table: wire::byte_at(s, 0),
+        extension: wire::sixteen_at(s, 3),
+        version: (wire::byte_at(s, 5) >> 1) & 0x1F,
+        section: wire::byte_at(s, 6),
+        last: wire::byte_at(s, 7),
+    }
+}

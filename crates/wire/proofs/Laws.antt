@@ -1,0 +1,9 @@
+pub mod Fields
+pub mod Tests
+pub mod Steps
+pub mod Frames
+pub mod Meaning
+pub mod Loops
+pub mod Counted
+pub mod Finders
+pub mod Fixed

@@ -1,0 +1,105 @@
+-- The usual kind of item is a kind, and what it takes to be one.
+-- Assumes nothing.
+use Prim.Native.Nat.{ℕ, zero, suc, _+_, _-_, _≤_, _<_}
+use mathlib.Core.Path.{_≡_, refl, sym, ap, _∙_}
+use mathlib.Core.Bool.{Bool, true, false, cond, _&&_}
+use mathlib.Core.List.{List}
+use native.Mathlib.Omega.{arith}
+use lib.Dec.{leb}
+use lib.ListN.{length, getD, take, drop, length-take, length-drop}
+use lib.Seq.{take-take, take-add, drop-at, drop-drop, getD-take, length-take-le}
+use borrow.Author.Tests.{le-leb, lt-leb, leb-true}
+use Rattle.wire.specs.Items.{Kind, said, framed}
+
+-- what two lists that begin alike have in common
+module _ (n : ℕ) (xs ys : List ℕ) (e : take n ys ≡ take n xs) where
+  pub same-take : (m : ℕ) → m ≤ n → take m ys ≡ take m xs
+  same-take m h = sym (take-take m n ys h) ∙ ap (take m) e ∙ take-take m n xs h
+
+  pub same-length : n ≤ length xs → n ≤ length ys
+  same-length h = let k : length (take n ys) ≡ length (take n xs) = ap length e in omega (arith, simp length-take at k)
+
+  pub same-byte : (i : ℕ) → i < n → getD ys i 0 ≡ getD xs i 0
+  same-byte i h = sym (getD-take n ys i 0 h) ∙ ap (λ (l : List ℕ). getD l i 0) e ∙ getD-take n xs i 0 h
+
+-- the code's `&s[h..e]` of an item that ends at e = h + m is the item after its header
+pub rest-of : (s : List ℕ) (h m : ℕ) → h + m ≤ length s → take (h + m - h) (drop h s) ≡ drop h (take (h + m) s)
+rest-of s h m k =
+    let n : h + m - h ≡ m = omega arith in
+    rw (n, take-add h m s) (sym (drop-at (take h s) (take m (drop h s)) h (length-take-le h s (omega arith))))
+
+-- and the code's `&s[i + h..i + n]` is what follows the header of an item of n bytes at i
+pub rest-in : (s : List ℕ) (i h n : ℕ) → h ≤ n → i + n ≤ length s → take (i + n - (i + h)) (drop (i + h) s) ≡ drop h (take n (drop i s))
+rest-in s i h n k f =
+    let d : i + n - (i + h) ≡ h + (n - h) - h = omega arith in
+    let e : n ≡ h + (n - h) = omega arith in
+    let g : h + (n - h) ≤ length (drop i s) = rw length-drop (omega arith) in
+    rw (d, ← drop-drop h i s) (rest-of (drop i s) h (n - h) g) ∙ ap (λ (m : ℕ). drop h (take m (drop i s))) (sym e)
+
+module _ (h : ℕ) (more : List ℕ → ℕ) (good : List ℕ → Bool) (xs : List ℕ) where
+  abbrev n : ℕ
+  n = said h more xs
+
+  pub framed-over : length xs < n → framed h more good xs ≡ 0
+  unfolding framed
+  framed-over a = rw (lt-leb n (length xs) a)
+
+  pub framed-short : length xs < h → framed h more good xs ≡ 0
+  framed-short a = framed-over (omega arith)
+
+  pub framed-bad : n ≤ length xs → good (take n xs) ≡ false → framed h more good xs ≡ 0
+  unfolding framed
+  framed-bad a g = rw (le-leb n (length xs) a, g)
+
+  pub framed-is : n ≤ length xs → good (take n xs) ≡ true → framed h more good xs ≡ n
+  unfolding framed
+  framed-is a g = rw (le-leb n (length xs) a, g)
+
+  -- where there is an item, it fits, it is good, and its size is what the header says
+  pub framed-has : (framed h more good xs ≡ 0 → ⊥) → (n ≤ length xs) × (good (take n xs) ≡ true) × (framed h more good xs ≡ n)
+  unfolding framed
+  framed-has z = go (leb n (length xs)) (good (take n xs)) refl refl z
+    where
+      go : (u v : Bool) → leb n (length xs) ≡ u → good (take n xs) ≡ v → (cond (u && v) n 0 ≡ 0 → ⊥)
+          → (n ≤ length xs) × (good (take n xs) ≡ true) × (cond (u && v) n 0 ≡ n)
+      go true true e f z = (leb-true n (length xs) e, f, refl)
+      go true false e f z = absurd (z refl)
+      go false v e f z = absurd (z refl)
+
+pub framed-kind : (h : ℕ) (more : List ℕ → ℕ) (good : List ℕ → Bool) → Kind (framed h more good)
+framed-kind h more good = record { fits = fits; own = own }
+  where
+    fits : (xs : List ℕ) → framed h more good xs ≤ length xs
+    fits xs = go (framed h more good xs) refl
+      where
+        go : (n : ℕ) → framed h more good xs ≡ n → framed h more good xs ≤ length xs
+        go zero e = omega arith
+        go (suc n) e = let f = framed-has h more good xs (λ z. omega (arith, z, e)) in omega arith
+
+    own : (xs ys : List ℕ) → 0 < framed h more good xs → take (framed h more good xs) ys ≡ take (framed h more good xs) xs → framed h more good ys ≡ framed h more good xs
+    own xs ys p e =
+        let f = framed-has h more good xs (λ z. omega (arith, z, p)) in
+        let n : ℕ = h + more (take h xs) in
+        let e₁ : take n ys ≡ take n xs = rw (f .2) at e in
+        let e₂ : take h ys ≡ take h xs = same-take n xs ys e₁ h (omega arith) in
+        let k = same-length n xs ys e₁ (f .0) in
+        rw (f .2) (framed-is h more good ys (rw e₂ k) (rw (e₂, e₁) (f .1)) ∙ rw e₂)
+
+-- an item has its header at least
+pub framed-least : (h : ℕ) (more : List ℕ → ℕ) (good : List ℕ → Bool) (xs : List ℕ) → (framed h more good xs ≡ 0 → ⊥) → h ≤ framed h more good xs
+framed-least h more good xs z = let f = framed-has h more good xs z in omega arith
+
+-- as code meets them: m is what the header was read as
+module _ (h : ℕ) (more : List ℕ → ℕ) (good : List ℕ → Bool) (s : List ℕ) where
+  pub size-short : length s < h → 0 ≡ framed h more good s
+  size-short a = sym (framed-short h more good s a)
+
+  module _ (m : ℕ) (e : more (take h s) ≡ m) where
+    pub size-over : length s < h + m → 0 ≡ framed h more good s
+    size-over a = sym (framed-over h more good s (rw e a))
+
+    pub size-bad : h + m ≤ length s → good (take (h + m) s) ≡ false → 0 ≡ framed h more good s
+    size-bad a g = sym (framed-bad h more good s (rw e a) (rw e g))
+
+    pub size-is : h + m ≤ length s → good (take (h + m) s) ≡ true → h + m ≡ framed h more good s
+    size-is a g = sym (framed-is h more good s (rw e a) (rw e g) ∙ rw e)

@@ -1,0 +1,29 @@
+-- Each public call of this crate leaves one answer.
+-- Assumes nothing.
+use mathlib.Core.Path.{sym, _∙_}
+use Rattle.wire.proofs.Once.{OneAnswer}
+use Rattle.wire.proofs.wide.Kinds as wide-kinds
+use Rattle.wire.proofs.wide.Reads as wide-reads
+use Rattle.wire.proofs.byte_at.Kinds as byte-kinds
+use Rattle.wire.proofs.byte_at.Reads as byte-reads
+use Rattle.wire.proofs.twelve_at.Kinds as twelve-kinds
+use Rattle.wire.proofs.twelve_at.Reads as twelve-reads
+use Rattle.wire.proofs.sixteen_at.Kinds as sixteen-kinds
+use Rattle.wire.proofs.sixteen_at.Reads as sixteen-reads
+use Rattle.wire.proofs.thirty_two_at.Kinds as thirty-two-kinds
+use Rattle.wire.proofs.thirty_two_at.Reads as thirty-two-reads
+
+wide : OneAnswer 0 wide-kinds.ps wide-kinds.r wide-reads.Post
+wide κs a x y s t p q = p .0 ∙ sym (q .0)
+
+byte-at : OneAnswer 1 byte-kinds.ps byte-kinds.r byte-reads.Post
+byte-at κs a x y s t p q = p .0 ∙ sym (q .0)
+
+twelve-at : OneAnswer 1 twelve-kinds.ps twelve-kinds.r twelve-reads.Post
+twelve-at κs a x y s t p q = p .0 ∙ sym (q .0)
+
+sixteen-at : OneAnswer 1 sixteen-kinds.ps sixteen-kinds.r sixteen-reads.Post
+sixteen-at κs a x y s t p q = p .0 ∙ sym (q .0)
+
+thirty-two-at : OneAnswer 1 thirty-two-kinds.ps thirty-two-kinds.r thirty-two-reads.Post
+thirty-two-at κs a x y s t p q = p .0 ∙ sym (q .0)

@@ -1,0 +1,4 @@
+pub mod Fields
+pub mod Tests
+pub mod Items
+pub mod Places

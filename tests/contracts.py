@@ -1,0 +1,34 @@
+#!/usr/bin/env python3
+"""Holds the tree to its rules before anything is proved: every public function has an `ensures` and no
+`requires`, no proof assumes anything, and each must-fail edit names the sentence that it is about."""
+import re
+import sys
+from pathlib import Path
+
+ROOT = Path(__file__).resolve().parent.parent
+HEAD = re.compile(r"^ *(?:#\[no_mangle\]\s*)?pub (?:extern \"C\" )?fn (\w+)(.*?)^\{", re.M | re.S)
+
+
+def faults():
+    listed = {l.split(":")[0] for l in (ROOT / "crates.txt").read_text().splitlines() if ":" in l and l[0] != "#"}
+    for crate in sorted(p for p in (ROOT / "crates").iterdir() if p.is_dir()):
+        if crate.name not in listed:
+            yield "%s is not in crates.txt" % crate.name
+        for source in sorted(crate.glob("src/**/*.rt")):
+            for name, head in HEAD.findall(source.read_text()):
+                where = "%s: %s" % (source.relative_to(ROOT), name)
+                if not re.search(r"^ *ensures", head, re.M):
+                    yield where + " is public and promises nothing"
+                if re.search(r"^ *requires", head, re.M):
+                    yield where + " is public and asks something of its caller"
+        for proof in sorted(crate.glob("**/*.antt")):
+            if re.search(r"^ *(axiom|postulate)\b", proof.read_text(), re.M):
+                yield "%s assumes something" % proof.relative_to(ROOT)
+        for edit in sorted(crate.glob("must-fail/*.edit")):
+            if not edit.read_text().startswith("# "):
+                yield "%s does not say what it is about" % edit.relative_to(ROOT)
+
+
+found = list(faults())
+print("\n".join(found) or "contracts: every public function has an ensures and no requires")
+sys.exit(bool(found))
