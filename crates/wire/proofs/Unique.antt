@@ -2,8 +2,8 @@
 -- Assumes nothing.
 use mathlib.Core.Path.{sym, _∙_}
 use Rattle.wire.proofs.Once.{OneAnswer}
-use Rattle.wire.proofs.wide.Kinds as wide-kinds
-use Rattle.wire.proofs.wide.Reads as wide-reads
+use Rattle.wire.proofs.eight_at.Kinds as eight-kinds
+use Rattle.wire.proofs.eight_at.Reads as eight-reads
 use Rattle.wire.proofs.byte_at.Kinds as byte-kinds
 use Rattle.wire.proofs.byte_at.Reads as byte-reads
 use Rattle.wire.proofs.twelve_at.Kinds as twelve-kinds
@@ -13,8 +13,8 @@ use Rattle.wire.proofs.sixteen_at.Reads as sixteen-reads
 use Rattle.wire.proofs.thirty_two_at.Kinds as thirty-two-kinds
 use Rattle.wire.proofs.thirty_two_at.Reads as thirty-two-reads
 
-wide : OneAnswer 0 wide-kinds.ps wide-kinds.r wide-reads.Post
-wide κs a x y s t p q = p .0 ∙ sym (q .0)
+eight-at : OneAnswer 1 eight-kinds.ps eight-kinds.r eight-reads.Post
+eight-at κs a x y s t p q = p .0 ∙ sym (q .0)
 
 byte-at : OneAnswer 1 byte-kinds.ps byte-kinds.r byte-reads.Post
 byte-at κs a x y s t p q = p .0 ∙ sym (q .0)

@@ -14,14 +14,13 @@ Size = List ℕ → ℕ
 abbrev pub said : ℕ → (List ℕ → ℕ) → Size
 said h more xs = h + more (take h xs)
 
--- The usual kind: a header of h bytes, as many bytes more as the header says, and a test that the whole item meets.
-unfoldable pub framed : ℕ → (List ℕ → ℕ) → (List ℕ → Bool) → Size
-framed h more good xs =
-    cond (leb (said h more xs) (length xs) && good (take (said h more xs) xs)) (said h more xs) 0
+-- The usual kind: a header of h bytes, and as many bytes more as the header says.
+unfoldable pub framed : ℕ → (List ℕ → ℕ) → Size
+framed h more xs = cond (leb (said h more xs) (length xs)) (said h more xs) 0
 
 -- items of n bytes each
 abbrev pub fixed : ℕ → Size
-fixed n = framed n (λ h. 0) (λ x. true)
+fixed n = framed n (λ h. 0)
 
 -- at most n items
 unfoldable pub itemsIn : ℕ → Size → List ℕ → List (List ℕ)
@@ -62,7 +61,7 @@ number good [] = 0
 number good (x ∷ is) = cond (good x) (suc (number good is)) (number good is)
 
 -- What is asked of a kind: an item lies in the list, and its size depends on its own bytes alone. A list that begins with the same bytes begins with the same item.
-pub record Kind (size : Size) : Type 0 where
+pub record IsKind (size : Size) : Type 0 where
   pub fits : (xs : List ℕ) → size xs ≤ length xs
   pub own : (xs ys : List ℕ) → 0 < size xs → take (size xs) ys ≡ take (size xs) xs → size ys ≡ size xs
 

@@ -41,12 +41,16 @@ inner a e xs = cond (leb (a + e) (length xs)) (At a (length xs - (a + e))) Nothi
 abbrev pub after : ℕ → Finder
 after a = inner a 0
 
--- what g finds in what f finds
-unfoldable pub within : Finder → Finder → Finder
-within f g xs =
-    onPlace (f xs) Nothing (λ a n.
+-- what g finds in the part at a place
+unfoldable pub inPart : Finder → Place → Finder
+inPart g p xs =
+    onPlace p Nothing (λ a n.
     onPlace (g (take n (drop a xs))) Nothing (λ b m.
     At (a + b) m))
+
+-- what g finds in what f finds
+abbrev pub within : Finder → Finder → Finder
+within f g xs = inPart g (f xs) xs
 
 -- the number of the first item that meets a test, if the items' numbers begin with k
 unfoldable pub firstFrom : (List ℕ → Bool) → ℕ → List (List ℕ) → Hit

@@ -20,13 +20,6 @@ pub enum Hit {
     Missing,
 }
 
-// A byte as a length. Its bound comes with it.
-pub fn wide(x: u8) -> usize
-    ensures { λ r. ⌜ (r ≡ x) × (r < 256) ⌝ }
-{
-    x as usize
-}
-
 // The byte at a place.
 pub fn byte_at(s: &[u8], at: usize) -> u8
     ensures { λ r. ⌜ (r ≡ byteAt (now (s .entry)) at) × (r < 256) ⌝ }
@@ -35,6 +28,13 @@ pub fn byte_at(s: &[u8], at: usize) -> u8
         return 0;
     }
     s[at]
+}
+
+// The byte at a place, as a length.
+pub fn eight_at(s: &[u8], at: usize) -> usize
+    ensures { λ r. ⌜ (r ≡ byteAt (now (s .entry)) at) × (r < 256) ⌝ }
+{
+    byte_at(s, at) as usize
 }
 
 // The 16 bits of the two bytes from a place on.

@@ -11,10 +11,10 @@ use lib.Seq.{drop-at, drop-drop, take-take}
 use borrow.Author.Tests.{le-leb, lt-leb, leb-true}
 use Rattle.wire.specs.declared.Place.{Place}
 use Rattle.wire.specs.declared.Place.the-variants.{At, Nothing}
-use Rattle.wire.specs.Items.{Size, Kind, Wholes, framed, items, joined}
-use Rattle.wire.specs.Places.{Finder, onPlace, itemAt, placeFrom, after, bytes, inner, within}
+use Rattle.wire.specs.Items.{Size, IsKind, Wholes, framed, items, joined}
+use Rattle.wire.specs.Places.{Finder, onPlace, itemAt, placeFrom, after, bytes, inner, inPart, within}
 use Rattle.wire.proofs.Laws.Steps.{covers}
-use Rattle.wire.proofs.Laws.Frames.{framed-kind, framed-has, framed-least, rest-of}
+use Rattle.wire.proofs.Laws.Frames.{framed-kind, framed-least, rest-of}
 use Rattle.wire.proofs.Laws.Meaning.{wholes, front, joined-both}
 
 placed : (k at : ℕ) (is : List (List ℕ)) (a n : ℕ) → placeFrom k at is ≡ At a n
@@ -31,7 +31,7 @@ whole-of : (size : Size) (js : List (List ℕ)) (x : List ℕ) (ks : List (List 
 whole-of size [] x ks w = w .0
 whole-of size (y ∷ js) x ks w = whole-of size js x ks (w .1)
 
-lies : (size : Size) → Kind size → (js : List (List ℕ)) (x : List ℕ) (ks : List (List ℕ)) (rest xs : List ℕ) (a n : ℕ)
+lies : (size : Size) → IsKind size → (js : List (List ℕ)) (x : List ℕ) (ks : List (List ℕ)) (rest xs : List ℕ) (a n : ℕ)
     → Wholes size (js ++ x ∷ ks) → joined (js ++ x ∷ ks) ++ rest ≡ xs → a ≡ 0 + length (joined js) → n ≡ length x
     → (a + n ≤ length xs) × (size (drop a xs) ≡ n) × (0 < n)
 unfolding joined
@@ -43,7 +43,7 @@ lies size kind js x ks rest xs a n w c e f =
     (omega arith, rw d (front size kind x (joined ks ++ rest) v ∙ sym f), omega arith)
 
 -- an item that was found lies in the list, is not empty, and is what the list from there on begins with
-pub item-is : (size : Size) → Kind size → (k : ℕ) (xs : List ℕ) (a n : ℕ) → itemAt size k xs ≡ At a n → (a + n ≤ length xs) × (size (drop a xs) ≡ n) × (0 < n)
+pub item-is : (size : Size) → IsKind size → (k : ℕ) (xs : List ℕ) (a n : ℕ) → itemAt size k xs ≡ At a n → (a + n ≤ length xs) × (size (drop a xs) ≡ n) × (0 < n)
 unfolding itemAt
 item-is size kind k xs a n e =
     let q = placed k 0 (items size xs) a n e in
@@ -51,17 +51,17 @@ item-is size kind k xs a n e =
     lies size kind (q .0) (q .1) (q .2) (c .0) xs a n (rw (q .3) (wholes size kind xs)) (rw (q .3) (c .1)) (q .4) (q .5)
 
 -- an item that was found has its header
-pub item-least : (h : ℕ) (more : List ℕ → ℕ) (good : List ℕ → Bool) (k : ℕ) (xs : List ℕ) (a n : ℕ) → itemAt (framed h more good) k xs ≡ At a n → h ≤ n
-item-least h more good k xs a n e =
-    let r = item-is (framed h more good) (framed-kind h more good) k xs a n e in
-    let l = framed-least h more good (drop a xs) (λ z. omega (arith, z, r .1, r .2)) in
+pub item-least : (h : ℕ) (more : List ℕ → ℕ) (k : ℕ) (xs : List ℕ) (a n : ℕ) → itemAt (framed h more) k xs ≡ At a n → h ≤ n
+item-least h more k xs a n e =
+    let r = item-is (framed h more) (framed-kind h more) k xs a n e in
+    let l = framed-least h more (drop a xs) (λ z. omega (arith, z, r .1, r .2)) in
     omega (arith, l, r .1)
 
 -- what a finder finds lies in the list
 abbrev pub Sound : Finder → Type 0
 Sound f = (xs : List ℕ) (a n : ℕ) → f xs ≡ At a n → a + n ≤ length xs
 
-pub sound-item : (size : Size) → Kind size → (k : ℕ) → Sound (itemAt size k)
+pub sound-item : (size : Size) → IsKind size → (k : ℕ) → Sound (itemAt size k)
 sound-item size kind k xs a n e = item-is size kind k xs a n e .0
 
 -- a place that is given where some bytes are there, and what it takes to have been given
@@ -105,50 +105,49 @@ after-none a xs h = inner-none a 0 xs (omega arith)
 pub sound-after : (a : ℕ) → Sound (after a)
 sound-after a = sound-inner a 0
 
-module _ (f g : Finder) (xs : List ℕ) where
-  pub within-none : f xs ≡ Nothing → within f g xs ≡ Nothing
-  unfolding within
-  within-none e = rw e
+-- what was found in a part
+module _ (g : Finder) (xs : List ℕ) where
+  pub inPart-none : inPart g Nothing xs ≡ Nothing
+  unfolding inPart
+  inPart-none = refl
 
-  module _ (a n : ℕ) (e : f xs ≡ At a n) where
-    pub within-lost : g (take n (drop a xs)) ≡ Nothing → within f g xs ≡ Nothing
-    unfolding within
-    within-lost d = rw (e, d)
+  module _ (a n : ℕ) where
+    pub inPart-lost : g (take n (drop a xs)) ≡ Nothing → inPart g (At a n) xs ≡ Nothing
+    unfolding inPart
+    inPart-lost d = rw d
 
-    pub within-at : (b m : ℕ) → g (take n (drop a xs)) ≡ At b m → within f g xs ≡ At (a + b) m
-    unfolding within
-    within-at b m d = rw (e, d)
+    pub inPart-at : (b m : ℕ) → g (take n (drop a xs)) ≡ At b m → inPart g (At a n) xs ≡ At (a + b) m
+    unfolding inPart
+    inPart-at b m d = rw d
 
-  -- what was found by two finders, one after the other
-  pub within-has : (c m : ℕ) → within f g xs ≡ At c m
-      → (a : ℕ) × (n : ℕ) × (b : ℕ) × (f xs ≡ At a n) × (g (take n (drop a xs)) ≡ At b m) × (c ≡ a + b)
-  unfolding within
-  within-has c m e = go (f xs) refl e
+  pub inPart-has : (p : Place) (c m : ℕ) → inPart g p xs ≡ At c m
+      → (a : ℕ) × (n : ℕ) × (b : ℕ) × (p ≡ At a n) × (g (take n (drop a xs)) ≡ At b m) × (c ≡ a + b)
+  unfolding inPart
+  inPart-has Nothing c m e = let z : _≡_ {A = ℕ} 0 1 = cc in absurd (omega arith)
+  inPart-has (At a n) c m e = go (g (take n (drop a xs))) refl e
     where
-      inner : (a n : ℕ) → f xs ≡ At a n → (q : Place) → g (take n (drop a xs)) ≡ q → onPlace q Nothing (λ b k. At (a + b) k) ≡ At c m
-          → (a : ℕ) × (n : ℕ) × (b : ℕ) × (f xs ≡ At a n) × (g (take n (drop a xs)) ≡ At b m) × (c ≡ a + b)
-      inner a n d Nothing h e = let z : _≡_ {A = ℕ} 0 1 = cc in absurd (omega arith)
-      inner a n d (At b k) h e = (a, n, b, d, cc, cc)
+      go : (q : Place) → g (take n (drop a xs)) ≡ q → onPlace q Nothing (λ b k. At (a + b) k) ≡ At c m
+          → (a₁ : ℕ) × (n₁ : ℕ) × (b : ℕ) × (At a n ≡ At a₁ n₁) × (g (take n₁ (drop a₁ xs)) ≡ At b m) × (c ≡ a₁ + b)
+      go Nothing h e = let z : _≡_ {A = ℕ} 0 1 = cc in absurd (omega arith)
+      go (At b k) h e = (a, n, b, refl, cc, cc)
 
-      go : (p : Place) → f xs ≡ p → onPlace p Nothing (λ a n. onPlace (g (take n (drop a xs))) Nothing (λ b k. At (a + b) k)) ≡ At c m
-          → (a : ℕ) × (n : ℕ) × (b : ℕ) × (f xs ≡ At a n) × (g (take n (drop a xs)) ≡ At b m) × (c ≡ a + b)
-      go Nothing d e = let z : _≡_ {A = ℕ} 0 1 = cc in absurd (omega arith)
-      go (At a n) d e = inner a n d (g (take n (drop a xs))) refl e
+-- a place within a list
+abbrev pub Inside : Place → List ℕ → Type 0
+Inside p xs = (a n : ℕ) → p ≡ At a n → a + n ≤ length xs
 
-pub sound-within : (f g : Finder) → Sound f → Sound g → Sound (within f g)
-sound-within f g sf sg xs c m e =
-    let q = within-has f g xs c m e in
-    let h = sf xs (q .0) (q .1) (q .3) in
+pub inPart-inside : (g : Finder) → Sound g → (p : Place) (xs : List ℕ) → Inside p xs → Inside (inPart g p xs) xs
+inPart-inside g sg p xs i c m e =
+    let q = inPart-has g xs p c m e in
+    let h = i (q .0) (q .1) (q .3) in
     let k = sg (take (q .1) (drop (q .0) xs)) (q .2) m (q .4) in
     omega (arith, simp (length-take, length-drop) at k)
+
+pub sound-within : (f g : Finder) → Sound f → Sound g → Sound (within f g)
+sound-within f g sf sg xs = inPart-inside g sg (f xs) xs (sf xs)
 
 -- as code meets them: a part of n bytes at a, and what lies in it
 pub part : (s : List ℕ) (a n : ℕ) → take (a + n - a) (drop a s) ≡ take n (drop a s)
 part s a n = let e : a + n - a ≡ n = omega arith in rw e
-
-module _ (f g : Finder) (sf : Sound f) (sg : Sound g) (s : List ℕ) (a n : ℕ) (e : f s ≡ At a n) (b m : ℕ) (d : g (take n (drop a s)) ≡ At b m) where
-  pub lies-in : a + b + m ≤ length s
-  lies-in = sound-within f g sf sg s (a + b) m (within-at f g s a n e b m d)
 
 -- a part of a part is a part
 pub part-part : (s : List ℕ) (a n b m : ℕ) → a + n ≤ length s → b + m ≤ n → take m (drop b (take n (drop a s))) ≡ take m (drop (a + b) s)
@@ -159,21 +158,3 @@ part-part s a n b m h k =
     let d : b + (n - b) - b ≡ n - b = omega arith in
     let r : take (n - b) (drop b l) ≡ drop b (take (b + (n - b)) l) = rw d at (rest-of l b (n - b) g) in
     ap (λ (i : ℕ). take m (drop b (take i l))) e ∙ ap (take m) (sym r) ∙ take-take m (n - b) (drop b l) (omega arith) ∙ ap (take m) (drop-drop b a s)
-
--- an item that was found is good
-pub item-good : (h : ℕ) (more : List ℕ → ℕ) (good : List ℕ → Bool) (k : ℕ) (xs : List ℕ) (a n : ℕ) → itemAt (framed h more good) k xs ≡ At a n → good (take n (drop a xs)) ≡ true
-item-good h more good k xs a n e =
-    let r = item-is (framed h more good) (framed-kind h more good) k xs a n e in
-    let q = framed-has h more good (drop a xs) (λ z. omega (arith, z, r .1, r .2)) in
-    rw (sym (q .2) ∙ r .1) at (q .1)
-
--- also where it was found within something
-pub found-good : (f : Finder) → Sound f → (h : ℕ) (more : List ℕ → ℕ) (good : List ℕ → Bool) (k : ℕ) (s : List ℕ) (c m : ℕ) → within f (itemAt (framed h more good) k) s ≡ At c m → good (take m (drop c s)) ≡ true
-found-good f sf h more good k s c m e =
-    let q = within-has f (itemAt (framed h more good) k) s c m e in
-    let i = sf s (q .0) (q .1) (q .3) in
-    let t = take (q .1) (drop (q .0) s) in
-    let j = sound-item (framed h more good) (framed-kind h more good) k t (q .2) m (q .4) in
-    let w = simp (length-take, length-drop) at j in
-    let p = part-part s (q .0) (q .1) (q .2) m i (omega arith) in
-    rw (q .5) (rw p at (item-good h more good k t (q .2) m (q .4)))

@@ -2,14 +2,14 @@
 -- Assumes nothing.
 use Prim.Native.Nat.{ℕ, zero, suc, _+_, _-_, _≤_, _<_}
 use mathlib.Core.Path.{_≡_, refl, sym, ap, _∙_}
-use mathlib.Core.Bool.{Bool, true, false, cond, _&&_}
+use mathlib.Core.Bool.{Bool, true, false, cond}
 use mathlib.Core.List.{List}
 use native.Mathlib.Omega.{arith}
 use lib.Dec.{leb}
 use lib.ListN.{length, getD, take, drop, length-take, length-drop}
 use lib.Seq.{take-take, take-add, drop-at, drop-drop, getD-take, length-take-le}
 use borrow.Author.Tests.{le-leb, lt-leb, leb-true}
-use Rattle.wire.specs.Items.{Kind, said, framed}
+use Rattle.wire.specs.Items.{IsKind, said, framed}
 
 -- what two lists that begin alike have in common
 module _ (n : ℕ) (xs ys : List ℕ) (e : take n ys ≡ take n xs) where
@@ -36,70 +36,62 @@ rest-in s i h n k f =
     let g : h + (n - h) ≤ length (drop i s) = rw length-drop (omega arith) in
     rw (d, ← drop-drop h i s) (rest-of (drop i s) h (n - h) g) ∙ ap (λ (m : ℕ). drop h (take m (drop i s))) (sym e)
 
-module _ (h : ℕ) (more : List ℕ → ℕ) (good : List ℕ → Bool) (xs : List ℕ) where
+module _ (h : ℕ) (more : List ℕ → ℕ) (xs : List ℕ) where
   abbrev n : ℕ
   n = said h more xs
 
-  pub framed-over : length xs < n → framed h more good xs ≡ 0
+  pub framed-over : length xs < n → framed h more xs ≡ 0
   unfolding framed
   framed-over a = rw (lt-leb n (length xs) a)
 
-  pub framed-short : length xs < h → framed h more good xs ≡ 0
+  pub framed-short : length xs < h → framed h more xs ≡ 0
   framed-short a = framed-over (omega arith)
 
-  pub framed-bad : n ≤ length xs → good (take n xs) ≡ false → framed h more good xs ≡ 0
+  pub framed-is : n ≤ length xs → framed h more xs ≡ n
   unfolding framed
-  framed-bad a g = rw (le-leb n (length xs) a, g)
+  framed-is a = rw (le-leb n (length xs) a)
 
-  pub framed-is : n ≤ length xs → good (take n xs) ≡ true → framed h more good xs ≡ n
+  -- where there is an item, it fits, and its size is what the header says
+  pub framed-has : (framed h more xs ≡ 0 → ⊥) → (n ≤ length xs) × (framed h more xs ≡ n)
   unfolding framed
-  framed-is a g = rw (le-leb n (length xs) a, g)
-
-  -- where there is an item, it fits, it is good, and its size is what the header says
-  pub framed-has : (framed h more good xs ≡ 0 → ⊥) → (n ≤ length xs) × (good (take n xs) ≡ true) × (framed h more good xs ≡ n)
-  unfolding framed
-  framed-has z = go (leb n (length xs)) (good (take n xs)) refl refl z
+  framed-has z = go (leb n (length xs)) refl z
     where
-      go : (u v : Bool) → leb n (length xs) ≡ u → good (take n xs) ≡ v → (cond (u && v) n 0 ≡ 0 → ⊥)
-          → (n ≤ length xs) × (good (take n xs) ≡ true) × (cond (u && v) n 0 ≡ n)
-      go true true e f z = (leb-true n (length xs) e, f, refl)
-      go true false e f z = absurd (z refl)
-      go false v e f z = absurd (z refl)
+      go : (u : Bool) → leb n (length xs) ≡ u → (cond u n 0 ≡ 0 → ⊥) → (n ≤ length xs) × (cond u n 0 ≡ n)
+      go true e z = (leb-true n (length xs) e, refl)
+      go false e z = absurd (z refl)
 
-pub framed-kind : (h : ℕ) (more : List ℕ → ℕ) (good : List ℕ → Bool) → Kind (framed h more good)
-framed-kind h more good = record { fits = fits; own = own }
+  -- as code meets it: m is what the header was read as
+  pub framed-read : (m : ℕ) → more (take h xs) ≡ m → cond (leb (h + m) (length xs)) (h + m) 0 ≡ framed h more xs
+  unfolding framed
+  framed-read m e = rw e
+
+pub framed-kind : (h : ℕ) (more : List ℕ → ℕ) → IsKind (framed h more)
+framed-kind h more = record { fits = fits; own = own }
   where
-    fits : (xs : List ℕ) → framed h more good xs ≤ length xs
-    fits xs = go (framed h more good xs) refl
+    fits : (xs : List ℕ) → framed h more xs ≤ length xs
+    fits xs = go (framed h more xs) refl
       where
-        go : (n : ℕ) → framed h more good xs ≡ n → framed h more good xs ≤ length xs
+        go : (n : ℕ) → framed h more xs ≡ n → framed h more xs ≤ length xs
         go zero e = omega arith
-        go (suc n) e = let f = framed-has h more good xs (λ z. omega (arith, z, e)) in omega arith
+        go (suc n) e = let f = framed-has h more xs (λ z. omega (arith, z, e)) in omega arith
 
-    own : (xs ys : List ℕ) → 0 < framed h more good xs → take (framed h more good xs) ys ≡ take (framed h more good xs) xs → framed h more good ys ≡ framed h more good xs
+    own : (xs ys : List ℕ) → 0 < framed h more xs → take (framed h more xs) ys ≡ take (framed h more xs) xs → framed h more ys ≡ framed h more xs
     own xs ys p e =
-        let f = framed-has h more good xs (λ z. omega (arith, z, p)) in
+        let f = framed-has h more xs (λ z. omega (arith, z, p)) in
         let n : ℕ = h + more (take h xs) in
-        let e₁ : take n ys ≡ take n xs = rw (f .2) at e in
+        let e₁ : take n ys ≡ take n xs = rw (f .1) at e in
         let e₂ : take h ys ≡ take h xs = same-take n xs ys e₁ h (omega arith) in
         let k = same-length n xs ys e₁ (f .0) in
-        rw (f .2) (framed-is h more good ys (rw e₂ k) (rw (e₂, e₁) (f .1)) ∙ rw e₂)
+        rw (f .1) (framed-is h more ys (rw e₂ k) ∙ rw e₂)
 
 -- an item has its header at least
-pub framed-least : (h : ℕ) (more : List ℕ → ℕ) (good : List ℕ → Bool) (xs : List ℕ) → (framed h more good xs ≡ 0 → ⊥) → h ≤ framed h more good xs
-framed-least h more good xs z = let f = framed-has h more good xs z in omega arith
+pub framed-least : (h : ℕ) (more : List ℕ → ℕ) (xs : List ℕ) → (framed h more xs ≡ 0 → ⊥) → h ≤ framed h more xs
+framed-least h more xs z = let f = framed-has h more xs z in omega arith
 
--- as code meets them: m is what the header was read as
-module _ (h : ℕ) (more : List ℕ → ℕ) (good : List ℕ → Bool) (s : List ℕ) where
-  pub size-short : length s < h → 0 ≡ framed h more good s
-  size-short a = sym (framed-short h more good s a)
+-- a size that is given where as many bytes are there
+module _ (n l : ℕ) where
+  pub there : n ≤ l → n ≡ cond (leb n l) n 0
+  there h = rw (le-leb n l h)
 
-  module _ (m : ℕ) (e : more (take h s) ≡ m) where
-    pub size-over : length s < h + m → 0 ≡ framed h more good s
-    size-over a = sym (framed-over h more good s (rw e a))
-
-    pub size-bad : h + m ≤ length s → good (take (h + m) s) ≡ false → 0 ≡ framed h more good s
-    size-bad a g = sym (framed-bad h more good s (rw e a) (rw e g))
-
-    pub size-is : h + m ≤ length s → good (take (h + m) s) ≡ true → h + m ≡ framed h more good s
-    size-is a g = sym (framed-is h more good s (rw e a) (rw e g) ∙ rw e)
+  pub not-there : l < n → 0 ≡ cond (leb n l) n 0
+  not-there h = rw (lt-leb n l h)

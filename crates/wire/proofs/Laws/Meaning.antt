@@ -11,7 +11,7 @@ use lib.ListN.{length, take, drop, length-append}
 use lib.Seq.{length-take-le, take-at, drop-at, take-take, take-length}
 use borrow.Author.Tests.{eq-eqb, eqb-true, eqb-false}
 use Rattle.wire.specs.declared.Place.the-variants.{At, Nothing}
-use Rattle.wire.specs.Items.{Size, Kind, Whole, Wholes, items, itemsIn, joined, fills, count, endOf}
+use Rattle.wire.specs.Items.{Size, IsKind, Whole, Wholes, items, itemsIn, joined, fills, count, endOf}
 use Rattle.wire.specs.Places.{itemAt, placeFrom}
 use Rattle.wire.proofs.Laws.Steps.{items-step, covers}
 
@@ -63,7 +63,7 @@ module _ (size : Size) where
       let q = end-split n (at + length x) is (w .1) z in
       (x ∷ q .0, q .1, (w .0, q .2), ap suc (q .3), ap (λ (l : List (List ℕ)). x ∷ l) (q .4))
 
-module _ (size : Size) (kind : Kind size) where
+module _ (size : Size) (kind : IsKind size) where
   -- a whole item in front of anything is what the list begins with
   pub front : (x r : List ℕ) → Whole size x → size (x ++ r) ≡ length x
   front x r w =

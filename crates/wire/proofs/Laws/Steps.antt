@@ -2,14 +2,14 @@
 -- Assumes nothing.
 use Prim.Native.Nat.{ℕ, zero, suc, _+_, _≤_, _<_}
 use mathlib.Core.Path.{_≡_, refl, ap, _∙_}
-use mathlib.Core.Bool.{Bool, true, false, cond}
+use mathlib.Core.Bool.{Bool, true, false, not, cond, _&&_}
 use mathlib.Core.List.{List, [], _∷_, _++_, append-assoc}
 use native.Mathlib.Omega.{arith}
-use lib.Dec.{eqb}
+use lib.Dec.{eqb, eqb·suc-zero}
 use lib.ListN.{length, take, drop, length-append, length-drop, take-append-drop}
 use lib.Seq.{length-take-le}
 use borrow.Author.Tests.{eq-eqb, ne-eqb, eqb-true, eqb-false}
-use Rattle.wire.specs.Items.{Size, Kind, items, itemsIn, joined, fills}
+use Rattle.wire.specs.Items.{Size, IsKind, items, itemsIn, joined, fills, every, number}
 
 eqb-shift : (a b c : ℕ) → eqb (a + b) (a + c) ≡ eqb b c
 eqb-shift a b c = go (eqb b c) refl
@@ -18,7 +18,7 @@ eqb-shift a b c = go (eqb b c) refl
     go true e = let h = eqb-true b c e in eq-eqb (a + b) (a + c) (omega arith)
     go false e = ne-eqb (a + b) (a + c) (λ h. eqb-false b c e (omega arith))
 
-module _ (size : Size) (kind : Kind size) where
+module _ (size : Size) (kind : IsKind size) where
   enough : (n m : ℕ) (xs : List ℕ) → length xs ≤ n → length xs ≤ m → itemsIn n size xs ≡ itemsIn m size xs
   unfolding itemsIn
   enough zero zero xs h k = refl
@@ -87,3 +87,14 @@ module _ (size : Size) (kind : Kind size) where
       let b : length xs ≡ size xs + length (drop (size xs) xs) = rw length-drop (omega arith) in
       rw (items-step xs z, length-append, a)
       (ap (λ (n : ℕ). eqb (size xs + length (joined (items size (drop (size xs) xs)))) n) b ∙ eqb-shift (size xs) _ _)
+
+-- each item meets a test exactly where none fails it
+pub every-none : (good : List ℕ → Bool) (is : List (List ℕ)) → eqb (number (λ x. not (good x)) is) 0 ≡ every good is
+unfolding every number
+every-none good [] = refl
+every-none good (x ∷ is) = go (every-none good is) (good x)
+  where
+    go : eqb (number (λ x. not (good x)) is) 0 ≡ every good is → (t : Bool)
+        → eqb (cond (not t) (suc (number (λ x. not (good x)) is)) (number (λ x. not (good x)) is)) 0 ≡ (t && every good is)
+    go e true = e
+    go e false = eqb·suc-zero (number (λ x. not (good x)) is)

@@ -1,0 +1,69 @@
+-- `descriptors::lists::fills` meets its contract: the invariant is wire's `Filling`.
+-- Assumes nothing.
+use borrow.Author.Needs.{needs}
+use Prim.Native.Nat.{_≤_, _-_}
+use native.Mathlib.Omega.{arith}
+use mathlib.Core.Path.{_≡_, refl, ap, _∙_}
+use lib.ListN.{length, drop}
+use Rattle.descriptors.specs.Kinds.{sizeOf}
+use Rattle.descriptors.proofs.Laws.Kinds.{kind-of}
+use Rattle.wire.proofs.Laws.Loops.{Filling, tail, item-fits, fills-stop, fills-turn, fills-done}
+use Rattle.descriptors.proofs.lists.fills.Statement.{statement}
+use Rattle.descriptors.proofs.lists.fills.Tie as tie
+
+abbrev Inv-loop : tie.InvT-loop
+Inv-loop kind s i₀ i = Filling (sizeOf kind) s i
+
+abbrev μ-loop : tie.MeasureT-loop
+μ-loop kind s i₀ i = length s - i
+
+loop-holds : tie.Need-loop-holds Inv-loop μ-loop
+loop-holds c = (omega arith, refl)
+
+sub-size-of : tie.Need-sub-size-of Inv-loop μ-loop
+sub-size-of c = search needs
+
+part-size-of-start : tie.Need-part-size-of-start Inv-loop μ-loop
+part-size-of-start c = search needs
+
+part-size-of-end : tie.Need-part-size-of-end Inv-loop μ-loop
+part-size-of-end c = search needs
+
+size-of-requires : tie.Need-size-of-requires Inv-loop μ-loop
+size-of-requires c κs = search needs
+
+-- what the call answered for the list from i on
+sized : (c : tie.After-size-of Inv-loop μ-loop) → c .size-of .result ≡ sizeOf (c .before .before .before .before .before .args .kind) (drop (c .before .before .before .loop .i) (c .before .before .before .before .before .args .s .now))
+sized c = c .size-of .ensures ∙ ap (sizeOf _) (tail (c .before .before .before .before .before .args .s .now) (c .before .before .before .loop .i))
+
+returns : tie.Need-returns Inv-loop μ-loop
+returns c = fills-stop (sizeOf _) (kind-of _) _ _ _ (sized (c .before)) (c .before .before .before .before .loop .inv) (omega arith) (c .if1 .taken)
+
+add-i : tie.Need-add-i Inv-loop μ-loop
+add-i c = omega (arith, item-fits (sizeOf _) (kind-of _) _ _ _ (sized (c .before)) (c .before .before .before .before .loop .inv .0))
+
+loop-less : tie.Need-loop-less Inv-loop μ-loop
+loop-less c = omega (arith, item-fits (sizeOf _) (kind-of _) _ _ _ (sized (c .before)) (c .before .before .before .before .loop .inv .0), c .if1 .left)
+
+loop-again : tie.Need-loop-again Inv-loop μ-loop
+loop-again c = fills-turn (sizeOf _) (kind-of _) _ _ _ (sized (c .before)) (c .before .before .before .before .loop .inv) (c .if1 .left)
+
+returns-2 : tie.Need-returns-2 Inv-loop μ-loop
+returns-2 c = fills-done (sizeOf _) (kind-of _) (c .before .before .before .args .s .now) (c .before .loop .i) (omega arith) (c .before .loop .inv)
+
+pub fills-spec : {M : Type 1} → statement M
+fills-spec =
+    tie.close
+    (tie.spec
+    Inv-loop
+    μ-loop
+    loop-holds
+    sub-size-of
+    part-size-of-start
+    part-size-of-end
+    size-of-requires
+    returns
+    add-i
+    loop-less
+    loop-again
+    returns-2)

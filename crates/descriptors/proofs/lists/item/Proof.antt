@@ -1,0 +1,79 @@
+-- `descriptors::lists::item` meets its contract: the invariant is wire's `Seeking`.
+-- Assumes nothing.
+use borrow.Author.Needs.{needs}
+use Prim.Native.Nat.{_≤_, _-_}
+use native.Mathlib.Omega.{arith}
+use mathlib.Core.Path.{_≡_, refl, ap, _∙_}
+use lib.ListN.{length, drop}
+use Rattle.descriptors.specs.Kinds.{sizeOf}
+use Rattle.descriptors.proofs.Laws.Kinds.{kind-of}
+use Rattle.wire.specs.Places.{itemAt}
+use Rattle.wire.proofs.Laws.Loops.{Seeking, tail, item-fits, seek-stop, seek-hit, seek-turn, seek-done}
+use Rattle.descriptors.proofs.lists.item.Statement.{statement}
+use Rattle.descriptors.proofs.lists.item.Tie as tie
+
+abbrev Inv-loop : tie.InvT-loop
+Inv-loop kind s k left₀ i₀ left i = Seeking (sizeOf kind) s k i left
+
+abbrev μ-loop : tie.MeasureT-loop
+μ-loop kind s k left₀ i₀ left i = length s - i
+
+loop-holds : tie.Need-loop-holds Inv-loop μ-loop
+unfolding itemAt
+loop-holds c = (omega arith, refl)
+
+sub-size-of : tie.Need-sub-size-of Inv-loop μ-loop
+sub-size-of c = search needs
+
+part-size-of-start : tie.Need-part-size-of-start Inv-loop μ-loop
+part-size-of-start c = search needs
+
+part-size-of-end : tie.Need-part-size-of-end Inv-loop μ-loop
+part-size-of-end c = search needs
+
+size-of-requires : tie.Need-size-of-requires Inv-loop μ-loop
+size-of-requires c κs = search needs
+
+-- what the call answered for the list from i on
+sized : (c : tie.After-size-of Inv-loop μ-loop) → c .size-of .result ≡ sizeOf (c .before .before .before .before .before .args .kind) (drop (c .before .before .before .loop .i) (c .before .before .before .before .before .args .s .now))
+sized c = c .size-of .ensures ∙ ap (sizeOf _) (tail (c .before .before .before .before .before .args .s .now) (c .before .before .before .loop .i))
+
+returns : tie.Need-returns Inv-loop μ-loop
+returns c = seek-stop (sizeOf _) (kind-of _) _ _ _ (sized (c .before)) _ (c .before .before .before .before .loop .left) (c .before .before .before .before .loop .inv) (c .if1 .taken)
+
+returns-2 : tie.Need-returns-2 Inv-loop μ-loop
+returns-2 c = seek-hit (sizeOf _) (kind-of _) _ _ _ (sized (c .before .before)) _ (c .before .before .before .before .before .loop .left) (c .before .before .before .before .before .loop .inv) (c .before .if1 .left) (c .if2 .taken)
+
+add-i : tie.Need-add-i Inv-loop μ-loop
+add-i c = omega (arith, item-fits (sizeOf _) (kind-of _) _ _ _ (sized (c .before .before)) (c .before .before .before .before .before .loop .inv .0))
+
+sub-left : tie.Need-sub-left Inv-loop μ-loop
+sub-left c = omega (arith, c .if2 .left)
+
+loop-less : tie.Need-loop-less Inv-loop μ-loop
+loop-less c = omega (arith, item-fits (sizeOf _) (kind-of _) _ _ _ (sized (c .before .before)) (c .before .before .before .before .before .loop .inv .0), c .before .if1 .left)
+
+loop-again : tie.Need-loop-again Inv-loop μ-loop
+loop-again c = seek-turn (sizeOf _) (kind-of _) _ _ _ (sized (c .before .before)) _ (c .before .before .before .before .before .loop .left) (c .before .before .before .before .before .loop .inv) (c .before .if1 .left) (c .if2 .left)
+
+returns-3 : tie.Need-returns-3 Inv-loop μ-loop
+returns-3 c = seek-done (sizeOf _) (kind-of _) (c .before .before .before .args .s .now) (c .before .loop .i) (omega arith) _ (c .before .loop .left) (c .before .loop .inv)
+
+pub item-spec : {M : Type 1} → statement M
+item-spec =
+    tie.close
+    (tie.spec
+    Inv-loop
+    μ-loop
+    loop-holds
+    sub-size-of
+    part-size-of-start
+    part-size-of-end
+    size-of-requires
+    returns
+    returns-2
+    add-i
+    sub-left
+    loop-less
+    loop-again
+    returns-3)

@@ -1,0 +1,95 @@
+// Whether known contents are well formed.
+use crate::Kind;
+use crate::Test;
+use crate::lists::fills;
+use wire::byte_at;
+use wire::eight_at;
+ghost use mathlib.Core.Path.{_≡_};
+ghost use Prim.Native.Nat.{_≤_};
+ghost use lib.ListN.{length, drop};
+ghost use Rattle.descriptors.specs.Contents.{contentsOf, known00, known02, selector1, selector, known, wellMade, testOf};
+
+// Whether the descriptor `d` meets a test.
+pub fn meets(test: Test, d: &[u8]) -> bool
+    ensures { λ r. ⌜ r ≡ testOf test (now (d .entry)) ⌝ }
+{
+    match test {
+        Test::Any => true,
+        Test::Malformed => !is_well_made(d),
+        Test::Tagged(t) => byte_at(d, 0) == t,
+        Test::Labelled(l) => {
+            if byte_at(d, 0) != 0x02 {
+                return false;
+            }
+            byte_at(d, 4) == l
+        }
+    }
+}
+
+fn is_well_made(d: &[u8]) -> bool
+    ensures { λ r. ⌜ r ≡ wellMade (now (d .entry)) ⌝ }
+{
+    let at = contents_start(d);
+    is_known(byte_at(d, 0), &d[at..])
+}
+
+// Where the contents begin: after the tag and the length, as far as they are there.
+fn contents_start(d: &[u8]) -> usize
+    ensures { λ r. ⌜ (r ≤ length (now (d .entry))) × (drop r (now (d .entry)) ≡ contentsOf (now (d .entry))) ⌝ }
+{
+    if d.len() < 2 {
+        return d.len();
+    }
+    2
+}
+
+// Whether the contents that go with a tag are well formed.
+fn is_known(tag: u8, c: &[u8]) -> bool
+    ensures { λ r. ⌜ r ≡ known tag (now (c .entry)) ⌝ }
+{
+    match tag {
+        0x00 => is_known00(c),
+        0x01 => fills(Kind::Name, c),
+        0x02 => is_known02(c),
+        0x05 => fills(Kind::Identifier, c),
+        _ => true,
+    }
+}
+
+fn is_known00(c: &[u8]) -> bool
+    ensures { λ r. ⌜ r ≡ known00 (now (c .entry)) ⌝ }
+{
+    let p = eight_at(c, 0);
+    if p % 5 != 0 {
+        return false;
+    }
+    3 + p <= c.len()
+}
+
+fn is_known02(c: &[u8]) -> bool
+    ensures { λ r. ⌜ r ≡ known02 (now (c .entry)) ⌝ }
+{
+    if c.len() < 3 {
+        return false;
+    }
+    is_selector(wire::sixteen_at(c, 0), &c[3..])
+}
+
+fn is_selector(protocol: u16, c: &[u8]) -> bool
+    ensures { λ r. ⌜ r ≡ selector protocol (now (c .entry)) ⌝ }
+{
+    match protocol {
+        1 => is_selector1(c),
+        3 => fills(Kind::Base, c),
+        _ => true,
+    }
+}
+
+fn is_selector1(c: &[u8]) -> bool
+    ensures { λ r. ⌜ r ≡ selector1 (now (c .entry)) ⌝ }
+{
+    if byte_at(c, 0) >> 7 == 1 {
+        return c.len() == 8;
+    }
+    c.len() == 2
+}
