@@ -1,6 +1,7 @@
 -- Where things lie. A finder says where in a list something lies; places count from the list's own byte 0.
 -- Assumes nothing.
-use Prim.Native.Nat.{ℕ, zero, suc, _+_, _-_}
+use Prim.Native.Nat.{ℕ, zero, suc, _+_, _-_, _≤_}
+use mathlib.Core.Path.{_≡_}
 use mathlib.Core.Bool.{Bool, cond}
 use mathlib.Core.List.{List, [], _∷_}
 use lib.Dec.{leb}
@@ -63,3 +64,11 @@ first good is = firstFrom good 0 is
 abbrev pub onHit : {A : Type 0} → Hit → A → (ℕ → A) → A
 onHit (Item k) none some = some k
 onHit Missing none some = none
+
+-- a place within a list
+abbrev pub Inside : Place → List ℕ → Type 0
+Inside p xs = (a n : ℕ) → p ≡ At a n → a + n ≤ length xs
+
+-- the bytes at a place, none where there is none
+unfoldable pub partAt : Place → List ℕ → List ℕ
+partAt p xs = onPlace p [] (λ a n. take n (drop a xs))

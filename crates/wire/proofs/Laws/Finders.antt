@@ -12,7 +12,7 @@ use borrow.Author.Tests.{le-leb, lt-leb, leb-true}
 use Rattle.wire.specs.declared.Place.{Place}
 use Rattle.wire.specs.declared.Place.the-variants.{At, Nothing}
 use Rattle.wire.specs.Items.{Size, IsKind, Wholes, framed, items, joined}
-use Rattle.wire.specs.Places.{Finder, onPlace, itemAt, placeFrom, after, bytes, inner, inPart, within}
+use Rattle.wire.specs.Places.{Finder, onPlace, itemAt, placeFrom, after, bytes, inner, inPart, within, Inside}
 use Rattle.wire.proofs.Laws.Steps.{covers}
 use Rattle.wire.proofs.Laws.Frames.{framed-kind, framed-least, rest-of}
 use Rattle.wire.proofs.Laws.Meaning.{wholes, front, joined-both}
@@ -130,10 +130,6 @@ module _ (g : Finder) (xs : List ℕ) where
           → (a₁ : ℕ) × (n₁ : ℕ) × (b : ℕ) × (At a n ≡ At a₁ n₁) × (g (take n₁ (drop a₁ xs)) ≡ At b m) × (c ≡ a₁ + b)
       go Nothing h e = let z : _≡_ {A = ℕ} 0 1 = cc in absurd (omega arith)
       go (At b k) h e = (a, n, b, refl, cc, cc)
-
--- a place within a list
-abbrev pub Inside : Place → List ℕ → Type 0
-Inside p xs = (a n : ℕ) → p ≡ At a n → a + n ≤ length xs
 
 pub inPart-inside : (g : Finder) → Sound g → (p : Place) (xs : List ℕ) → Inside p xs → Inside (inPart g p xs) xs
 inPart-inside g sg p xs i c m e =

@@ -98,3 +98,15 @@ every-none good (x ∷ is) = go (every-none good is) (good x)
         → eqb (cond (not t) (suc (number (λ x. not (good x)) is)) (number (λ x. not (good x)) is)) 0 ≡ (t && every good is)
     go e true = e
     go e false = eqb·suc-zero (number (λ x. not (good x)) is)
+
+-- each item meets two tests exactly where each meets the one and each meets the other
+pub every-both : (p q : List ℕ → Bool) (is : List (List ℕ)) → every (λ x. p x && q x) is ≡ (every p is && every q is)
+unfolding every
+every-both p q [] = refl
+every-both p q (x ∷ is) = rw (every-both p q is) (go (p x) (q x) (every p is) (every q is))
+  where
+    go : (a b c d : Bool) → ((a && b) && (c && d)) ≡ ((a && c) && (b && d))
+    go true true c d = refl
+    go true false true d = refl
+    go true false false d = refl
+    go false b c d = refl

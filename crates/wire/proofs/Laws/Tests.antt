@@ -4,7 +4,7 @@ use Prim.Native.Nat.{ℕ, zero, suc, _<_, _≤_}
 use mathlib.Core.Path.{_≡_, refl, sym, ap, _∙_}
 use mathlib.Core.Logic.{_↔_}
 use mathlib.Core.Bool.{Bool, true, false, cond, _&&_, _||_}
-use mathlib.Core.List.{List, [], _∷_}
+use mathlib.Core.List.{List, [], _∷_, _++_}
 use native.Mathlib.Omega.{arith}
 use lib.Dec.{eqb}
 use borrow.Author.Tests.{eq-eqb, ne-eqb}
@@ -87,6 +87,17 @@ met-within a b (t ∷ ts) w z = go (met-within a b ts (w .2)) (t .1) z
         → (cond u (t .0) (firstMet ts) ≡ 0 → ⊥) → (a ≤ cond u (t .0) (firstMet ts)) × (cond u (t .0) (firstMet ts) ≤ b)
     go f true z = (w .0, w .1)
     go f false z = f z
+
+-- a table after another: its answer where the first has none
+pub met-append : (k : ℕ) (ts us : Tests) → RisingFrom k ts → firstMet (ts ++ us) ≡ cond (eqb (firstMet ts) 0) (firstMet us) (firstMet ts)
+unfolding firstMet
+met-append k [] us r = refl
+met-append k (t ∷ ts) us r = go (met-append (t .0) ts us (r .1)) (t .1)
+  where
+    go : firstMet (ts ++ us) ≡ cond (eqb (firstMet ts) 0) (firstMet us) (firstMet ts) → (b : Bool)
+        → cond b (t .0) (firstMet (ts ++ us)) ≡ cond (eqb (cond b (t .0) (firstMet ts)) 0) (firstMet us) (cond b (t .0) (firstMet ts))
+    go e true = let h = r .0 in sym (rw (ne-eqb (t .0) 0 (λ z. omega arith)))
+    go e false = e
 
 clash : (b : Bool) → b ≡ true → b ≡ false → ⊥
 clash b e f = let z : _≡_ {A = ℕ} 0 1 = cc in omega arith

@@ -1,0 +1,23 @@
+-- `applications::places::common_place` meets its contract.
+-- Assumes nothing.
+use mathlib.Core.Path.{_≡_, refl, sym, ap, ap₂, _∙_}
+use native.Mathlib.Omega.{arith}
+use Rattle.applications.specs.declared.steps.Step.the-variants.{CommonLoop}
+use Rattle.applications.specs.Places.{bodyAt, commonAt, stepIn}
+use Rattle.applications.proofs.Laws.Places.{step-from, inside-of, sound-body}
+use borrow.Author.Needs.{needs}
+use Rattle.applications.proofs.places.common_place.Statement.{statement}
+use Rattle.applications.proofs.places.common_place.Tie as tie
+
+body-place-requires : tie.Need-body-place-requires
+body-place-requires c κs = search needs
+
+within-requires : tie.Need-within-requires
+within-requires c κs = inside-of (bodyAt) (sound-body) _ (c .before .before .args .s .now) (c .body-place .ensures)
+
+returns : tie.Need-returns
+unfolding commonAt stepIn
+returns c = c .within .ensures ∙ step-from CommonLoop _ _ _ (c .before .body-place .ensures)
+
+pub common-place-spec : {M : Type 1} → statement M
+common-place-spec = tie.close (tie.spec body-place-requires within-requires returns)

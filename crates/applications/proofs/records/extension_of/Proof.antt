@@ -1,0 +1,16 @@
+-- `applications::records::extension_of` meets its contract: each field is what its reader answers.
+-- Assumes nothing.
+use Rattle.applications.specs.Records.{extensionOf}
+use borrow.Author.Needs.{needs}
+use Rattle.applications.proofs.records.extension_of.Statement.{statement}
+use Rattle.applications.proofs.records.extension_of.Tie as tie
+
+rest-of-requires : tie.Need-rest-of-requires
+rest-of-requires c κs = search needs
+
+returns : tie.Need-returns
+unfolding extensionOf
+returns c = cc
+
+pub extension-of-spec : {M : Type 1} → statement M
+extension-of-spec = tie.close (tie.spec rest-of-requires returns)

@@ -1,0 +1,23 @@
+-- `applications::records::identifier_of` meets its contract: each field is what its reader answers.
+-- Assumes nothing.
+use Rattle.applications.specs.Records.{identifierOf}
+use borrow.Author.Needs.{needs}
+use Rattle.applications.proofs.records.identifier_of.Statement.{statement}
+use Rattle.applications.proofs.records.identifier_of.Tie as tie
+
+thirty-two-at-requires : tie.Need-thirty-two-at-requires
+thirty-two-at-requires c κs = search needs
+
+sixteen-at-requires : tie.Need-sixteen-at-requires
+sixteen-at-requires c κs = search needs
+
+byte-at-requires : tie.Need-byte-at-requires
+byte-at-requires c κs = search needs
+
+returns : tie.Need-returns
+unfolding identifierOf
+returns c = cc
+
+pub identifier-of-spec : {M : Type 1} → statement M
+identifier-of-spec =
+    tie.close (tie.spec thirty-two-at-requires sixteen-at-requires byte-at-requires returns)

@@ -1,0 +1,27 @@
+-- `applications::records::name_of` meets its contract: each field is what its reader answers.
+-- Assumes nothing.
+use Rattle.applications.specs.Records.{nameOf}
+use borrow.Author.Needs.{needs}
+use Rattle.applications.proofs.records.name_of.Statement.{statement}
+use Rattle.applications.proofs.records.name_of.Tie as tie
+
+rest-of-requires : tie.Need-rest-of-requires
+rest-of-requires c κs = search needs
+
+byte-at-requires : tie.Need-byte-at-requires
+byte-at-requires c κs = search needs
+
+byte-at-requires-2 : tie.Need-byte-at-requires-2
+byte-at-requires-2 c κs = search needs
+
+byte-at-requires-3 : tie.Need-byte-at-requires-3
+byte-at-requires-3 c κs = search needs
+
+returns : tie.Need-returns
+unfolding nameOf
+returns c = cc
+
+pub name-of-spec : {M : Type 1} → statement M
+name-of-spec =
+    tie.close
+    (tie.spec rest-of-requires byte-at-requires byte-at-requires-2 byte-at-requires-3 returns)

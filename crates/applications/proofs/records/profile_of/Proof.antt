@@ -1,0 +1,27 @@
+-- `applications::records::profile_of` meets its contract: each field is what its reader answers.
+-- Assumes nothing.
+use Rattle.applications.specs.Records.{profileOf}
+use borrow.Author.Needs.{needs}
+use Rattle.applications.proofs.records.profile_of.Statement.{statement}
+use Rattle.applications.proofs.records.profile_of.Tie as tie
+
+sixteen-at-requires : tie.Need-sixteen-at-requires
+sixteen-at-requires c κs = search needs
+
+byte-at-requires : tie.Need-byte-at-requires
+byte-at-requires c κs = search needs
+
+byte-at-requires-2 : tie.Need-byte-at-requires-2
+byte-at-requires-2 c κs = search needs
+
+byte-at-requires-3 : tie.Need-byte-at-requires-3
+byte-at-requires-3 c κs = search needs
+
+returns : tie.Need-returns
+unfolding profileOf
+returns c = cc
+
+pub profile-of-spec : {M : Type 1} → statement M
+profile-of-spec =
+    tie.close
+    (tie.spec sixteen-at-requires byte-at-requires byte-at-requires-2 byte-at-requires-3 returns)

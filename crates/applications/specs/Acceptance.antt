@@ -1,0 +1,35 @@
+-- Acceptance of an application section: the common check, then the body. 01, "The application section" and the table of numbers.
+-- Assumes nothing.
+use Prim.Native.Nat.{ℕ, _-_}
+use mathlib.Core.Bool.{cond}
+use mathlib.Core.List.{List, _++_}
+use lib.Dec.{eqb}
+use lib.ListN.{length, take, drop}
+use Rattle.wire.specs.Tests.{Tests}
+use Rattle.section.specs.declared.Rules.the-variants.{Application}
+use Rattle.section.specs.declared.Refusal.{Refusal}
+use Rattle.section.specs.declared.Header.{Header}
+use Rattle.section.specs.declared.Checked.{Checked}
+use Rattle.section.specs.declared.Checked.the-variants.{Refused, Accepted}
+use Rattle.section.specs.Refusals.{sectionTests}
+use Rattle.section.specs.Answer.{refused, checkedOf}
+use Rattle.descriptors.specs.Body.{bodyTests, bodyRefusal}
+
+-- what stands between the header and the CRC
+abbrev pub bodyOf : List ℕ → List ℕ
+bodyOf s = take (length s - 12) (drop 8 s)
+
+-- the refusals of an application section, in the table's order: 2 to 7, 18
+abbrev pub applicationTests : List ℕ → Tests
+applicationTests s = sectionTests Application s ++ bodyTests (bodyOf s)
+
+-- by cases of an answer
+abbrev pub onChecked : {A : Type 0} → Checked → (Refusal → A) → (Header → A) → A
+onChecked (Refused r) bad good = bad r
+onChecked (Accepted h) bad good = good h
+
+-- The section check's refusal as it came; else the body's; else accepted with the header's fields.
+unfoldable pub judgedOf : List ℕ → Checked
+judgedOf s =
+    onChecked (checkedOf Application s) (λ r. Refused r) (λ h.
+    cond (eqb (bodyRefusal (bodyOf s)) 0) (Accepted h) (Refused (refused (bodyRefusal (bodyOf s)))))

@@ -1,0 +1,5 @@
+pub mod Acceptance
+pub mod Places
+pub mod Records
+pub mod Labels
+pub mod Answers
