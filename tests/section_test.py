@@ -2,36 +2,15 @@
 """What crates/section_test must print, by a second program.
 
 Written from the paper (01, "The section" and the table of numbers), not from the Rattle code. Its CRC is
-driven by a table of 256 entries made by polynomial division, so that it shares no method with the
+driven by a table of 256 entries made by polynomial division (tests/second.py), so that it shares no method with the
 register that shifts bit by bit.
 
     section_test.py          compare crates/section_test/stdin and stdout with what this program makes
     section_test.py --write  write both
 """
 import random
-import sys
-from pathlib import Path
 
-CRATE = Path(__file__).resolve().parent.parent / "crates" / "section_test"
-GENERATOR = 0x1_04C1_1DB7  # with its leading term, x^32
-
-
-def remainder(value, bits):
-    """value as a polynomial of that many bits, divided by the generator: what is left."""
-    for k in range(bits - 1, 31, -1):
-        if value >> k & 1:
-            value ^= GENERATOR << (k - 32)
-    return value
-
-
-TABLE = [remainder(k << 32, 40) for k in range(256)]
-
-
-def crc(data):
-    register = 0xFFFF_FFFF
-    for byte in data:
-        register = (register << 8 & 0xFFFF_FFFF) ^ TABLE[register >> 24 ^ byte]
-    return register
+from second import crc, framed, refusal, remainder, settle, with_crc
 
 
 # The same register by one long division of the whole message: its first 32 bits turned over, 32 zeros after it.
@@ -40,24 +19,6 @@ def crc_by_division(data):
     value = int.from_bytes(data, "big") << 32
     value ^= 0xFFFF_FFFF << bits
     return remainder(value, bits + 32)
-
-
-def refusal(s, tables, limit):
-    """The lowest number of the paper's table that applies, 2 to 6; 0 where none does."""
-    applies = set()
-    length = (s[1] % 16) * 256 + s[2] if len(s) >= 3 else None
-    if length is None or len(s) != 3 + length:
-        return 2
-    at = lambda i: s[i] if i < len(s) else 0
-    if s[0] not in tables:
-        applies.add(3)
-    if length < 9 or length > limit or s[1] < 128 or at(6) > at(7):
-        applies.add(4)
-    if crc(s) != 0:
-        applies.add(5)
-    if at(5) % 2 == 0:
-        applies.add(6)
-    return min(applies, default=0)
 
 
 def line(s):
@@ -73,8 +34,7 @@ def section(table, size, fill=0, flags=0xB0, extension=0x8001, byte5=0xC7, numbe
     """A section of `size` bytes in all, with its CRC."""
     length = size - 3 if length is None else length
     head = bytes([table, flags | length >> 8, length & 255, extension >> 8, extension & 255, byte5, number, last])
-    body = (head + bytes([fill]) * size)[: size - 4]
-    return body + crc(body).to_bytes(4, "big")
+    return with_crc((head + bytes([fill]) * size)[: size - 4])
 
 
 def stretches():
@@ -134,15 +94,8 @@ def main():
     for n in range(2, 7):
         assert any(a == n for a, c in seen) and any(c == n for a, c in seen), n
     assert any(a == 0 for a, c in seen) and any(c == 0 for a, c in seen)
-    given = b"".join(len(s).to_bytes(2, "big") + s for s in every)
-    assert len(given) <= 65_536
-    wanted = "".join(map(line, every)).encode()
-    for name, made in (("stdin", given), ("stdout", wanted)):
-        path = CRATE / name
-        if "--write" in sys.argv:
-            path.write_bytes(made)
-        elif path.read_bytes() != made:
-            sys.exit("%s is not what tests/section_test.py makes: run it with --write and look at the change" % path)
+    given = framed(every)
+    settle("section_test", given, "".join(map(line, every)).encode())
     print("section_test: %d stretches, %d bytes: stdin and stdout are the second program's" % (len(every), len(given)))
 
 
