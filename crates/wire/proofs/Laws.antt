@@ -7,3 +7,4 @@ pub mod Loops
 pub mod Counted
 pub mod Finders
 pub mod Fixed
+pub mod Parts

@@ -104,15 +104,6 @@ pub sound-extension : (o : Scope) (j k m : ℕ) → Sound (extensionAt o j k m)
 unfolding extensionAt stepIn
 sound-extension o j k m = sound-within (extensionsAt o j k) (itemAt (sizeOf kind.Extension) m) (sound-extensions o j k) (sound-step (Item kind.Extension m))
 
--- the bytes at a place
-pub part-none : (s : L.List ℕ) → partAt Nothing s ≡ L.[]
-unfolding partAt
-part-none s = refl
-
-pub part-at : (s : L.List ℕ) (a n : ℕ) → partAt (At a n) s ≡ take n (drop a s)
-unfolding partAt
-part-at s a n = refl
-
 -- what repeats in a descriptor, from the facts that code learns
 module _ (d : L.List ℕ) where
   pub tagged-other : (t a : ℕ) → (tagOf d ≡ t → ⊥) → Nothing ≡ taggedRest t a d

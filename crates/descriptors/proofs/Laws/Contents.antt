@@ -2,14 +2,14 @@
 -- Assumes nothing.
 use Prim.Native.Nat.{ℕ, _+_, _%_, _≤_, _<_}
 use mathlib.Core.Path.{_≡_, refl, sym, ap, _∙_}
-use mathlib.Core.Bool.{Bool, true, false, not, cond}
+use mathlib.Core.Bool.{Bool, true, false, not, cond, _&&_}
 use mathlib.Core.List.{List}
 use native.Mathlib.Omega.{arith}
 use lib.Dec.{leb, eqb}
 use lib.ListN.{length, drop, drop-of-length-le}
 use lib.Seq.{getD-drop}
 use Rattle.wire.specs.Fields.{byteAt}
-use borrow.Author.Tests.{eq-eqb, ne-eqb, le-leb, lt-leb}
+use borrow.Author.Tests.{eq-eqb, ne-eqb, le-leb, lt-leb, leb-true}
 use Rattle.wire.specs.Items.{fills}
 use Rattle.descriptors.specs.Kinds.{name, base, identifier}
 use Rattle.descriptors.specs.declared.Test.{Test}
@@ -43,6 +43,14 @@ module _ (c : List ℕ) where
   pub known02-short : length c < 3 → false ≡ known02 c
   unfolding known02
   known02-short h = rw (lt-leb 3 (length c) h)
+
+  pub known02-long : known02 c ≡ true → 3 ≤ length c
+  unfolding known02
+  known02-long e = go (leb 3 (length c)) refl e
+    where
+      go : (t : Bool) → leb 3 (length c) ≡ t → (t && selector (protocolOf c) (drop 3 c)) ≡ true → 3 ≤ length c
+      go true h e = leb-true 3 (length c) h
+      go false h e = let z : _≡_ {A = ℕ} 0 1 = cc in absurd (omega arith)
 
   pub known02-is : 3 ≤ length c → selector (protocolOf c) (drop 3 c) ≡ known02 c
   unfolding known02

@@ -11,9 +11,9 @@ use borrow.Author.Tests.{le-leb, lt-leb, leb-true}
 use lib.Seq.{getD-take}
 use Rattle.wire.specs.Fields.{byteAt, twelveAt, bits}
 use Rattle.wire.proofs.Laws.Fields.{field-take}
-use Rattle.wire.specs.Items.{IsKind, items, endOf}
+use Rattle.wire.specs.Items.{IsKind, items, count, endOf}
 use Rattle.wire.proofs.Laws.Frames.{framed-kind, framed-least, same-byte, same-length}
-use Rattle.wire.proofs.Laws.Counted.{counted-fits, counted-own, ends-after}
+use Rattle.wire.proofs.Laws.Counted.{counted-fits, counted-own, counted-all, ends-after}
 use Rattle.descriptors.specs.declared.Kind.{Kind}
 use Rattle.descriptors.specs.declared.Kind.the-variants.{Application, Descriptor, Profile, Label, Name, Base, Extension, Identifier}
 use Rattle.descriptors.specs.Kinds.{application, extension, extensionsStart, extensionCount, base, sizeOf}
@@ -94,3 +94,13 @@ module _ (s : List ℕ) where
 -- the size of a kind that a match has told
 pub kind-is : (k kind : Kind) (s : List ℕ) → kind ≡ k → sizeOf k s ≡ sizeOf kind s
 kind-is k kind s e = ap (λ (x : Kind). sizeOf x s) (sym e)
+
+-- a whole base: its text and the count fit, and its extensions are as many as it says
+module _ (x : List ℕ) (w : base x ≡ length x) (p : 0 < length x) where
+  pub base-text : extensionsStart x ≤ length x
+  base-text = base-has x (λ z. omega (arith, z)) .0
+
+  pub base-count : count extension (drop (extensionsStart x) x) ≡ extensionCount x
+  base-count =
+      let q = base-has x (λ z. omega (arith, z)) in
+      counted-all extension extension-kind (extensionCount x) (extensionsStart x) x (q .0) p (sym (q .1) ∙ w)

@@ -28,7 +28,7 @@ neither true b e = let z : _≡_ {A = ℕ} 0 1 = cc in absurd (omega arith)
 neither false b e = (refl, e)
 
 module _ (rules : Rules) (s : List ℕ) where
-  rising : RisingFrom 0 (sectionTests rules s)
+  pub rising : RisingFrom 0 (sectionTests rules s)
   rising = (lit< tt, (lit< tt, (lit< tt, (lit< tt, (lit< tt, tt)))))
 
   -- test n of the table is the test of that number

@@ -7,7 +7,7 @@ use mathlib.Core.List.{List, [], _∷_, _++_, append-assoc}
 use native.Mathlib.Omega.{arith}
 use lib.Dec.{leb}
 use lib.ListN.{length, take, drop, length-append, length-take, length-drop}
-use lib.Seq.{drop-at, drop-drop, take-take}
+use lib.Seq.{take-at, drop-at, drop-drop, take-take}
 use borrow.Author.Tests.{le-leb, lt-leb, leb-true}
 use Rattle.wire.specs.declared.Place.{Place}
 use Rattle.wire.specs.declared.Place.the-variants.{At, Nothing}
@@ -31,6 +31,15 @@ whole-of : (size : Size) (js : List (List ℕ)) (x : List ℕ) (ks : List (List 
 whole-of size [] x ks w = w .0
 whole-of size (y ∷ js) x ks w = whole-of size js x ks (w .1)
 
+-- the bytes where an item of a list laid end to end lies are the item
+bytes-of : (js : List (List ℕ)) (x : List ℕ) (ks : List (List ℕ)) (rest xs : List ℕ) (a n : ℕ) → a ≡ 0 + length (joined js) → n ≡ length x
+    → joined (js ++ x ∷ ks) ++ rest ≡ xs → take n (drop a xs) ≡ x
+unfolding joined
+bytes-of js x ks rest xs a n f g c =
+    let s : joined js ++ (x ++ (joined ks ++ rest)) ≡ xs = simp (joined-both, append-assoc) at c in
+    let d : drop a xs ≡ x ++ (joined ks ++ rest) = rw (← s) (drop-at (joined js) (x ++ (joined ks ++ rest)) a (omega arith)) in
+    rw d (take-at x (joined ks ++ rest) n (sym g))
+
 lies : (size : Size) → IsKind size → (js : List (List ℕ)) (x : List ℕ) (ks : List (List ℕ)) (rest xs : List ℕ) (a n : ℕ)
     → Wholes size (js ++ x ∷ ks) → joined (js ++ x ∷ ks) ++ rest ≡ xs → a ≡ 0 + length (joined js) → n ≡ length x
     → (a + n ≤ length xs) × (size (drop a xs) ≡ n) × (0 < n)
@@ -41,6 +50,19 @@ lies size kind js x ks rest xs a n w c e f =
     let d : drop a xs ≡ x ++ (joined ks ++ rest) = rw (← s) (drop-at (joined js) (x ++ (joined ks ++ rest)) a (omega arith)) in
     let l = simp length-append at (ap length s) in
     (omega arith, rw d (front size kind x (joined ks ++ rest) v ∙ sym f), omega arith)
+
+-- an item that was found is one of the items
+pub item-bytes : (size : Size) → IsKind size → (k : ℕ) (xs : List ℕ) (a n : ℕ) → itemAt size k xs ≡ At a n
+    → (js : List (List ℕ)) × (ks : List (List ℕ)) × (js ++ take n (drop a xs) ∷ ks ≡ items size xs)
+unfolding itemAt
+item-bytes size kind k xs a n e =
+    let q = placed k 0 (items size xs) a n e in
+    let c = covers size kind xs in
+    go (q .0) (q .1) (q .2) (c .0) (q .3) (q .4) (q .5) (rw (q .3) (c .1))
+  where
+    go : (js : List (List ℕ)) (x : List ℕ) (ks : List (List ℕ)) (rest : List ℕ) → js ++ x ∷ ks ≡ items size xs → a ≡ 0 + length (joined js) → n ≡ length x
+        → joined (js ++ x ∷ ks) ++ rest ≡ xs → (js : List (List ℕ)) × (ks : List (List ℕ)) × (js ++ take n (drop a xs) ∷ ks ≡ items size xs)
+    go js x ks rest e f g c = (js, ks, ap (λ (y : List ℕ). js ++ y ∷ ks) (bytes-of js x ks rest xs a n f g c) ∙ e)
 
 -- an item that was found lies in the list, is not empty, and is what the list from there on begins with
 pub item-is : (size : Size) → IsKind size → (k : ℕ) (xs : List ℕ) (a n : ℕ) → itemAt size k xs ≡ At a n → (a + n ≤ length xs) × (size (drop a xs) ≡ n) × (0 < n)

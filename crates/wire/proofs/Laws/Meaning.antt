@@ -19,9 +19,9 @@ empty : (l : List ℕ) → length l ≡ 0 → l ≡ []
 empty [] e = refl
 empty (x ∷ l) e = absurd (omega arith)
 
-right-nil : {A : Type 0} (l : List A) → l ++ [] ≡ l
-right-nil [] = refl
-right-nil {A} (x ∷ l) = ap (λ (m : List A). x ∷ m) (right-nil l)
+pub append-nil : {A : Type 0} (l : List A) → l ++ [] ≡ l
+append-nil [] = refl
+append-nil {A} (x ∷ l) = ap (λ (m : List A). x ∷ m) (append-nil l)
 
 pub joined-both : (is js : List (List ℕ)) → joined (is ++ js) ≡ joined is ++ joined js
 unfolding joined
@@ -83,7 +83,7 @@ module _ (size : Size) (kind : IsKind size) where
 
   pub unique : (is : List (List ℕ)) (xs : List ℕ) → Wholes size is → joined is ≡ xs → items size xs ≡ is
   unfolding items itemsIn
-  unique is xs w e = sym (ap (items size) (right-nil (joined is) ∙ e)) ∙ found is [] w ∙ right-nil is
+  unique is xs w e = sym (ap (items size) (append-nil (joined is) ∙ e)) ∙ found is [] w ∙ append-nil is
 
   wholesIn : (n : ℕ) (xs : List ℕ) → Wholes size (itemsIn n size xs)
   unfolding itemsIn
@@ -115,7 +115,7 @@ module _ (size : Size) (kind : IsKind size) where
           let l = eqb-true (length (joined (items size xs))) (length xs) h in
           let a = simp length-append at (ap length (c .1)) in
           let n = empty (c .0) (omega arith) in
-          (items size xs, wholes xs, sym (right-nil (joined (items size xs))) ∙ rw n at (c .1))
+          (items size xs, wholes xs, sym (append-nil (joined (items size xs))) ∙ rw n at (c .1))
 
       back : (is : List (List ℕ)) × Wholes size is × (joined is ≡ xs) → eqb (length (joined (items size xs))) (length xs) ≡ true
       back t = eq-eqb (length (joined (items size xs))) (length xs) (rw (unique (t .0) xs (t .1) (t .2)) (ap length (t .2)))
