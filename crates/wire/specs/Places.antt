@@ -53,6 +53,11 @@ inPart g p xs =
 abbrev pub within : Finder → Finder → Finder
 within f g xs = inPart g (f xs) xs
 
+-- by cases of a hit
+abbrev pub onHit : {A : Type 0} → Hit → A → (ℕ → A) → A
+onHit (Item k) none some = some k
+onHit Missing none some = none
+
 -- the number of the first item that meets a test, if the items' numbers begin with k
 unfoldable pub firstFrom : (List ℕ → Bool) → ℕ → List (List ℕ) → Hit
 firstFrom good k [] = Missing
@@ -60,10 +65,6 @@ firstFrom good k (x ∷ is) = cond (good x) (Item k) (firstFrom good (k + 1) is)
 
 unfoldable pub first : (List ℕ → Bool) → List (List ℕ) → Hit
 first good is = firstFrom good 0 is
-
-abbrev pub onHit : {A : Type 0} → Hit → A → (ℕ → A) → A
-onHit (Item k) none some = some k
-onHit Missing none some = none
 
 -- a place within a list
 abbrev pub Inside : Place → List ℕ → Type 0

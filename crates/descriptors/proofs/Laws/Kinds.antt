@@ -71,13 +71,13 @@ application-kind = framed-kind 9 (λ h. twelveAt h 7)
 pub kind-of : (kind : Kind) → IsKind (sizeOf kind)
 unfolding sizeOf
 kind-of Application = application-kind
-kind-of Descriptor = framed-kind 2 (λ h. byteAt h 1)
-kind-of Profile = framed-kind 5 (λ h. 0)
-kind-of Label = framed-kind 1 (λ h. 0)
-kind-of Name = framed-kind 4 (λ h. byteAt h 3)
+kind-of Descriptor = framed-kind 2 _
+kind-of Profile = framed-kind 5 _
+kind-of Label = framed-kind 1 _
+kind-of Name = framed-kind 4 _
 kind-of Base = base-kind
 kind-of Extension = extension-kind
-kind-of Identifier = framed-kind 7 (λ h. 0)
+kind-of Identifier = framed-kind 7 _
 
 -- an application has its nine bytes
 pub application-least : (xs : List ℕ) → (application xs ≡ 0 → ⊥) → 9 ≤ application xs

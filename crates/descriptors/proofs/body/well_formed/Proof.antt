@@ -60,7 +60,7 @@ filled c =
     c .fills .ensures ∙ ap (fills application) (tail b _ ∙ ap (λ (x : ℕ). drop (4 + x) b) (n .0))
 
 returns : tie.Need-returns
-returns c = let n = lengths (c .before) in uneven _ (λ e. c .if1 .taken (omega (arith, n)))
+returns c = let n = lengths (c .before) in uneven _ (λ e. omega (arith, n, c .if1 .taken))
 
 sub-good-loop : tie.Need-sub-good-loop
 sub-good-loop c = search needs
