@@ -4,6 +4,7 @@ use crate::Repeated;
 use crate::Resolved;
 use crate::Scope;
 use crate::acceptance::locate;
+use crate::part;
 use crate::places::common_place;
 use crate::places::own_place;
 use crate::places::repeated_place;
@@ -24,8 +25,8 @@ pub fn resolve(s: &[u8], i: usize, k: usize) -> Resolved
     match locate(s, label_place(s, i, k)) {
         Located::Refused(r) => Resolved::Refused(r),
         Located::At { start, size } => {
-            let e = start + size;
-            let label = wire::byte_at(&s[start..e], 0);
+            let x = part(s, start, size);
+            let label = wire::byte_at(x, 0);
             resolve_in(s, label, own_place(s, i), common_place(s))
         }
     }

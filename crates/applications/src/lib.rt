@@ -244,8 +244,8 @@ pub fn application_at(s: &[u8], i: usize) -> ApplicationAnswer
     match locate(s, application_place(s, i)) {
         Located::Refused(r) => ApplicationAnswer::Refused(r),
         Located::At { start, size } => {
-            let e = start + size;
-            ApplicationAnswer::Found(application_of(&s[start..e]))
+            let x = part(s, start, size);
+            ApplicationAnswer::Found(application_of(x))
         }
     }
 }
@@ -257,8 +257,8 @@ pub fn descriptor_at(s: &[u8], scope: Scope, j: usize) -> DescriptorAnswer
     match locate(s, descriptor_place(s, scope, j)) {
         Located::Refused(r) => DescriptorAnswer::Refused(r),
         Located::At { start, size } => {
-            let e = start + size;
-            DescriptorAnswer::Found(describe(&s[start..e], start))
+            let x = part(s, start, size);
+            DescriptorAnswer::Found(describe(x, start))
         }
     }
 }
@@ -270,8 +270,8 @@ pub fn item_at(s: &[u8], scope: Scope, j: usize, what: Repeated, k: usize) -> It
     match locate(s, repeated_place(s, scope, j, what, k)) {
         Located::Refused(r) => ItemAnswer::Refused(r),
         Located::At { start, size } => {
-            let e = start + size;
-            ItemAnswer::Found(item_of(&s[start..e], start, what))
+            let x = part(s, start, size);
+            ItemAnswer::Found(item_of(x, start, what))
         }
     }
 }
@@ -283,8 +283,8 @@ pub fn extension_at(s: &[u8], scope: Scope, j: usize, k: usize, m: usize) -> Ext
     match locate(s, extension_place(s, scope, j, k, m)) {
         Located::Refused(r) => ExtensionAnswer::Refused(r),
         Located::At { start, size } => {
-            let e = start + size;
-            ExtensionAnswer::Found(extension_of(&s[start..e], start))
+            let x = part(s, start, size);
+            ExtensionAnswer::Found(extension_of(x, start))
         }
     }
 }

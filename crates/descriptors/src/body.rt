@@ -2,7 +2,7 @@
 use crate::Clause;
 use crate::Kind;
 use crate::Test;
-use crate::kinds::size_of;
+use crate::kinds::size_at;
 use crate::lists::fills;
 use crate::lists::number_of;
 ghost use mathlib.Core.Path.{_≡_};
@@ -48,7 +48,7 @@ fn every_application(clause: Clause, s: &[u8]) -> bool
 {
     let mut i = 0;
     while i < s.len() {
-        let n = size_of(Kind::Application, &s[i..]);
+        let n = size_at(Kind::Application, s, i);
         if n == 0 {
             return true;
         }

@@ -5,12 +5,12 @@ use crate::lists::fills;
 use wire::byte_at;
 use wire::eight_at;
 ghost use mathlib.Core.Path.{_≡_};
-ghost use Prim.Native.Nat.{_≤_};
-ghost use lib.ListN.{length, drop};
+ghost use Prim.Native.Nat.{_+_, _≤_};
+ghost use lib.ListN.{length, take, drop};
 ghost use Rattle.descriptors.specs.Contents.{contentsOf, known00, known02, selector1, selector, known, wellMade, testOf};
 
 // Whether the descriptor `d` meets a test.
-pub fn meets(test: Test, d: &[u8]) -> bool
+fn meets(test: Test, d: &[u8]) -> bool
     ensures { λ r. ⌜ r ≡ testOf test (now (d .entry)) ⌝ }
 {
     match test {
@@ -24,6 +24,15 @@ pub fn meets(test: Test, d: &[u8]) -> bool
             byte_at(d, 4) == l
         }
     }
+}
+
+// Whether the item of n bytes at byte i meets a test.
+pub fn meets_at(test: Test, s: &[u8], i: usize, n: usize) -> bool
+    requires { ⌜ i + n ≤ length (now s) ⌝ }
+    ensures { λ r. ⌜ r ≡ testOf test (take n (drop i (now (s .entry)))) ⌝ }
+{
+    let e = i + n;
+    meets(test, &s[i..e])
 }
 
 fn is_well_made(d: &[u8]) -> bool

@@ -25,6 +25,14 @@ pub fn size_of(kind: Kind, s: &[u8]) -> usize
     }
 }
 
+// The size of the item at byte i. It ends within the slice.
+pub fn size_at(kind: Kind, s: &[u8], i: usize) -> usize
+    requires { ⌜ i ≤ length (now s) ⌝ }
+    ensures { λ r. ⌜ (r ≡ sizeOf kind (drop i (now (s .entry)))) × (i + r ≤ length (now (s .entry))) ⌝ }
+{
+    size_of(kind, &s[i..])
+}
+
 // A header of `h` bytes and `m` bytes more, where they are all there.
 fn framed_size(s: &[u8], h: usize, m: usize) -> usize
     ensures { λ r. ⌜ r ≡ cond (leb (h + m) (length (now (s .entry)))) (h + m) 0 ⌝ }

@@ -1,8 +1,8 @@
 // Lists of items of every kind: one loop for each question.
 use crate::Kind;
 use crate::Test;
-use crate::contents::meets;
-use crate::kinds::size_of;
+use crate::contents::meets_at;
+use crate::kinds::size_at;
 use wire::Hit;
 use wire::Place;
 ghost use mathlib.Core.Path.{_≡_};
@@ -17,7 +17,7 @@ pub fn fills(kind: Kind, s: &[u8]) -> bool
 {
     let mut i = 0;
     while i < s.len() {
-        let n = size_of(kind, &s[i..]);
+        let n = size_at(kind, s, i);
         if n == 0 {
             return false;
         }
@@ -33,7 +33,7 @@ pub fn item(kind: Kind, s: &[u8], k: usize) -> Place
     let mut left = k;
     let mut i = 0;
     while i < s.len() {
-        let n = size_of(kind, &s[i..]);
+        let n = size_at(kind, s, i);
         if n == 0 {
             return Place::Nothing;
         }
@@ -53,15 +53,14 @@ pub fn number_of(kind: Kind, test: Test, s: &[u8]) -> usize
     let mut m: usize = 0;
     let mut i = 0;
     while i < s.len() {
-        let n = size_of(kind, &s[i..]);
+        let n = size_at(kind, s, i);
         if n == 0 {
             return m;
         }
-        let e = i + n;
-        if meets(test, &s[i..e]) {
+        if meets_at(test, s, i, n) {
             m += 1;
         }
-        i = e;
+        i += n;
     }
     m
 }
@@ -73,15 +72,14 @@ pub fn find(kind: Kind, test: Test, s: &[u8]) -> Hit
     let mut k: usize = 0;
     let mut i = 0;
     while i < s.len() {
-        let n = size_of(kind, &s[i..]);
+        let n = size_at(kind, s, i);
         if n == 0 {
             return Hit::Missing;
         }
-        let e = i + n;
-        if meets(test, &s[i..e]) {
+        if meets_at(test, s, i, n) {
             return Hit::Item(k);
         }
-        i = e;
+        i += n;
         k += 1;
     }
     Hit::Missing

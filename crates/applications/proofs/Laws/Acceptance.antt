@@ -7,7 +7,7 @@ use mathlib.Core.List.{List}
 use native.Mathlib.Omega.{arith}
 use lib.Dec.{eqb}
 use lib.ListN.{length, take, drop}
-use borrow.Author.Tests.{eq-eqb, ne-eqb, eqb-true}
+use borrow.Author.Tests.{eq-eqb, ne-eqb, eqb-true, le-leb}
 use Rattle.wire.specs.declared.Place.{Place}
 use Rattle.wire.specs.declared.Place.the-variants.{At, Nothing}
 use Rattle.wire.specs.Places.{onPlace, Inside}
@@ -24,7 +24,7 @@ use Rattle.descriptors.specs.Body.{bodyRefusal}
 use Rattle.applications.specs.declared.Located.{Located}
 use Rattle.applications.specs.declared.Located.the-variants as located
 use Rattle.applications.specs.Acceptance.{bodyOf, onChecked, judgedOf}
-use Rattle.applications.specs.Answers.{locatedOf, onLocated}
+use Rattle.applications.specs.Answers.{locatedOf, onLocated, partOf}
 
 -- an accepted section has its header and its CRC, and no more than 1,024 bytes
 pub sized : (s : List ℕ) (h : Header) → checkedOf Application s ≡ Accepted h → (12 ≤ length s) × (length s ≤ 1024)
@@ -90,11 +90,22 @@ module _ (s : List ℕ) (p : Place) where
       go (Refused r) f e = let z : _≡_ {A = ℕ} 0 1 = cc in absurd (omega arith)
       go (Accepted h) f e = (at p e, sized s h (judged-has s h f .0) .1)
 
-  pub located-fits : Inside p s → (a n : ℕ) → locatedOf s p ≡ located.At a n → (a + n ≤ length s) × (a ≤ 1024)
+  located-fits : Inside p s → (a n : ℕ) → locatedOf s p ≡ located.At a n → (a + n ≤ length s) × (a ≤ 1024)
   located-fits i a n e =
       let l = located-has a n e in
       let f = i a n (l .0) in
       (f, omega arith)
+
+-- what the calls by place cite: q is where the thing lies, as the finder p of the code answered; l is what `locate` answered, and k what the match told
+pub told : (s : List ℕ) (p q : Place) (l k : Located) → p ≡ q → l ≡ locatedOf s p → l ≡ k → locatedOf s q ≡ k
+told s p q l k e f g = ap (locatedOf s) (sym e) ∙ sym f ∙ g
+
+-- and the part that is cut out there
+pub cut : (s : List ℕ) (q : Place) → Inside q s → (a n : ℕ) → locatedOf s q ≡ located.At a n → (partOf s a n ≡ take n (drop a s)) × (a < 65536)
+unfolding partOf
+cut s q i a n e =
+    let f = located-fits s q i a n e in
+    (rw (le-leb (a + n) (length s) (f .0)), omega arith)
 
 -- the code's `&s[8..s.len() - 4]`
 pub body-part : (s : List ℕ) → take (length s - 4 - 8) (drop 8 s) ≡ bodyOf s

@@ -1,17 +1,15 @@
 -- `applications::extension_at` meets its contract.
 -- Assumes nothing.
-use mathlib.Core.Path.{_≡_, refl, sym, ap, ap₂, _∙_}
-use native.Mathlib.Omega.{arith}
-use Prim.Native.Nat.{ℕ, _+_, _≤_}
+use mathlib.Core.Path.{_≡_, sym, ap, _∙_}
+use Prim.Native.Nat.{ℕ, _<_}
 use mathlib.Core.List.{List}
-use lib.ListN.{length}
-use Rattle.wire.proofs.Laws.Finders.{part}
+use lib.ListN.{take, drop}
 use Rattle.applications.specs.declared.Located.the-variants as located
 use Rattle.applications.specs.declared.ExtensionAnswer.the-variants as extension
 use Rattle.applications.specs.Places.{extensionAt}
 use Rattle.applications.specs.Records.{extensionOf}
-use Rattle.applications.specs.Answers.{locatedOf, extensionAnswer}
-use Rattle.applications.proofs.Laws.Acceptance.{located-fits}
+use Rattle.applications.specs.Answers.{locatedOf, partOf, extensionAnswer}
+use Rattle.applications.proofs.Laws.Acceptance.{told, cut}
 use Rattle.applications.proofs.Laws.Places.{sound-extension}
 use borrow.Author.Needs.{needs}
 use Rattle.applications.proofs.extension_at.Statement.{statement}
@@ -23,47 +21,34 @@ extension-place-requires c κs = search needs
 locate-requires : tie.Need-locate-requires
 locate-requires c κs = search needs
 
--- what the calls answered: a refusal, or where the thing lies; and that it lies in the section
-lost : (c : tie.After-known-told) → locatedOf (c .before .before .before .before .before .before .args .s .now) (extensionAt (c .before .before .before .before .before .before .args .scope) (c .before .before .before .before .before .before .args .j) (c .before .before .before .before .before .before .args .k) (c .before .before .before .before .before .before .args .m) (c .before .before .before .before .before .before .args .s .now)) ≡ located.Refused (c .before .r .given .0 .0)
-lost c = ap (locatedOf (c .before .before .before .before .before .before .args .s .now)) (sym (c .before .before .before .before .extension-place .ensures)) ∙ sym (c .before .before .before .locate .ensures) ∙ c .before .r .given .1
-
-found : (c : tie.After-known-told2) → locatedOf (c .before .before .before .before .before .before .args .s .now) (extensionAt (c .before .before .before .before .before .before .args .scope) (c .before .before .before .before .before .before .args .j) (c .before .before .before .before .before .before .args .k) (c .before .before .before .before .before .before .args .m) (c .before .before .before .before .before .before .args .s .now)) ≡ located.At (c .before .start .given .0 .0) (c .before .start .given .0 .1 .0)
-found c = ap (locatedOf (c .before .before .before .before .before .before .args .s .now)) (sym (c .before .before .before .before .extension-place .ensures)) ∙ sym (c .before .before .before .locate .ensures) ∙ c .before .start .given .1
-
-fits : (c : tie.After-known-told2) → (c .before .start .given .0 .0 + c .before .start .given .0 .1 .0 ≤ length (c .before .before .before .before .before .before .args .s .now)) × (c .before .start .given .0 .0 ≤ 1024)
-fits c = located-fits (c .before .before .before .before .before .before .args .s .now) (extensionAt (c .before .before .before .before .before .before .args .scope) (c .before .before .before .before .before .before .args .j) (c .before .before .before .before .before .before .args .k) (c .before .before .before .before .before .before .args .m) (c .before .before .before .before .before .before .args .s .now)) (sound-extension (c .before .before .before .before .before .before .args .scope) (c .before .before .before .before .before .before .args .j) (c .before .before .before .before .before .before .args .k) (c .before .before .before .before .before .before .args .m) (c .before .before .before .before .before .before .args .s .now)) _ _ (found c)
-
 enum-known-r : tie.Need-enum-known-r
 enum-known-r c = search needs
 
 enum-known-start : tie.Need-enum-known-start
 enum-known-start c = search needs
 
-add-e : tie.Need-add-e
-add-e c = omega (arith, fits c)
+-- where the thing lies, and the part that is cut out there
+found : (c : tie.After-known-told2) → locatedOf (c .before .before .before .before .before .before .args .s .now) (extensionAt (c .before .before .before .before .before .before .args .scope) (c .before .before .before .before .before .before .args .j) (c .before .before .before .before .before .before .args .k) (c .before .before .before .before .before .before .args .m) (c .before .before .before .before .before .before .args .s .now)) ≡ located.At (c .before .start .given .0 .0) (c .before .start .given .0 .1 .0)
+found c = told _ _ (extensionAt (c .before .before .before .before .before .before .args .scope) (c .before .before .before .before .before .before .args .j) (c .before .before .before .before .before .before .args .k) (c .before .before .before .before .before .before .args .m) (c .before .before .before .before .before .before .args .s .now)) _ _ (c .before .before .before .before .extension-place .ensures) (c .before .before .before .locate .ensures) (c .before .start .given .1)
 
-sub-extension-of : tie.Need-sub-extension-of
-sub-extension-of c = search needs
+there : (c : tie.After-known-told2) → (partOf (c .before .before .before .before .before .before .args .s .now) (c .before .start .given .0 .0) (c .before .start .given .0 .1 .0) ≡ take (c .before .start .given .0 .1 .0) (drop (c .before .start .given .0 .0) (c .before .before .before .before .before .before .args .s .now))) × (c .before .start .given .0 .0 < 65536)
+there c = cut _ (extensionAt (c .before .before .before .before .before .before .args .scope) (c .before .before .before .before .before .before .args .j) (c .before .before .before .before .before .before .args .k) (c .before .before .before .before .before .before .args .m) (c .before .before .before .before .before .before .args .s .now)) (sound-extension (c .before .before .before .before .before .before .args .scope) (c .before .before .before .before .before .before .args .j) (c .before .before .before .before .before .before .args .k) (c .before .before .before .before .before .before .args .m) (c .before .before .before .before .before .before .args .s .now)) _ _ (found c)
 
-part-extension-of-start : tie.Need-part-extension-of-start
-part-extension-of-start c = search needs
-
-part-extension-of-end : tie.Need-part-extension-of-end
-part-extension-of-end c = omega (arith, fits c)
+part-requires : tie.Need-part-requires
+part-requires c κs = search needs
 
 extension-of-requires : tie.Need-extension-of-requires
-extension-of-requires c κs = omega (arith, fits (c .before))
+extension-of-requires c κs = there (c .before) .1
 
 returns : tie.Need-returns
 unfolding extensionAnswer
-returns c = rw (lost c)
+returns c = rw (told _ _ (extensionAt (c .before .before .before .before .before .before .args .scope) (c .before .before .before .before .before .before .args .j) (c .before .before .before .before .before .before .args .k) (c .before .before .before .before .before .before .args .m) (c .before .before .before .before .before .before .args .s .now)) _ _ (c .before .before .before .before .extension-place .ensures) (c .before .before .before .locate .ensures) (c .before .r .given .1))
 
 returns-2 : tie.Need-returns-2
 unfolding extensionAnswer
 returns-2 c =
-    let s = c .before .before .before .before .before .before .before .before .args .s .now in
-    let k = c .before .before .before .start .given .0 in
-    rw (found (c .before .before)) (ap extension.Found (c .extension-of .ensures ∙ ap (λ (l : List ℕ). extensionOf l (k .0)) (part s (k .0) (k .1 .0))))
+    let x = there (c .before .before) in
+    rw (found (c .before .before)) (ap extension.Found (c .extension-of .ensures ∙ ap (λ (l : List ℕ). extensionOf l (c .before .before .before .start .given .0 .0)) (c .before .part .ensures ∙ x .0)))
 
 pub extension-at-spec : {M : Type 1} → statement M
 extension-at-spec =
@@ -73,10 +58,7 @@ extension-at-spec =
     locate-requires
     enum-known-r
     enum-known-start
-    add-e
-    sub-extension-of
-    part-extension-of-start
-    part-extension-of-end
+    part-requires
     extension-of-requires
     returns
     returns-2)

@@ -2,15 +2,14 @@
 -- Assumes nothing.
 use borrow.Author.Needs.{needs}
 use Prim.Native.Nat.{_≤_, _-_}
-use native.Mathlib.Omega.{arith}
 use mathlib.Core.Path.{_≡_, refl, sym, ap, _∙_}
-use lib.ListN.{length, take, drop}
-use Rattle.wire.proofs.Laws.Finders.{part}
+use native.Mathlib.Omega.{arith}
+use lib.ListN.{length}
 use Rattle.descriptors.specs.Kinds.{sizeOf}
-use Rattle.descriptors.specs.Contents.{testOf}
 use Rattle.descriptors.proofs.Laws.Kinds.{kind-of}
+use Rattle.descriptors.specs.Contents.{testOf}
 use Rattle.wire.specs.Places.{first}
-use Rattle.wire.proofs.Laws.Loops.{Finding, tail, item-fits, find-stop, find-hit, find-turn, find-done}
+use Rattle.wire.proofs.Laws.Loops.{Finding, find-stop, find-hit, find-turn, find-done}
 use Rattle.descriptors.proofs.lists.find.Statement.{statement}
 use Rattle.descriptors.proofs.lists.find.Tie as tie
 
@@ -24,54 +23,29 @@ loop-holds : tie.Need-loop-holds Inv-loop μ-loop
 unfolding first
 loop-holds c = (omega arith, omega arith, refl)
 
-sub-size-of : tie.Need-sub-size-of Inv-loop μ-loop
-sub-size-of c = search needs
-
-part-size-of-start : tie.Need-part-size-of-start Inv-loop μ-loop
-part-size-of-start c = search needs
-
-part-size-of-end : tie.Need-part-size-of-end Inv-loop μ-loop
-part-size-of-end c = search needs
-
-size-of-requires : tie.Need-size-of-requires Inv-loop μ-loop
-size-of-requires c κs = search needs
-
--- what the calls answered: the size of the item at i, and whether it meets the test
-sized : (c : tie.After-size-of Inv-loop μ-loop) → c .size-of .result ≡ sizeOf (c .before .before .before .before .before .args .kind) (drop (c .before .before .before .loop .i) (c .before .before .before .before .before .args .s .now))
-sized c = c .size-of .ensures ∙ ap (sizeOf _) (tail (c .before .before .before .before .before .args .s .now) (c .before .before .before .loop .i))
-
-tested : (c : tie.After-meets Inv-loop μ-loop) → c .meets .result ≡ testOf (c .before .before .before .before .before .before .before .before .args .test) (take (c .before .before .before .size-of .result) (drop (c .before .before .before .before .before .before .loop .i) (c .before .before .before .before .before .before .before .before .args .s .now)))
-tested c = c .meets .ensures ∙ ap (testOf _) (part (c .before .before .before .before .before .before .before .before .args .s .now) (c .before .before .before .before .before .before .loop .i) (c .before .before .before .size-of .result))
+size-at-requires : tie.Need-size-at-requires Inv-loop μ-loop
+size-at-requires c κs = search needs
 
 returns : tie.Need-returns Inv-loop μ-loop
-returns c = find-stop (sizeOf _) (kind-of _) _ _ _ (sized (c .before)) (testOf _) _ (c .before .before .before .before .loop .inv) (c .if1 .taken)
+returns c = find-stop (sizeOf _) (kind-of _) _ _ _ (c .before .size-at .ensures .0) (testOf _) _ (c .before .before .before .loop .inv) (c .if1 .taken)
 
-add-e : tie.Need-add-e Inv-loop μ-loop
-add-e c = omega (arith, item-fits (sizeOf _) (kind-of _) _ _ _ (sized (c .before)) (c .before .before .before .before .loop .inv .0))
-
-sub-meets : tie.Need-sub-meets Inv-loop μ-loop
-sub-meets c = omega (arith, item-fits (sizeOf _) (kind-of _) _ _ _ (sized (c .before)) (c .before .before .before .before .loop .inv .0))
-
-part-meets-start : tie.Need-part-meets-start Inv-loop μ-loop
-part-meets-start c = omega (arith, item-fits (sizeOf _) (kind-of _) _ _ _ (sized (c .before)) (c .before .before .before .before .loop .inv .0))
-
-part-meets-end : tie.Need-part-meets-end Inv-loop μ-loop
-part-meets-end c = omega (arith, item-fits (sizeOf _) (kind-of _) _ _ _ (sized (c .before)) (c .before .before .before .before .loop .inv .0))
-
-meets-requires : tie.Need-meets-requires Inv-loop μ-loop
-meets-requires c κs = search needs
+meets-at-requires : tie.Need-meets-at-requires Inv-loop μ-loop
+meets-at-requires c κs = search needs
 
 returns-2 : tie.Need-returns-2 Inv-loop μ-loop
-returns-2 c = find-hit (sizeOf _) (kind-of _) _ _ _ (sized (c .before .before .before .before)) (testOf _) _ (c .before .before .before .before .before .before .before .loop .inv) (c .before .before .before .if1 .left) (sym (tested (c .before)) ∙ c .if2 .taken)
+returns-2 c = find-hit (sizeOf _) (kind-of _) _ _ _ (c .before .before .before .size-at .ensures .0) (testOf _) _ (c .before .before .before .before .before .loop .inv) (c .before .before .if1 .left) (sym (c .before .meets-at .ensures) ∙ c .if2 .taken)
+
+add-i : tie.Need-add-i Inv-loop μ-loop
+add-i c = omega arith
 
 add-k : tie.Need-add-k Inv-loop μ-loop
-add-k c = omega (arith, item-fits (sizeOf _) (kind-of _) _ _ _ (sized (c .before .before .before .before)) (c .before .before .before .before .before .before .before .loop .inv .0))
+add-k c = omega (arith, c .before .before .if1 .left)
 
 loop-less : tie.Need-loop-less Inv-loop μ-loop
-loop-less c = omega (arith, item-fits (sizeOf _) (kind-of _) _ _ _ (sized (c .before .before .before .before)) (c .before .before .before .before .before .before .before .loop .inv .0), c .before .before .before .if1 .left)
+loop-less c = omega (arith, c .before .before .if1 .left)
 
 loop-again : tie.Need-loop-again Inv-loop μ-loop
-loop-again c = find-turn (sizeOf _) (kind-of _) _ _ _ (sized (c .before .before .before .before)) (testOf _) _ (c .before .before .before .before .before .before .before .loop .inv) (c .before .before .before .if1 .left) (sym (tested (c .before)) ∙ c .if2 .left)
+loop-again c = find-turn (sizeOf _) (kind-of _) _ _ _ (c .before .before .before .size-at .ensures .0) (testOf _) _ (c .before .before .before .before .before .loop .inv) (c .before .before .if1 .left) (sym (c .before .meets-at .ensures) ∙ c .if2 .left)
 
 returns-3 : tie.Need-returns-3 Inv-loop μ-loop
 returns-3 c = find-done (sizeOf _) (kind-of _) (c .before .before .before .args .s .now) (c .before .loop .i) (omega arith) (testOf _) _ (c .before .loop .inv)
@@ -83,17 +57,11 @@ find-spec =
     Inv-loop
     μ-loop
     loop-holds
-    sub-size-of
-    part-size-of-start
-    part-size-of-end
-    size-of-requires
+    size-at-requires
     returns
-    add-e
-    sub-meets
-    part-meets-start
-    part-meets-end
-    meets-requires
+    meets-at-requires
     returns-2
+    add-i
     add-k
     loop-less
     loop-again

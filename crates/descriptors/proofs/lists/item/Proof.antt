@@ -2,13 +2,13 @@
 -- Assumes nothing.
 use borrow.Author.Needs.{needs}
 use Prim.Native.Nat.{_≤_, _-_}
+use mathlib.Core.Path.{_≡_, refl, sym, ap, _∙_}
 use native.Mathlib.Omega.{arith}
-use mathlib.Core.Path.{_≡_, refl, ap, _∙_}
-use lib.ListN.{length, drop}
+use lib.ListN.{length}
 use Rattle.descriptors.specs.Kinds.{sizeOf}
 use Rattle.descriptors.proofs.Laws.Kinds.{kind-of}
 use Rattle.wire.specs.Places.{itemAt}
-use Rattle.wire.proofs.Laws.Loops.{Seeking, tail, item-fits, seek-stop, seek-hit, seek-turn, seek-done}
+use Rattle.wire.proofs.Laws.Loops.{Seeking, seek-stop, seek-hit, seek-turn, seek-done}
 use Rattle.descriptors.proofs.lists.item.Statement.{statement}
 use Rattle.descriptors.proofs.lists.item.Tie as tie
 
@@ -22,39 +22,26 @@ loop-holds : tie.Need-loop-holds Inv-loop μ-loop
 unfolding itemAt
 loop-holds c = (omega arith, refl)
 
-sub-size-of : tie.Need-sub-size-of Inv-loop μ-loop
-sub-size-of c = search needs
-
-part-size-of-start : tie.Need-part-size-of-start Inv-loop μ-loop
-part-size-of-start c = search needs
-
-part-size-of-end : tie.Need-part-size-of-end Inv-loop μ-loop
-part-size-of-end c = search needs
-
-size-of-requires : tie.Need-size-of-requires Inv-loop μ-loop
-size-of-requires c κs = search needs
-
--- what the call answered for the list from i on
-sized : (c : tie.After-size-of Inv-loop μ-loop) → c .size-of .result ≡ sizeOf (c .before .before .before .before .before .args .kind) (drop (c .before .before .before .loop .i) (c .before .before .before .before .before .args .s .now))
-sized c = c .size-of .ensures ∙ ap (sizeOf _) (tail (c .before .before .before .before .before .args .s .now) (c .before .before .before .loop .i))
+size-at-requires : tie.Need-size-at-requires Inv-loop μ-loop
+size-at-requires c κs = search needs
 
 returns : tie.Need-returns Inv-loop μ-loop
-returns c = seek-stop (sizeOf _) (kind-of _) _ _ _ (sized (c .before)) _ (c .before .before .before .before .loop .left) (c .before .before .before .before .loop .inv) (c .if1 .taken)
+returns c = seek-stop (sizeOf _) (kind-of _) _ _ _ (c .before .size-at .ensures .0) _ (c .before .before .before .loop .left) (c .before .before .before .loop .inv) (c .if1 .taken)
 
 returns-2 : tie.Need-returns-2 Inv-loop μ-loop
-returns-2 c = seek-hit (sizeOf _) (kind-of _) _ _ _ (sized (c .before .before)) _ (c .before .before .before .before .before .loop .left) (c .before .before .before .before .before .loop .inv) (c .before .if1 .left) (c .if2 .taken)
+returns-2 c = seek-hit (sizeOf _) (kind-of _) _ _ _ (c .before .before .size-at .ensures .0) _ (c .before .before .before .before .loop .left) (c .before .before .before .before .loop .inv) (c .before .if1 .left) (c .if2 .taken)
 
 add-i : tie.Need-add-i Inv-loop μ-loop
-add-i c = omega (arith, item-fits (sizeOf _) (kind-of _) _ _ _ (sized (c .before .before)) (c .before .before .before .before .before .loop .inv .0))
+add-i c = omega arith
 
 sub-left : tie.Need-sub-left Inv-loop μ-loop
 sub-left c = omega (arith, c .if2 .left)
 
 loop-less : tie.Need-loop-less Inv-loop μ-loop
-loop-less c = omega (arith, item-fits (sizeOf _) (kind-of _) _ _ _ (sized (c .before .before)) (c .before .before .before .before .before .loop .inv .0), c .before .if1 .left)
+loop-less c = omega (arith, c .before .if1 .left)
 
 loop-again : tie.Need-loop-again Inv-loop μ-loop
-loop-again c = seek-turn (sizeOf _) (kind-of _) _ _ _ (sized (c .before .before)) _ (c .before .before .before .before .before .loop .left) (c .before .before .before .before .before .loop .inv) (c .before .if1 .left) (c .if2 .left)
+loop-again c = seek-turn (sizeOf _) (kind-of _) _ _ _ (c .before .before .size-at .ensures .0) _ (c .before .before .before .before .loop .left) (c .before .before .before .before .loop .inv) (c .before .if1 .left) (c .if2 .left)
 
 returns-3 : tie.Need-returns-3 Inv-loop μ-loop
 returns-3 c = seek-done (sizeOf _) (kind-of _) (c .before .before .before .args .s .now) (c .before .loop .i) (omega arith) _ (c .before .loop .left) (c .before .loop .inv)
@@ -66,10 +53,7 @@ item-spec =
     Inv-loop
     μ-loop
     loop-holds
-    sub-size-of
-    part-size-of-start
-    part-size-of-end
-    size-of-requires
+    size-at-requires
     returns
     returns-2
     add-i

@@ -2,14 +2,14 @@
 -- Assumes nothing.
 use borrow.Author.Needs.{needs}
 use Prim.Native.Nat.{_≤_, _-_}
-use native.Mathlib.Omega.{arith}
 use mathlib.Core.Path.{_≡_, refl, sym, ap, _∙_}
-use lib.ListN.{length, take, drop}
-use Rattle.wire.proofs.Laws.Finders.{part}
+use native.Mathlib.Omega.{arith}
+use lib.ListN.{length}
 use Rattle.descriptors.specs.Kinds.{sizeOf}
-use Rattle.descriptors.specs.Contents.{testOf}
 use Rattle.descriptors.proofs.Laws.Kinds.{kind-of}
-use Rattle.wire.proofs.Laws.Loops.{Counting, tail, item-fits, count-stop, count-hit, count-miss, count-done}
+use Rattle.descriptors.specs.Contents.{testOf}
+use mathlib.Core.Logic.{⊎-elim}
+use Rattle.wire.proofs.Laws.Loops.{Counting, count-stop, count-hit, count-miss, count-done}
 use Rattle.descriptors.proofs.lists.number_of.Statement.{statement}
 use Rattle.descriptors.proofs.lists.number_of.Tie as tie
 
@@ -22,57 +22,32 @@ abbrev μ-loop : tie.MeasureT-loop
 loop-holds : tie.Need-loop-holds Inv-loop μ-loop
 loop-holds c = (omega arith, omega arith, omega arith)
 
-sub-size-of : tie.Need-sub-size-of Inv-loop μ-loop
-sub-size-of c = search needs
-
-part-size-of-start : tie.Need-part-size-of-start Inv-loop μ-loop
-part-size-of-start c = search needs
-
-part-size-of-end : tie.Need-part-size-of-end Inv-loop μ-loop
-part-size-of-end c = search needs
-
-size-of-requires : tie.Need-size-of-requires Inv-loop μ-loop
-size-of-requires c κs = search needs
-
--- what the calls answered: the size of the item at i, and whether it meets the test
-sized : (c : tie.After-size-of Inv-loop μ-loop) → c .size-of .result ≡ sizeOf (c .before .before .before .before .before .args .kind) (drop (c .before .before .before .loop .i) (c .before .before .before .before .before .args .s .now))
-sized c = c .size-of .ensures ∙ ap (sizeOf _) (tail (c .before .before .before .before .before .args .s .now) (c .before .before .before .loop .i))
-
-tested : (c : tie.After-meets Inv-loop μ-loop) → c .meets .result ≡ testOf (c .before .before .before .before .before .before .before .before .args .test) (take (c .before .before .before .size-of .result) (drop (c .before .before .before .before .before .before .loop .i) (c .before .before .before .before .before .before .before .before .args .s .now)))
-tested c = c .meets .ensures ∙ ap (testOf _) (part (c .before .before .before .before .before .before .before .before .args .s .now) (c .before .before .before .before .before .before .loop .i) (c .before .before .before .size-of .result))
+size-at-requires : tie.Need-size-at-requires Inv-loop μ-loop
+size-at-requires c κs = search needs
 
 returns : tie.Need-returns Inv-loop μ-loop
-returns c = count-stop (sizeOf _) (kind-of _) _ _ _ (sized (c .before)) (testOf _) _ (c .before .before .before .before .loop .inv) (c .if1 .taken)
+returns c = count-stop (sizeOf _) (kind-of _) _ _ _ (c .before .size-at .ensures .0) (testOf _) _ (c .before .before .before .loop .inv) (c .if1 .taken)
 
-add-e : tie.Need-add-e Inv-loop μ-loop
-add-e c = omega (arith, item-fits (sizeOf _) (kind-of _) _ _ _ (sized (c .before)) (c .before .before .before .before .loop .inv .0))
-
-sub-meets : tie.Need-sub-meets Inv-loop μ-loop
-sub-meets c = omega (arith, item-fits (sizeOf _) (kind-of _) _ _ _ (sized (c .before)) (c .before .before .before .before .loop .inv .0))
-
-part-meets-start : tie.Need-part-meets-start Inv-loop μ-loop
-part-meets-start c = omega (arith, item-fits (sizeOf _) (kind-of _) _ _ _ (sized (c .before)) (c .before .before .before .before .loop .inv .0))
-
-part-meets-end : tie.Need-part-meets-end Inv-loop μ-loop
-part-meets-end c = omega (arith, item-fits (sizeOf _) (kind-of _) _ _ _ (sized (c .before)) (c .before .before .before .before .loop .inv .0))
-
-meets-requires : tie.Need-meets-requires Inv-loop μ-loop
-meets-requires c κs = search needs
+meets-at-requires : tie.Need-meets-at-requires Inv-loop μ-loop
+meets-at-requires c κs = search needs
 
 add-m : tie.Need-add-m Inv-loop μ-loop
-add-m c = omega (arith, item-fits (sizeOf _) (kind-of _) _ _ _ (sized (c .before .before .before .before)) (c .before .before .before .before .before .before .before .loop .inv .0))
+add-m c = omega (arith, c .before .before .if1 .left)
+
+add-i : tie.Need-add-i Inv-loop μ-loop
+add-i c = omega arith
 
 loop-less : tie.Need-loop-less Inv-loop μ-loop
-loop-less c = omega (arith, item-fits (sizeOf _) (kind-of _) _ _ _ (sized (c .before .before .before .before)) (c .before .before .before .before .before .before .before .loop .inv .0), c .before .before .before .if1 .left)
+loop-less c = omega (arith, c .before .before .if1 .left)
 
 loop-again : tie.Need-loop-again Inv-loop μ-loop
-loop-again c = count-hit (sizeOf _) (kind-of _) _ _ _ (sized (c .before .before .before .before)) (testOf _) _ (c .before .before .before .before .before .before .before .loop .inv) (c .before .before .before .if1 .left) (sym (tested (c .before)) ∙ c .if2 .taken)
-
-loop-less-2 : tie.Need-loop-less-2 Inv-loop μ-loop
-loop-less-2 c = omega (arith, item-fits (sizeOf _) (kind-of _) _ _ _ (sized (c .before .before .before .before)) (c .before .before .before .before .before .before .before .loop .inv .0), c .before .before .before .if1 .left)
-
-loop-again-2 : tie.Need-loop-again-2 Inv-loop μ-loop
-loop-again-2 c = count-miss (sizeOf _) (kind-of _) _ _ _ (sized (c .before .before .before .before)) (testOf _) _ (c .before .before .before .before .before .before .before .loop .inv) (c .before .before .before .if1 .left) (sym (tested (c .before)) ∙ c .if2 .left)
+loop-again c =
+    let l = c .before .before .before .before .before .loop in
+    let e = c .before .before .before .size-at .ensures .0 in
+    ⊎-elim
+    (λ w. rw (w .1) (count-hit (sizeOf _) (kind-of _) _ _ _ e (testOf _) _ (l .inv) (c .before .before .if1 .left) (sym (c .before .meets-at .ensures) ∙ w .0 .taken)))
+    (λ w. rw (w .1) (count-miss (sizeOf _) (kind-of _) _ _ _ e (testOf _) _ (l .inv) (c .before .before .if1 .left) (sym (c .before .meets-at .ensures) ∙ w .0 .left)))
+    (c .if2 .came)
 
 returns-2 : tie.Need-returns-2 Inv-loop μ-loop
 returns-2 c = count-done (sizeOf _) (kind-of _) (c .before .before .before .args .s .now) (c .before .loop .i) (omega arith) (testOf _) _ (c .before .loop .inv)
@@ -84,19 +59,11 @@ number-of-spec =
     Inv-loop
     μ-loop
     loop-holds
-    sub-size-of
-    part-size-of-start
-    part-size-of-end
-    size-of-requires
+    size-at-requires
     returns
-    add-e
-    sub-meets
-    part-meets-start
-    part-meets-end
-    meets-requires
+    meets-at-requires
     add-m
+    add-i
     loop-less
     loop-again
-    loop-less-2
-    loop-again-2
     returns-2)
