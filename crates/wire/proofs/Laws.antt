@@ -6,5 +6,4 @@ pub mod Meaning
 pub mod Loops
 pub mod Counted
 pub mod Finders
-pub mod Fixed
 pub mod Parts

@@ -153,10 +153,6 @@ pub count-at : (k : Kind) (s : L.List ℕ) (a n : ℕ) → number (testOf Any) (
 unfolding countAt count partAt
 count-at k s a n = count-any (items (sizeOf k) (take n (drop a s)))
 
-pub count-is : (k : Kind) (l : L.List ℕ) → number (testOf Any) (items (sizeOf k) l) ≡ count (sizeOf k) l
-unfolding count
-count-is k l = count-any (items (sizeOf k) l)
-
 -- a step from a place, as the code takes it: p is where it starts, r what it answers in the part there
 module _ (step : Step) (p : Place) (s : L.List ℕ) where
   pub step-from : (q : Place) → p ≡ q → inPart (stepIn step) p s ≡ inPart (stepIn step) q s

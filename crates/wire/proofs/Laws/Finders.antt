@@ -72,13 +72,6 @@ item-is size kind k xs a n e =
     let c = covers size kind xs in
     lies size kind (q .0) (q .1) (q .2) (c .0) xs a n (rw (q .3) (wholes size kind xs)) (rw (q .3) (c .1)) (q .4) (q .5)
 
--- an item that was found has its header
-pub item-least : (h : ℕ) (more : List ℕ → ℕ) (k : ℕ) (xs : List ℕ) (a n : ℕ) → itemAt (framed h more) k xs ≡ At a n → h ≤ n
-item-least h more k xs a n e =
-    let r = item-is (framed h more) (framed-kind h more) k xs a n e in
-    let l = framed-least h more (drop a xs) (λ z. omega (arith, z, r .1, r .2)) in
-    omega (arith, l, r .1)
-
 -- what a finder finds lies in the list
 abbrev pub Sound : Finder → Type 0
 Sound f = (xs : List ℕ) (a n : ℕ) → f xs ≡ At a n → a + n ≤ length xs

@@ -3,7 +3,7 @@
 use Prim.Native.Nat.{ℕ, zero, suc, _+_, _≤_, _<_}
 use mathlib.Core.Path.{_≡_, refl, sym, ap, _∙_}
 use mathlib.Core.Logic.{_↔_}
-use mathlib.Core.Bool.{Bool, true, false, cond}
+use mathlib.Core.Bool.{Bool, true, false, not, cond, _&&_}
 use mathlib.Core.List.{List, [], _∷_, _++_, append-assoc}
 use native.Mathlib.Omega.{arith}
 use lib.Dec.{eqb}
@@ -11,8 +11,9 @@ use lib.ListN.{length, take, drop, length-append}
 use lib.Seq.{length-take-le, take-at, drop-at, take-take, take-length}
 use borrow.Author.Tests.{eq-eqb, eqb-true, eqb-false}
 use Rattle.wire.specs.declared.Place.the-variants.{At, Nothing}
-use Rattle.wire.specs.Items.{Size, IsKind, Whole, Wholes, items, itemsIn, joined, fills, count, endOf}
-use Rattle.wire.specs.Places.{itemAt, placeFrom}
+use Rattle.wire.specs.declared.Hit.the-variants.{Item, Missing}
+use Rattle.wire.specs.Items.{Size, IsKind, Whole, Wholes, items, itemsIn, joined, fills, count, endOf, every}
+use Rattle.wire.specs.Places.{itemAt, placeFrom, firstFrom}
 use Rattle.wire.proofs.Laws.Steps.{items-step, covers}
 
 empty : (l : List ℕ) → length l ≡ 0 → l ≡ []
@@ -148,3 +149,29 @@ module _ (size : Size) (kind : IsKind size) where
       let c = covers size kind xs in
       let q = end-split size n at (items size xs) (wholes xs) z in
       (q .0, joined (q .1) ++ c .0, q .2, q .3, sym (append-assoc (joined (q .0)) (joined (q .1)) (c .0)) ∙ ap (λ (l : List ℕ). l ++ c .0) (sym (joined-both (q .0) (q .1)) ∙ ap joined (q .4)) ∙ c .1)
+
+-- THE FIRST THAT MEETS A TEST is one that meets it, with none before it that does; and there is none only where none does
+pub first-hit : (good : List ℕ → Bool) (k : ℕ) (is : List (List ℕ)) (j : ℕ) → firstFrom good k is ≡ Item j
+    → (js : List (List ℕ)) × (x : List ℕ) × (ks : List (List ℕ)) × (js ++ x ∷ ks ≡ is) × (j ≡ k + length js) × (good x ≡ true) × (every (λ y. not (good y)) js ≡ true)
+unfolding firstFrom every
+first-hit good k [] j e = let z : _≡_ {A = ℕ} 0 1 = cc in absurd (omega arith)
+first-hit good k (x ∷ is) j e = go (first-hit good (k + 1) is j) (good x) refl e
+  where
+    go : (firstFrom good (k + 1) is ≡ Item j
+        → (js : List (List ℕ)) × (y : List ℕ) × (ks : List (List ℕ)) × (js ++ y ∷ ks ≡ is) × (j ≡ k + 1 + length js) × (good y ≡ true) × (every (λ y. not (good y)) js ≡ true))
+        → (t : Bool) → good x ≡ t → cond t (Item k) (firstFrom good (k + 1) is) ≡ Item j
+        → (js : List (List ℕ)) × (y : List ℕ) × (ks : List (List ℕ)) × (js ++ y ∷ ks ≡ x ∷ is) × (j ≡ k + length js) × (good y ≡ true) × (every (λ y. not (good y)) js ≡ true)
+    go f true g e = let p : k ≡ j = cc in ([], x, is, refl, omega arith, g, refl)
+    go f false g e =
+        let q = f e in
+        (x ∷ q .0, q .1, q .2, ap (λ (l : List (List ℕ)). x ∷ l) (q .3), omega (arith, q .4), q .5, rw g (q .6))
+
+pub first-none : (good : List ℕ → Bool) (k : ℕ) (is : List (List ℕ)) → firstFrom good k is ≡ Missing → every (λ y. not (good y)) is ≡ true
+unfolding firstFrom every
+first-none good k [] e = refl
+first-none good k (x ∷ is) e = go (first-none good (k + 1) is) (good x) e
+  where
+    go : (firstFrom good (k + 1) is ≡ Missing → every (λ y. not (good y)) is ≡ true) → (t : Bool) → cond t (Item k) (firstFrom good (k + 1) is) ≡ Missing
+        → (not t && every (λ y. not (good y)) is) ≡ true
+    go f true e = let z : _≡_ {A = ℕ} 0 1 = cc in absurd (omega arith)
+    go f false e = f e
