@@ -7,7 +7,7 @@ use mathlib.Core.List.{List}
 use lib.Dec.{leb}
 use lib.ListN.{length, drop}
 use Rattle.wire.specs.Fields.{byteAt, twelveAt}
-use Rattle.wire.specs.Items.{Size, framed, fixed, items, endOf}
+use Rattle.wire.specs.Items.{Size, framed, measured, fixed, items, endOf}
 use Rattle.descriptors.specs.declared.Kind.{Kind}
 use Rattle.descriptors.specs.declared.Kind.the-variants.{Application, Descriptor, Profile, Label, Name, Base, Extension, Identifier}
 
@@ -17,7 +17,7 @@ application = framed 9 (λ h. twelveAt h 7)
 
 -- "A descriptor: tag, length, that many bytes."
 abbrev pub descriptor : Size
-descriptor = framed 2 (λ h. byteAt h 1)
+descriptor = measured 2 1
 
 -- 0x00: "profiles (16, 8, 8, 8 bits)"
 abbrev pub profile : Size
@@ -29,11 +29,11 @@ label = fixed 1
 
 -- 0x01: "language 3 bytes, length, name"
 abbrev pub name : Size
-name = framed 4 (λ h. byteAt h 3)
+name = measured 4 3
 
 -- 0x02, protocol 3: "each extension with its length"
 abbrev pub extension : Size
-extension = framed 1 (λ h. byteAt h 0)
+extension = measured 1 0
 
 -- where the extensions of a base begin, and how many there are
 abbrev pub extensionsStart : List ℕ → ℕ

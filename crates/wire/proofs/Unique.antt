@@ -12,6 +12,10 @@ use Rattle.wire.proofs.sixteen_at.Kinds as sixteen-kinds
 use Rattle.wire.proofs.sixteen_at.Reads as sixteen-reads
 use Rattle.wire.proofs.thirty_two_at.Kinds as thirty-two-kinds
 use Rattle.wire.proofs.thirty_two_at.Reads as thirty-two-reads
+use Rattle.wire.proofs.measured_size.Kinds as size-kinds
+use Rattle.wire.proofs.measured_size.Reads as size-reads
+use Rattle.wire.proofs.measured_end.Kinds as end-kinds
+use Rattle.wire.proofs.measured_end.Reads as end-reads
 
 eight-at : OneAnswer 1 eight-kinds.ps eight-kinds.r eight-reads.Post
 eight-at κs a x y s t p q = p .0 ∙ sym (q .0)
@@ -27,3 +31,9 @@ sixteen-at κs a x y s t p q = p .0 ∙ sym (q .0)
 
 thirty-two-at : OneAnswer 1 thirty-two-kinds.ps thirty-two-kinds.r thirty-two-reads.Post
 thirty-two-at κs a x y s t p q = p .0 ∙ sym (q .0)
+
+measured-size : OneAnswer 1 size-kinds.ps size-kinds.r size-reads.Post
+measured-size κs a x y s t p q = p ∙ sym q
+
+measured-end : OneAnswer 1 end-kinds.ps end-kinds.r end-reads.Post
+measured-end κs a x y s t p q = p ∙ sym q

@@ -6,6 +6,7 @@ use mathlib.Core.Bool.{Bool, true, cond, _&&_}
 use mathlib.Core.List.{List, [], _∷_, _++_}
 use lib.Dec.{leb, eqb}
 use lib.ListN.{length, take, drop}
+use Rattle.wire.specs.Fields.{byteAt}
 
 abbrev pub Size : Type 0
 Size = List ℕ → ℕ
@@ -17,6 +18,10 @@ said h more xs = h + more (take h xs)
 -- The usual kind: a header of h bytes, and as many bytes more as the header says.
 unfoldable pub framed : ℕ → (List ℕ → ℕ) → Size
 framed h more xs = cond (leb (said h more xs) (length xs)) (said h more xs) 0
+
+-- a header of h bytes, whose byte i counts the bytes after it
+abbrev pub measured : (h i : ℕ) → Size
+measured h i = framed h (λ x. byteAt x i)
 
 -- items of n bytes each
 abbrev pub fixed : ℕ → Size

@@ -6,6 +6,8 @@
 // some numbered tests is, in specs/Tests.antt.
 ghost use mathlib.Core.Path.{_≡_};
 ghost use Prim.Native.Nat.{_<_};
+ghost use lib.ListN.{take, drop};
+ghost use Rattle.wire.specs.Items.{measured, items, endOf};
 ghost use Rattle.wire.specs.Fields.{byteAt, twelveAt, sixteenAt, thirtyTwoAt};
 
 // A part of a slice: where it starts and how many bytes it has; or nothing.
@@ -63,4 +65,49 @@ pub fn thirty_two_at(s: &[u8], at: usize) -> u32
     }
     let from = &s[at..];
     ((sixteen_at(from, 0) as u32) << 16) | sixteen_at(from, 2) as u32
+}
+
+// The size of the item that a slice begins with: a header of `h` bytes, whose byte `at` says how
+// many bytes follow. 0 where they are not all there.
+pub fn measured_size(s: &[u8], h: usize, at: usize) -> usize
+    ensures { λ r. ⌜ r ≡ measured h at (now (s .entry)) ⌝ }
+{
+    if s.len() < h {
+        return 0;
+    }
+    let m = said_at(s, h, at);
+    if s.len() - h < m {
+        return 0;
+    }
+    h + m
+}
+
+// What the header says; a header that does not reach to its byte `at` says 0.
+fn said_at(s: &[u8], h: usize, at: usize) -> usize
+    ensures { λ r. ⌜ r ≡ byteAt (take h (now (s .entry))) at ⌝ }
+{
+    if h <= at {
+        return 0;
+    }
+    eight_at(s, at)
+}
+
+// Where the first `count` such items from `start` on end, 0 where there are fewer.
+pub fn measured_end(s: &[u8], start: usize, count: usize, h: usize, at: usize) -> usize
+    ensures { λ r. ⌜ r ≡ endOf count start (items (measured h at) (drop start (now (s .entry)))) ⌝ }
+{
+    let mut left = count;
+    let mut i = start;
+    while 0 < left {
+        if s.len() <= i {
+            return 0;
+        }
+        let n = measured_size(&s[i..], h, at);
+        if n == 0 {
+            return 0;
+        }
+        i += n;
+        left -= 1;
+    }
+    i
 }

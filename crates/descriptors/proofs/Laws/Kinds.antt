@@ -8,7 +8,6 @@ use native.Mathlib.Omega.{arith}
 use lib.Dec.{leb}
 use lib.ListN.{length, take, drop}
 use borrow.Author.Tests.{le-leb, lt-leb, leb-true}
-use lib.Seq.{getD-take}
 use Rattle.wire.specs.Fields.{byteAt, twelveAt, bits}
 use Rattle.wire.proofs.Laws.Fields.{field-take}
 use Rattle.wire.specs.Items.{IsKind, items, count, endOf}
@@ -85,9 +84,6 @@ application-least xs z = framed-least 9 (λ h. twelveAt h 7) xs z
 
 -- what code reads of a header is what the kind's definition says
 module _ (s : List ℕ) where
-  pub said-byte : (h i : ℕ) → i < h → byteAt (take h s) i ≡ byteAt s i
-  said-byte h i l = getD-take h s i 0 l
-
   pub said-twelve : (h i : ℕ) → i + 2 ≤ h → twelveAt (take h s) i ≡ twelveAt s i
   said-twelve h i l = ap (bits 0 12) (field-take 2 s h i l)
 

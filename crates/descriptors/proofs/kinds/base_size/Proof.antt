@@ -25,15 +25,15 @@ add-eight-at c = search needs
 eight-at-requires-2 : tie.Need-eight-at-requires-2
 eight-at-requires-2 c κs = search needs
 
-extensions-end-requires : tie.Need-extensions-end-requires
-extensions-end-requires c κs = search needs
+measured-end-requires : tie.Need-measured-end-requires
+measured-end-requires c κs = search needs
 
 returns-2 : tie.Need-returns-2
 returns-2 c =
     let s = c .before .before .before .before .before .args .s .now in
     let b : c .before .before .before .eight-at .result ≡ byteAt s 0 = c .before .before .before .eight-at .ensures .0 in
     let n : c .before .eight-at2 .result ≡ extensionCount s = c .before .eight-at2 .ensures .0 ∙ ap (λ (x : ℕ). byteAt s (1 + x)) b in
-    c .extensions-end .ensures ∙ rw (n, b) (sym (base-is s (omega arith)))
+    c .measured-end .ensures ∙ rw (n, b) (sym (base-is s (omega arith)))
 
 pub base-size-spec : {M : Type 1} → statement M
 base-size-spec =
@@ -44,5 +44,5 @@ base-size-spec =
     returns
     add-eight-at
     eight-at-requires-2
-    extensions-end-requires
+    measured-end-requires
     returns-2)
