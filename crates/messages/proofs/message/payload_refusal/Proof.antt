@@ -1,0 +1,34 @@
+-- `messages::message::payload_refusal` meets its contract.
+-- Assumes nothing.
+use borrow.Author.Needs.{needs}
+use Rattle.messages.proofs.message.payload_refusal.Statement.{statement}
+use Rattle.messages.proofs.message.payload_refusal.Tie as tie
+
+enum-told : tie.Need-enum-told
+enum-told c = search needs
+
+announcement-refusal-requires : tie.Need-announcement-refusal-requires
+announcement-refusal-requires c κs = search needs
+
+enum-told-2 : tie.Need-enum-told-2
+enum-told-2 c = search needs
+
+block-refusal-requires : tie.Need-block-refusal-requires
+block-refusal-requires c κs = search needs
+
+returns : tie.Need-returns
+returns c = cc
+
+returns-2 : tie.Need-returns-2
+returns-2 c = cc
+
+pub payload-refusal-spec : {M : Type 1} → statement M
+payload-refusal-spec =
+    tie.close
+    (tie.spec
+    enum-told
+    announcement-refusal-requires
+    enum-told-2
+    block-refusal-requires
+    returns
+    returns-2)

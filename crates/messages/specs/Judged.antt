@@ -1,0 +1,69 @@
+-- A carousel section, judged before any record is looked at: refused by one of 2 to 11, an announcement, or a block. 01, "The messages".
+-- Assumes nothing.
+use Prim.Native.Nat.{ℕ, _+_, _-_}
+use mathlib.Core.Bool.{Bool, cond}
+use mathlib.Core.List.{List}
+use lib.Dec.{eqb}
+use lib.ListN.{length}
+use Rattle.section.specs.declared.Rules.the-variants.{Carousel}
+use Rattle.section.specs.declared.Refusal.{Refusal}
+use Rattle.section.specs.declared.Header.{Header}
+use Rattle.section.specs.declared.Checked.{Checked}
+use Rattle.section.specs.declared.Checked.the-variants as checked
+use Rattle.section.specs.Header.{announcementTable}
+use Rattle.section.specs.Answer.{refused, checkedOf}
+use Rattle.messages.specs.declared.Table.{Table}
+use Rattle.messages.specs.declared.Table.the-variants.{Announcements, Blocks}
+use Rattle.messages.specs.declared.Announcement.{Announcement}
+use Rattle.messages.specs.declared.Block.{Block}
+use Rattle.messages.specs.declared.Judged.{Judged}
+use Rattle.messages.specs.declared.Judged.the-variants as judged
+use Rattle.messages.specs.Message.{bodyOf, identifierOf, adaptationOf, payloadOf}
+use Rattle.messages.specs.Contents.{downloadOf, blockSizeOf, moduleCountOf, modulesStart, modulesEnd, blockModuleOf, blockVersionOf, blockNumberOf}
+use Rattle.messages.specs.Refusals.{messageRefusal}
+
+-- "DSM-CC sections 0x3B and 0x3C become an announcement (DII) and blocks (DDB)"
+abbrev pub tableOf : ℕ → Table
+tableOf t = cond (eqb t announcementTable) Announcements Blocks
+
+-- where the payload begins in the section: 8 bytes of header, 12 of the message's, and the adaptation bytes
+abbrev pub payloadStart : List ℕ → ℕ
+payloadStart b = 20 + adaptationOf b
+
+-- what is kept of an announcement, and where its modules lie in the section
+unfoldable pub announcementOf : List ℕ → Announcement
+announcementOf b =
+    record {
+      download = downloadOf (payloadOf b);
+      «block_size» = blockSizeOf (payloadOf b);
+      count = moduleCountOf (payloadOf b);
+      start = payloadStart b + modulesStart (payloadOf b);
+      size = modulesEnd (payloadOf b) - modulesStart (payloadOf b);
+    }
+
+-- "in the latter the identifier is the downloadId"; what is kept of a block, and where its data lie in the section
+unfoldable pub blockOf : List ℕ → Block
+blockOf b =
+    record {
+      download = identifierOf b;
+      number = blockModuleOf (payloadOf b);
+      version = blockVersionOf (payloadOf b);
+      block = blockNumberOf (payloadOf b);
+      start = payloadStart b + 6;
+      size = length (payloadOf b) - 6;
+    }
+
+unfoldable pub readOf : Table → List ℕ → Judged
+readOf Announcements b = judged.Announced (announcementOf b)
+readOf Blocks b = judged.Carried (blockOf b)
+
+unfoldable pub messageJudged : Table → Header → List ℕ → Judged
+messageJudged t h b = cond (eqb (messageRefusal t h b) 0) (readOf t b) (judged.Refused (refused (messageRefusal t h b)))
+
+abbrev pub onChecked : {A : Type 0} → Checked → (Refusal → A) → (Header → A) → A
+onChecked (checked.Refused r) bad good = bad r
+onChecked (checked.Accepted h) bad good = good h
+
+-- the section check's refusal as it came; else the message's; else what the message says
+unfoldable pub judgedOf : List ℕ → Judged
+judgedOf s = onChecked (checkedOf Carousel s) (λ r. judged.Refused r) (λ h. messageJudged (tableOf (h .table)) h (bodyOf s))

@@ -1,0 +1,5 @@
+pub mod Message
+pub mod Contents
+pub mod Limits
+pub mod Refusals
+pub mod Judged

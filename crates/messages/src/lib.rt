@@ -1,0 +1,62 @@
+// Announcements (DII) and blocks (DDB): a carousel section, judged before any record is looked at
+// (refusals 2 to 11).
+//
+// What a message's fields are is said in specs/Message.antt and specs/Contents.antt, the limits of
+// 10 and 11 in specs/Limits.antt, one test for each number in specs/Refusals.antt, and the answer,
+// an equation for every slice, in specs/Judged.antt.
+
+mod limits;
+mod message;
+mod modules;
+
+use message::judge_message;
+use section::Checked;
+use section::Refusal;
+use section::Rules;
+ghost use mathlib.Core.Path.{_≡_};
+ghost use Rattle.messages.specs.Judged.{judgedOf};
+
+// Which of the carousel's two tables.
+pub enum Table {
+    Announcements,
+    Blocks,
+}
+
+// An announcement, and where its modules lie in the section.
+pub struct Announcement {
+    pub download: u32,
+    pub block_size: u16,
+    pub count: usize,
+    pub start: usize,
+    pub size: usize,
+}
+
+// A block, and where its data lie in the section.
+pub struct Block {
+    pub download: u32,
+    pub number: u16,
+    pub version: u8,
+    pub block: u16,
+    pub start: usize,
+    pub size: usize,
+}
+
+pub enum Judged {
+    Refused(Refusal),
+    Announced(Announcement),
+    Carried(Block),
+}
+
+// What a carousel section is, whatever was announced before.
+pub fn judge(s: &[u8]) -> Judged
+    ensures { λ r. ⌜ r ≡ judgedOf (now (s .entry)) ⌝ }
+{
+    let checked = section::check(s, Rules::Carousel);
+    match checked {
+        Checked::Refused(r) => Judged::Refused(r),
+        Checked::Accepted(h) => {
+            let e = s.len() - 4;
+            judge_message(&s[8..e], h)
+        }
+    }
+}
