@@ -1,11 +1,11 @@
--- `applications_test::print::print_bytes` stays within its slice and ends.
+-- `applications_test::print_bytes` stays within its slice and ends.
 -- Assumes nothing.
 use borrow.Author.Needs.{needs}
 use native.Mathlib.Omega.{arith}
 use Prim.Native.Nat.{_≤_, _-_}
 use lib.ListN.{length}
-use Rattle.applications_test.proofs.print.print_bytes.Statement.{statement}
-use Rattle.applications_test.proofs.print.print_bytes.Tie as tie
+use Rattle.applications_test.proofs.print_bytes.Statement.{statement}
+use Rattle.applications_test.proofs.print_bytes.Tie as tie
 
 abbrev Inv-loop : tie.InvT-loop
 Inv-loop b i₀ t4 i = i ≤ length b
