@@ -14,7 +14,7 @@ use Rattle.wire.proofs.Laws.Fields.{spelled-length}
 use Rattle.section.specs.declared.Rules.the-variants.{Application}
 use Rattle.section.specs.declared.Checked.the-variants.{Accepted}
 use Rattle.section.specs.Crc.{crcOf}
-use Rattle.section.specs.Header.{tableOf, syntaxOf, lengthOf, currentOf, sectionOf, lastOf, isTable, headerOf}
+use Rattle.section.specs.Header.{tableOf, syntaxOf, lengthOf, currentOf, sectionOf, lastOf, isTable, headerOf, bodyOf}
 use Rattle.section.specs.Refusals.{GoodSection}
 use Rattle.section.proofs.Laws.Crc.{own-crc}
 use Rattle.descriptors.specs.Contents.{known, known00}
@@ -22,7 +22,7 @@ use Rattle.descriptors.specs.Body.{goodLoop, soleLoop, ownLoop, applicationLoop
 use Rattle.descriptors.specs.Kinds.{application}
 use Rattle.applications.specs.declared.Class.the-variants.{Unsigned, Signed}
 use Rattle.applications.specs.declared.Control.the-variants.{Reserved}
-use Rattle.applications.specs.Acceptance.{bodyOf, judgedOf, GoodTable}
+use Rattle.applications.specs.Acceptance.{judgedOf, GoodTable}
 use Rattle.applications.specs.Records.{classOf, controlOf}
 use Rattle.applications.proofs.Laws.Exact.{accepted-exactly}
 

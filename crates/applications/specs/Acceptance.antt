@@ -6,6 +6,7 @@ use mathlib.Core.Bool.{cond, true}
 use mathlib.Core.List.{List, _++_}
 use lib.Dec.{eqb}
 use lib.ListN.{length, take, drop}
+use Rattle.section.specs.Header.{bodyOf}
 use Rattle.wire.specs.Items.{items, every}
 use Rattle.wire.specs.Tests.{Tests}
 use Rattle.section.specs.declared.Rules.the-variants.{Application}
@@ -14,22 +15,13 @@ use Rattle.section.specs.declared.Header.{Header}
 use Rattle.section.specs.declared.Checked.{Checked}
 use Rattle.section.specs.declared.Checked.the-variants.{Refused, Accepted}
 use Rattle.section.specs.Refusals.{sectionTests, GoodSection}
-use Rattle.section.specs.Answer.{refused, checkedOf}
+use Rattle.section.specs.Answer.{refused, checkedOf, onChecked}
 use Rattle.descriptors.specs.Kinds.{application}
 use Rattle.descriptors.specs.Body.{applicationLoop, ownLoop, soleLoop, bodyTests, bodyRefusal, WellFormed}
-
--- what stands between the header and the CRC
-abbrev pub bodyOf : List ℕ → List ℕ
-bodyOf s = take (length s - 12) (drop 8 s)
 
 -- the refusals of an application section, in the table's order: 2 to 7, 18
 abbrev pub applicationTests : List ℕ → Tests
 applicationTests s = sectionTests Application s ++ bodyTests (bodyOf s)
-
--- by cases of an answer
-abbrev pub onChecked : {A : Type 0} → Checked → (Refusal → A) → (Header → A) → A
-onChecked (Refused r) bad good = bad r
-onChecked (Accepted h) bad good = good h
 
 -- The section check's refusal as it came; else the body's; else accepted with the header's fields.
 unfoldable pub judgedOf : List ℕ → Checked

@@ -10,7 +10,7 @@ use Rattle.wire.specs.Fields.{byteAt, bits}
 use Rattle.wire.specs.Places.{onPlace, partAt}
 use Rattle.section.specs.declared.Refusal.{Refusal}
 use Rattle.section.specs.declared.Header.{Header}
-use Rattle.section.specs.Answer.{refused}
+use Rattle.section.specs.Answer.{refused, onChecked}
 use Rattle.descriptors.specs.declared.Kind.the-variants as kind
 use Rattle.applications.specs.declared.Scope.{Scope}
 use Rattle.applications.specs.declared.Repeated.{Repeated}
@@ -29,7 +29,7 @@ use Rattle.applications.specs.declared.ExtensionAnswer.{ExtensionAnswer}
 use Rattle.applications.specs.declared.ExtensionAnswer.the-variants as extension
 use Rattle.applications.specs.declared.Resolved.{Resolved}
 use Rattle.applications.specs.declared.Resolved.the-variants as resolved
-use Rattle.applications.specs.Acceptance.{onChecked, judgedOf}
+use Rattle.applications.specs.Acceptance.{judgedOf}
 use Rattle.applications.specs.Places.{commonAt, loopAt, ownAt, applicationAt, descriptorAt, repeatedAt, extensionAt, countAt}
 use Rattle.applications.specs.Records.{applicationOf, describedOf, itemOf, extensionOf}
 use Rattle.applications.specs.Labels.{labelAt, resolvedIn}

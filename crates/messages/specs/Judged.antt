@@ -10,15 +10,15 @@ use Rattle.section.specs.declared.Refusal.{Refusal}
 use Rattle.section.specs.declared.Header.{Header}
 use Rattle.section.specs.declared.Checked.{Checked}
 use Rattle.section.specs.declared.Checked.the-variants as checked
-use Rattle.section.specs.Header.{announcementTable}
-use Rattle.section.specs.Answer.{refused, checkedOf}
+use Rattle.section.specs.Header.{announcementTable, bodyOf}
+use Rattle.section.specs.Answer.{refused, checkedOf, onChecked}
 use Rattle.messages.specs.declared.Table.{Table}
 use Rattle.messages.specs.declared.Table.the-variants.{Announcements, Blocks}
 use Rattle.messages.specs.declared.Announcement.{Announcement}
 use Rattle.messages.specs.declared.Block.{Block}
 use Rattle.messages.specs.declared.Judged.{Judged}
 use Rattle.messages.specs.declared.Judged.the-variants as judged
-use Rattle.messages.specs.Message.{bodyOf, identifierOf, adaptationOf, payloadOf}
+use Rattle.messages.specs.Message.{identifierOf, adaptationOf, payloadOf}
 use Rattle.messages.specs.Contents.{downloadOf, blockSizeOf, moduleCountOf, modulesStart, modulesEnd, blockModuleOf, blockVersionOf, blockNumberOf}
 use Rattle.messages.specs.Refusals.{messageRefusal}
 
@@ -59,10 +59,6 @@ readOf Blocks b = judged.Carried (blockOf b)
 
 unfoldable pub messageJudged : Table → Header → List ℕ → Judged
 messageJudged t h b = cond (eqb (messageRefusal t h b) 0) (readOf t b) (judged.Refused (refused (messageRefusal t h b)))
-
-abbrev pub onChecked : {A : Type 0} → Checked → (Refusal → A) → (Header → A) → A
-onChecked (checked.Refused r) bad good = bad r
-onChecked (checked.Accepted h) bad good = good h
 
 -- the section check's refusal as it came; else the message's; else what the message says
 unfoldable pub judgedOf : List ℕ → Judged

@@ -5,14 +5,10 @@ use Prim.Native.Nat.{ℕ, _+_, _-_}
 use mathlib.Core.Bool.{Bool, cond}
 use mathlib.Core.List.{List}
 use lib.Dec.{eqb}
-use lib.ListN.{length, take, drop}
+use lib.ListN.{drop}
 use Rattle.wire.specs.Fields.{byteAt, sixteenAt, thirtyTwoAt}
 use Rattle.messages.specs.declared.Table.{Table}
 use Rattle.messages.specs.declared.Table.the-variants.{Announcements, Blocks}
-
--- what stands between the header and the CRC
-abbrev pub bodyOf : List ℕ → List ℕ
-bodyOf s = take (length s - 12) (drop 8 s)
 
 -- "At byte 8: 0x11, 0x03, message number 16, identifier 32, one byte unread, adaptation length 8, message length 16."
 abbrev pub messageOf : List ℕ → ℕ

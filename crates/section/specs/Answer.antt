@@ -4,6 +4,7 @@ use Prim.Native.Nat.{ℕ}
 use mathlib.Core.Bool.{cond}
 use mathlib.Core.List.{List}
 use lib.Dec.{eqb}
+use Rattle.section.specs.declared.Header.{Header}
 use Rattle.section.specs.Header.{headerOf}
 use Rattle.section.specs.Refusals.{refusalOf}
 use Rattle.section.specs.declared.Rules.{Rules}
@@ -23,3 +24,8 @@ refused n = record { number = n }
 -- refused with its number and no value besides, or accepted with the header's fields
 unfoldable pub checkedOf : Rules → List ℕ → Checked
 checkedOf rules s = cond (eqb (refusalOf rules s) 0) (Accepted (headerOf s)) (Refused (refused (refusalOf rules s)))
+
+-- by cases of an answer
+abbrev pub onChecked : {A : Type 0} → Checked → (Refusal → A) → (Header → A) → A
+onChecked (Refused r) bad good = bad r
+onChecked (Accepted h) bad good = good h

@@ -1,9 +1,10 @@
 -- The section's header, and what the application's and the carousel's rules make of it. 01, "The section".
 -- Assumes nothing.
-use Prim.Native.Nat.{ℕ}
+use Prim.Native.Nat.{ℕ, _-_}
 use mathlib.Core.Bool.{Bool, _||_}
 use mathlib.Core.List.{List}
 use lib.Dec.{eqb}
+use lib.ListN.{length, take, drop}
 use Rattle.wire.specs.Fields.{byteAt, sixteenAt, twelveAt, bits}
 use Rattle.section.specs.declared.Rules.{Rules}
 use Rattle.section.specs.declared.Rules.the-variants.{Application, Carousel}
@@ -37,6 +38,10 @@ sectionOf s = byteAt s 6
 
 abbrev pub lastOf : List ℕ → ℕ
 lastOf s = byteAt s 7
+
+-- "Body. CRC, 4 bytes.": what stands between the header and the CRC
+abbrev pub bodyOf : List ℕ → List ℕ
+bodyOf s = take (length s - 12) (drop 8 s)
 
 -- what is handed on of the header
 abbrev pub headerOf : List ℕ → Header

@@ -16,14 +16,14 @@ use Rattle.section.specs.declared.Refusal.{Refusal}
 use Rattle.section.specs.declared.Header.{Header}
 use Rattle.section.specs.declared.Checked.{Checked}
 use Rattle.section.specs.declared.Checked.the-variants.{Refused, Accepted}
-use Rattle.section.specs.Header.{headerOf}
+use Rattle.section.specs.Header.{headerOf, bodyOf}
 use Rattle.section.specs.Refusals.{GoodSection}
-use Rattle.section.specs.Answer.{refused, checkedOf}
+use Rattle.section.specs.Answer.{refused, checkedOf, onChecked}
 use Rattle.section.proofs.Laws.Exact.{accepted-has}
 use Rattle.descriptors.specs.Body.{bodyRefusal}
 use Rattle.applications.specs.declared.Located.{Located}
 use Rattle.applications.specs.declared.Located.the-variants as located
-use Rattle.applications.specs.Acceptance.{bodyOf, onChecked, judgedOf}
+use Rattle.applications.specs.Acceptance.{judgedOf}
 use Rattle.applications.specs.Answers.{locatedOf, onLocated, partOf}
 
 -- an accepted section has its header and its CRC, and no more than 1,024 bytes
@@ -106,7 +106,3 @@ unfolding partOf
 cut s q i a n e =
     let f = located-fits s q i a n e in
     (rw (le-leb (a + n) (length s) (f .0)), omega arith)
-
--- the code's `&s[8..s.len() - 4]`
-pub body-part : (s : List ℕ) → take (length s - 4 - 8) (drop 8 s) ≡ bodyOf s
-body-part s = let e : length s - 4 - 8 ≡ length s - 12 = omega arith in ap (λ (n : ℕ). take n (drop 8 s)) e

@@ -15,9 +15,9 @@ use Rattle.section.specs.declared.Refusal.{Refusal}
 use Rattle.section.specs.declared.Header.{Header}
 use Rattle.section.specs.declared.Checked.{Checked}
 use Rattle.section.specs.declared.Checked.the-variants.{Refused, Accepted}
-use Rattle.section.specs.Header.{headerOf}
+use Rattle.section.specs.Header.{headerOf, bodyOf}
 use Rattle.section.specs.Refusals.{sectionTests, refusalOf}
-use Rattle.section.specs.Answer.{numberOf, refused, checkedOf}
+use Rattle.section.specs.Answer.{numberOf, refused, checkedOf, onChecked}
 use Rattle.section.proofs.Laws.Exact as section
 use Rattle.descriptors.specs.Body.{bodyTests, bodyRefusal}
 use Rattle.descriptors.proofs.Laws.Exact as body
@@ -29,7 +29,7 @@ use Rattle.applications.specs.declared.DescriptorAnswer.the-variants as 
 use Rattle.applications.specs.declared.ItemAnswer.the-variants as item
 use Rattle.applications.specs.declared.ExtensionAnswer.the-variants as extension
 use Rattle.applications.specs.declared.Resolved.the-variants as resolved
-use Rattle.applications.specs.Acceptance.{bodyOf, applicationTests, onChecked, judgedOf, GoodTable}
+use Rattle.applications.specs.Acceptance.{applicationTests, judgedOf, GoodTable}
 use Rattle.applications.specs.Answers.{locatedOf, tableOf, readAnswer, applicationAnswer, descriptorAnswer, itemAnswer, extensionAnswer, resolveAnswer}
 use Rattle.applications.proofs.Laws.Acceptance.{judged-refused, judged-bad, judged-good, judged-has}
 

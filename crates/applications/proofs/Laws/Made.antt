@@ -7,6 +7,7 @@ use mathlib.Core.List as L
 use native.Mathlib.Omega.{arith}
 use lib.ListN.{length, take, drop, length-take, length-drop}
 use lib.Seq.{length-take-le}
+use Rattle.section.specs.Header.{bodyOf}
 use Rattle.wire.specs.declared.Place.{Place}
 use Rattle.wire.specs.declared.Place.the-variants.{At, Nothing}
 use Rattle.wire.specs.Items.{items, itemsIn, every}
@@ -25,7 +26,7 @@ use Rattle.descriptors.proofs.Laws.Exact as body
 use Rattle.applications.specs.declared.Scope.{Scope}
 use Rattle.applications.specs.declared.Scope.the-variants.{Common, Own}
 use Rattle.applications.specs.declared.steps.Step.the-variants.{CommonLoop, ApplicationLoop}
-use Rattle.applications.specs.Acceptance.{bodyOf, judgedOf}
+use Rattle.applications.specs.Acceptance.{judgedOf}
 use Rattle.applications.specs.Places.{commonIn, loopIn, bodyAt, commonAt, loopAt, applicationAt, ownAt, scopeAt, descriptorAt, stepIn}
 use Rattle.applications.proofs.Laws.Places.{sound-step, sound-loop, sound-application, sound-scope}
 use Rattle.applications.proofs.Laws.Acceptance.{sized, judged-has}

@@ -12,15 +12,11 @@ use borrow.Author.Tests.{eq-eqb, eqb-true, not-false}
 use Rattle.wire.specs.Items.{items, fills, every}
 use Rattle.wire.specs.Tests.{firstMet, holds, RisingFrom}
 use Rattle.wire.proofs.Laws.Steps.{every-both}
-use Rattle.wire.proofs.Laws.Tests.{lowest-met, none-met}
+use Rattle.wire.proofs.Laws.Tests.{lowest-met, none-met, both}
 use Rattle.descriptors.proofs.Laws.Body.{is0}
 use Rattle.descriptors.specs.Kinds.{application, descriptor}
 use Rattle.descriptors.specs.Contents.{wellMade}
 use Rattle.descriptors.specs.Body.{commonLength, loopLength, commonLoop, applicationLoop, ownLoop, goodLoop, soleLoop, clauseOf, wellFormed, meets7, meets18, bodyTests, bodyRefusal, WellFormed}
-
-both : (a b : Bool) → (a && b) ≡ true → (a ≡ true) × (b ≡ true)
-both true b e = (refl, e)
-both false b e = let z : _≡_ {A = ℕ} 0 1 = cc in absurd (omega arith)
 
 module _ (b : List ℕ) where
   rising : RisingFrom 0 (bodyTests b)

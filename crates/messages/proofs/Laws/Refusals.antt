@@ -8,6 +8,8 @@ use native.Mathlib.Omega.{arith}
 use lib.Dec.{eqb, leb, ltb}
 use lib.ListN.{length, length-map, take, drop, drop-of-length-le}
 use borrow.Author.Tests.{eq-eqb, ne-eqb, lt-ltb, le-ltb, le-leb, lt-leb, leb-true, eqb-true}
+use Rattle.section.specs.Header.{bodyOf}
+use Rattle.wire.proofs.Laws.Tests.{both}
 use Rattle.wire.specs.Fields.{byteAt, sixteenAt}
 use Rattle.wire.specs.Tests.{firstMet}
 use Rattle.wire.specs.Items.{items, endOf}
@@ -19,7 +21,7 @@ use Rattle.section.specs.Answer.{refused, checkedOf}
 use Rattle.messages.specs.declared.Table.{Table}
 use Rattle.messages.specs.declared.Table.the-variants.{Announcements, Blocks}
 use Rattle.messages.specs.declared.Judged.the-variants as judged
-use Rattle.messages.specs.Message.{bodyOf, messageOf, adaptationOf, messageLengthOf, payloadOf, wantedOf}
+use Rattle.messages.specs.Message.{messageOf, adaptationOf, messageLengthOf, payloadOf, wantedOf}
 use Rattle.messages.specs.Contents.{moduleKind, modulesStart, modulesEnd, compatibilityOf, moduleCountOf, modulesFrom, modulesOf, blockSizeOf, sizeOf, announcementFramed, blockModuleOf, blockNumberOf}
 use Rattle.messages.specs.Limits.{someBad, total, beyond10}
 use Rattle.messages.specs.Refusals.{short7, meets8, messageFramed, payloadFramed, meets7, meets9, meets10, meets11, payloadRefusal, messageRefusal}
@@ -104,11 +106,6 @@ module _ (p : List ℕ) where
     pub framed-rest : (modulesEnd p ≡ 0 → ⊥) → eqb (modulesEnd p + 2 + sixteenAt p (modulesEnd p)) (length p) ≡ announcementFramed p
     unfolding announcementFramed
     framed-rest n = rw (le-leb (modulesStart p) (length p) l, ne-eqb (modulesEnd p) 0 n)
-
--- two tests that are both met
-both : (a b : Bool) → (a && b) ≡ true → (a ≡ true) × (b ≡ true)
-both true b e = (refl, e)
-both false b e = let z : _≡_ {A = ℕ} 0 1 = cc in absurd (omega arith)
 
 -- as many as are counted, where they do not end before
 counted : (k a : ℕ) (is : List (List ℕ)) → (endOf k a is ≡ 0 → ⊥) → length (take k is) ≡ k
@@ -214,9 +211,6 @@ module _ (t : Table) (b : List ℕ) where
   pub read-carried : t ≡ Blocks → judged.Carried (blockOf b) ≡ readOf t b
   unfolding readOf
   read-carried e = rw e
-
-pub body-part : (s : List ℕ) → take (length s - 4 - 8) (drop 8 s) ≡ bodyOf s
-body-part s = let e : length s - 4 - 8 ≡ length s - 12 = omega arith in ap (λ (n : ℕ). take n (drop 8 s)) e
 
 module _ (s : List ℕ) where
   pub judged-refused : (r : Refusal) → checkedOf Carousel s ≡ checked.Refused r → judged.Refused r ≡ judgedOf s

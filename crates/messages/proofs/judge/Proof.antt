@@ -7,9 +7,9 @@ use lib.ListN.{length}
 use Rattle.section.specs.declared.Rules.the-variants.{Carousel}
 use Rattle.section.specs.declared.Checked.the-variants.{Accepted}
 use Rattle.section.specs.Answer.{checkedOf}
-use Rattle.section.proofs.Laws.Exact.{accepted-has}
+use Rattle.section.proofs.Laws.Exact.{accepted-has, body-part}
 use Rattle.messages.specs.Judged.{messageJudged}
-use Rattle.messages.proofs.Laws.Refusals.{judged-refused, judged-message, body-part}
+use Rattle.messages.proofs.Laws.Refusals.{judged-refused, judged-message}
 use borrow.Author.Needs.{needs}
 use Rattle.messages.proofs.judge.Statement.{statement}
 use Rattle.messages.proofs.judge.Tie as tie

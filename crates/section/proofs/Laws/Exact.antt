@@ -1,19 +1,19 @@
 -- What an answer of `check` says, and when it is given: exactly the stated case.
 -- Assumes nothing.
-use Prim.Native.Nat.{ℕ, _+_, _≤_, _<_, _%_}
+use Prim.Native.Nat.{ℕ, _+_, _≤_, _<_, _%_, _-_}
 use mathlib.Core.Path.{_≡_, refl, sym, ap, _∙_}
 use mathlib.Core.Logic.{_↔_}
 use mathlib.Core.Bool.{Bool, true, false, not, cond, _||_, or-false}
 use mathlib.Core.List.{List, [], _∷_}
 use native.Mathlib.Omega.{arith}
 use lib.Dec.{ltb, eqb, lit<, lit≤}
-use lib.ListN.{length}
+use lib.ListN.{length, take, drop}
 use borrow.Author.Tests.{ltb-false, eqb-true, eqb-false, eq-eqb, ne-eqb, not-false}
 use Rattle.wire.specs.Tests.{Tests, firstMet, holds, RisingFrom, Within}
 use Rattle.wire.proofs.Laws.Tests.{lowest-met, none-met, met-within}
 use Rattle.wire.proofs.Laws.Fields.{bits-lt}
 use Rattle.section.specs.Crc.{crcOf}
-use Rattle.section.specs.Header.{tableOf, syntaxOf, lengthOf, currentOf, sectionOf, lastOf, isTable, limitOf, headerOf}
+use Rattle.section.specs.Header.{tableOf, syntaxOf, lengthOf, currentOf, sectionOf, lastOf, isTable, limitOf, headerOf, bodyOf}
 use Rattle.section.specs.Refusals.{meets2, meets3, meets4, meets5, meets6, sectionTests, refusalOf, GoodSection}
 use Rattle.section.specs.Answer.{numberOf, refused, checkedOf}
 use Rattle.section.specs.declared.Rules.{Rules}
@@ -116,3 +116,7 @@ module _ (rules : Rules) (s : List ℕ) where
 
   pub accepted-exactly : (checkedOf rules s ≡ Accepted (headerOf s)) ↔ GoodSection rules s
   accepted-exactly = (λ e. accepted-has (headerOf s) e .2, λ g. accepted-with (good-exactly .1 g))
+
+-- the body as code cuts it out of the section
+pub body-part : (s : List ℕ) → take (length s - 4 - 8) (drop 8 s) ≡ bodyOf s
+body-part s = let e : length s - 4 - 8 ≡ length s - 12 = omega arith in ap (λ (n : ℕ). take n (drop 8 s)) e

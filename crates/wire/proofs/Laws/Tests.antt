@@ -10,6 +10,11 @@ use lib.Dec.{eqb}
 use borrow.Author.Tests.{eq-eqb, ne-eqb}
 use Rattle.wire.specs.Tests.{Tests, firstMet, holds, RisingFrom, Within}
 
+-- two tests that are both met
+pub both : (a b : Bool) → (a && b) ≡ true → (a ≡ true) × (b ≡ true)
+both true b e = (refl, e)
+both false b e = let z : _≡_ {A = ℕ} 0 1 = cc in absurd (omega arith)
+
 -- one test more in front, by whether it holds
 module _ (t : ℕ × Bool) (ts : Tests) where
   first-hit : t .1 ≡ true → firstMet (t ∷ ts) ≡ t .0

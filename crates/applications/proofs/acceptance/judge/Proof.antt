@@ -4,12 +4,13 @@ use mathlib.Core.Path.{_≡_, refl, sym, ap, ap₂, _∙_}
 use native.Mathlib.Omega.{arith}
 use Prim.Native.Nat.{ℕ, _≤_}
 use lib.ListN.{length}
+use Rattle.section.proofs.Laws.Exact.{body-part}
+use Rattle.section.specs.Header.{bodyOf}
 use Rattle.section.specs.declared.Rules.the-variants.{Application}
 use Rattle.section.specs.declared.Checked.the-variants.{Refused, Accepted}
 use Rattle.section.specs.Answer.{refused, checkedOf}
 use Rattle.descriptors.specs.Body.{bodyRefusal}
-use Rattle.applications.specs.Acceptance.{bodyOf}
-use Rattle.applications.proofs.Laws.Acceptance.{sized, judged-refused, judged-bad, judged-good, body-part}
+use Rattle.applications.proofs.Laws.Acceptance.{sized, judged-refused, judged-bad, judged-good}
 use borrow.Author.Needs.{needs}
 use Rattle.applications.proofs.acceptance.judge.Statement.{statement}
 use Rattle.applications.proofs.acceptance.judge.Tie as tie
