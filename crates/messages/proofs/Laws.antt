@@ -1,2 +1,4 @@
 pub mod Modules
 pub mod Refusals
+pub mod Listed
+pub mod Heard

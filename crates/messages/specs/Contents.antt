@@ -1,9 +1,9 @@
 -- The payloads: an announcement (DII), and a block (DDB). 01, "The messages".
 -- p is the payload, after the adaptation bytes.
 -- Assumes nothing.
-use Prim.Native.Nat.{ℕ, _+_, _*_}
+use Prim.Native.Nat.{ℕ, _+_}
 use mathlib.Core.Bool.{Bool, not, _&&_}
-use mathlib.Core.List.{List, [], _∷_}
+use mathlib.Core.List.{List}
 use lib.Dec.{leb, eqb}
 use lib.ListN.{length, take, drop}
 use Rattle.wire.specs.Fields.{byteAt, sixteenAt, thirtyTwoAt}

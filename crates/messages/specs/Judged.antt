@@ -1,15 +1,12 @@
 -- A carousel section, judged before any record is looked at: refused by one of 2 to 11, an announcement, or a block. 01, "The messages".
 -- Assumes nothing.
 use Prim.Native.Nat.{ℕ, _+_, _-_}
-use mathlib.Core.Bool.{Bool, cond}
+use mathlib.Core.Bool.{cond}
 use mathlib.Core.List.{List}
 use lib.Dec.{eqb}
 use lib.ListN.{length}
 use Rattle.section.specs.declared.Rules.the-variants.{Carousel}
-use Rattle.section.specs.declared.Refusal.{Refusal}
 use Rattle.section.specs.declared.Header.{Header}
-use Rattle.section.specs.declared.Checked.{Checked}
-use Rattle.section.specs.declared.Checked.the-variants as checked
 use Rattle.section.specs.Header.{announcementTable, bodyOf}
 use Rattle.section.specs.Answer.{refused, checkedOf, onChecked}
 use Rattle.messages.specs.declared.Table.{Table}
@@ -63,3 +60,9 @@ messageJudged t h b = cond (eqb (messageRefusal t h b) 0) (readOf t b) (judged.R
 -- the section check's refusal as it came; else the message's; else what the message says
 unfoldable pub judgedOf : List ℕ → Judged
 judgedOf s = onChecked (checkedOf Carousel s) (λ r. judged.Refused r) (λ h. messageJudged (tableOf (h .table)) h (bodyOf s))
+
+-- the paper's number of an answer; 0 is no refusal
+abbrev pub numberOfJudged : Judged → ℕ
+numberOfJudged (judged.Refused r) = r .number
+numberOfJudged (judged.Announced a) = 0
+numberOfJudged (judged.Carried b) = 0

@@ -3,3 +3,4 @@ pub mod Contents
 pub mod Limits
 pub mod Refusals
 pub mod Judged
+pub mod Heard

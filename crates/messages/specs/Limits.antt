@@ -1,7 +1,7 @@
 -- The limits of refusals 10 and 11, over what is announced: the block size, and the modules' sizes and numbers. Named once; the carousel record's rule is over the same.
 -- Assumes nothing.
 use Prim.Native.Nat.{ℕ, _+_, _*_}
-use mathlib.Core.Bool.{Bool, true, false, not, _&&_, _||_}
+use mathlib.Core.Bool.{Bool, false, _||_}
 use mathlib.Core.List.{List, [], _∷_}
 use lib.Dec.{ltb, eqb}
 use lib.ListN.{length}

@@ -1,10 +1,8 @@
 -- The message in a carousel section: its header and its payload. 01, "The messages"; ISO/IEC 13818-6; 004, clause 5.
 -- b is the section's body, from its byte 8 up to the CRC.
 -- Assumes nothing.
-use Prim.Native.Nat.{ℕ, _+_, _-_}
-use mathlib.Core.Bool.{Bool, cond}
+use Prim.Native.Nat.{ℕ, _+_}
 use mathlib.Core.List.{List}
-use lib.Dec.{eqb}
 use lib.ListN.{drop}
 use Rattle.wire.specs.Fields.{byteAt, sixteenAt, thirtyTwoAt}
 use Rattle.messages.specs.declared.Table.{Table}

@@ -9,12 +9,20 @@ mod limits;
 mod message;
 mod modules;
 
+pub use limits::LARGEST_BLOCK;
+pub use limits::MOST_BLOCKS;
+pub use limits::MOST_BYTES;
+pub use limits::MOST_MODULES;
 use message::judge_message;
 use section::Checked;
 use section::Refusal;
 use section::Rules;
+use wire::byte_at;
+use wire::sixteen_at;
+use wire::thirty_two_at;
 ghost use mathlib.Core.Path.{_≡_};
 ghost use Rattle.messages.specs.Judged.{judgedOf};
+ghost use Rattle.messages.specs.Heard.{noneListed, listedAt};
 
 // Which of the carousel's two tables.
 pub enum Table {
@@ -41,6 +49,13 @@ pub struct Block {
     pub size: usize,
 }
 
+// A module as it is announced.
+pub struct Listed {
+    pub number: u16,
+    pub size: u32,
+    pub version: u8,
+}
+
 pub enum Judged {
     Refused(Refusal),
     Announced(Announcement),
@@ -58,5 +73,33 @@ pub fn judge(s: &[u8]) -> Judged
             let e = s.len() - 4;
             judge_message(&s[8..e], h)
         }
+    }
+}
+
+// The module at a place of an announcement's modules, `list`; all zero where there is none.
+pub fn module_at(list: &[u8], place: usize) -> Listed
+    ensures { λ r. ⌜ r ≡ listedAt (now (list .entry)) place ⌝ }
+{
+    if list.len() <= place {
+        return none_listed();
+    }
+    if wire::measured_end(list, 0, place + 1, 8, 7) == 0 {
+        return none_listed();
+    }
+    let i = wire::measured_end(list, 0, place, 8, 7);
+    Listed {
+        number: sixteen_at(list, i),
+        size: thirty_two_at(list, i + 2),
+        version: byte_at(list, i + 6),
+    }
+}
+
+fn none_listed() -> Listed
+    ensures { λ r. ⌜ r ≡ noneListed ⌝ }
+{
+    Listed {
+        number: 0,
+        size: 0,
+        version: 0,
     }
 }

@@ -1,4 +1,6 @@
 // The limits of refusals 10 and 11, over the modules of an announcement that is framed whole.
+use crate::modules::module_count;
+use crate::modules::modules_start;
 use wire::sixteen_at;
 ghost use mathlib.Core.Path.{_≡_};
 ghost use mathlib.Core.Bool.{true, _||_};
@@ -30,15 +32,14 @@ pub fn is_beyond(p: &[u8]) -> bool
     if LARGEST_BLOCK < block_size {
         return true;
     }
-    let n = sixteen_at(p, 16) as usize;
-    let count = sixteen_at(p, 18 + n) as usize;
+    let count = module_count(p);
     if count == 0 {
         return true;
     }
     if MOST_MODULES < count {
         return true;
     }
-    sizes_beyond(p, 20 + n, count, block_size)
+    sizes_beyond(p, modules_start(p), count, block_size)
 }
 
 // 11: a module number twice.
@@ -46,9 +47,7 @@ pub fn has_twice(p: &[u8]) -> bool
     requires { ⌜ announcementFramed (now p) ≡ true ⌝ }
     ensures { λ r. ⌜ r ≡ meets11 (now (p .entry)) ⌝ }
 {
-    let n = sixteen_at(p, 16) as usize;
-    let count = sixteen_at(p, 18 + n) as usize;
-    twice_from(p, 20 + n, count)
+    twice_from(p, modules_start(p), module_count(p))
 }
 
 // The size of the module at byte i. It ends within the slice.

@@ -4,7 +4,9 @@ use crate::Block;
 use crate::Judged;
 use crate::Table;
 use crate::modules::announcement_refusal;
+use crate::modules::module_count;
 use crate::modules::modules_end;
+use crate::modules::modules_start;
 use section::Header;
 use section::Refusal;
 use wire::byte_at;
@@ -131,14 +133,13 @@ fn announcement_of(b: &[u8]) -> Announcement
     ensures { λ r. ⌜ r ≡ announcementOf (now (b .entry)) ⌝ }
 {
     let p = payload(b);
-    let n = sixteen_at(p, 16) as usize;
-    let e = modules_end(p);
+    let start = modules_start(p);
     Announcement {
         download: thirty_two_at(p, 0),
         block_size: sixteen_at(p, 4),
-        count: sixteen_at(p, 18 + n) as usize,
-        start: 20 + eight_at(b, 9) + (20 + n),
-        size: less(e, 20 + n),
+        count: module_count(p),
+        start: 20 + eight_at(b, 9) + start,
+        size: less(modules_end(p), start),
     }
 }
 

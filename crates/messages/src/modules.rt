@@ -4,12 +4,12 @@ use crate::limits::is_beyond;
 use section::Header;
 use wire::sixteen_at;
 ghost use mathlib.Core.Path.{_≡_};
-ghost use Prim.Native.Nat.{_+_};
+ghost use Prim.Native.Nat.{_+_, _≤_, _<_};
 ghost use lib.Dec.{eqb};
 ghost use lib.ListN.{length};
 ghost use Rattle.wire.specs.Fields.{sixteenAt};
 ghost use Rattle.messages.specs.declared.Table.the-variants.{Announcements};
-ghost use Rattle.messages.specs.Contents.{announcementFramed, modulesEnd};
+ghost use Rattle.messages.specs.Contents.{announcementFramed, moduleCountOf, modulesStart, modulesEnd};
 ghost use Rattle.messages.specs.Refusals.{payloadRefusal};
 
 // 0 where an announcement's payload is taken, else 7, 10 or 11.
@@ -31,7 +31,7 @@ pub fn announcement_refusal(p: &[u8], h: Header) -> u8
 fn is_announcement(p: &[u8]) -> bool
     ensures { λ r. ⌜ r ≡ announcementFramed (now (p .entry)) ⌝ }
 {
-    if p.len() < 20 + sixteen_at(p, 16) as usize {
+    if p.len() < modules_start(p) {
         return false;
     }
     let e = modules_end(p);
@@ -41,13 +41,25 @@ fn is_announcement(p: &[u8]) -> bool
     ends_with_private(p, e)
 }
 
+// Where the modules begin, after the compatibility bytes and the count.
+pub fn modules_start(p: &[u8]) -> usize
+    ensures { λ r. ⌜ (r ≡ modulesStart (now (p .entry))) × (r ≤ 65555) ⌝ }
+{
+    20 + sixteen_at(p, 16) as usize
+}
+
+// How many modules there should be; the count stands just before them.
+pub fn module_count(p: &[u8]) -> usize
+    ensures { λ r. ⌜ (r ≡ moduleCountOf (now (p .entry))) × (r < 65536) ⌝ }
+{
+    sixteen_at(p, modules_start(p) - 2) as usize
+}
+
 // Where the counted modules end, 0 where there are fewer.
 pub fn modules_end(p: &[u8]) -> usize
     ensures { λ r. ⌜ r ≡ modulesEnd (now (p .entry)) ⌝ }
 {
-    let n = sixteen_at(p, 16) as usize;
-    let count = sixteen_at(p, 18 + n) as usize;
-    wire::measured_end(p, 20 + n, count, 8, 7)
+    wire::measured_end(p, modules_start(p), module_count(p), 8, 7)
 }
 
 // Whether private bytes, after their length at `e`, are all that is left.

@@ -1,5 +1,6 @@
 pub mod Fields
 pub mod Tests
+pub mod Order
 pub mod Steps
 pub mod Frames
 pub mod Meaning

@@ -2,19 +2,19 @@
 -- Assumes nothing.
 use Prim.Native.Nat.{ℕ, zero, suc, _+_, _-_, _*_, _≤_, _<_}
 use mathlib.Core.Path.{_≡_, refl, sym, ap, _∙_}
-use mathlib.Core.Bool.{Bool, true, false, _||_}
+use mathlib.Core.Bool.{true, false, _||_}
 use mathlib.Core.List.{List, [], _∷_, map}
 use native.Mathlib.Omega.{arith}
-use lib.Dec.{eqb, ltb}
-use lib.ListN.{length, take, drop}
+use lib.Dec.{ltb}
+use lib.ListN.{take, drop}
 use borrow.Author.Tests.{eq-eqb, ne-eqb, lt-ltb, le-ltb}
 use Rattle.wire.specs.Fields.{byteAt, fieldAt}
-use Rattle.wire.specs.Items.{IsKind, items}
+use Rattle.wire.specs.Items.{IsKind}
 use Rattle.wire.proofs.Laws.Fields.{field-part}
 use Rattle.wire.proofs.Laws.Frames.{framed-kind, framed-least}
 use Rattle.wire.proofs.Laws.Loops.{walk-stop, walk-next}
 use Rattle.messages.specs.Contents.{moduleKind, modulesFrom, numberOf, sizeOf}
-use Rattle.messages.specs.Limits.{badSize, someBad, total, among, twice11}
+use Rattle.messages.specs.Limits.{someBad, total, among, twice11}
 
 pub module-kind : IsKind moduleKind
 module-kind = framed-kind 8 (λ h. byteAt h 7)

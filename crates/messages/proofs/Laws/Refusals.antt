@@ -1,13 +1,13 @@
 -- Each test from the facts that code learns on its ways, and the answer from the tests.
 -- Assumes nothing.
-use Prim.Native.Nat.{ℕ, zero, suc, _+_, _-_, _%_, _≤_, _<_}
+use Prim.Native.Nat.{ℕ, zero, suc, _+_, _%_, _≤_, _<_}
 use mathlib.Core.Path.{_≡_, refl, sym, ap, _∙_}
-use mathlib.Core.Bool.{Bool, true, false, not, cond, _&&_, _||_}
+use mathlib.Core.Bool.{Bool, true, false, not, _&&_, _||_}
 use mathlib.Core.List.{List, [], _∷_, map}
 use native.Mathlib.Omega.{arith}
 use lib.Dec.{eqb, leb, ltb}
 use lib.ListN.{length, length-map, take, drop, drop-of-length-le}
-use borrow.Author.Tests.{eq-eqb, ne-eqb, lt-ltb, le-ltb, le-leb, lt-leb, leb-true, eqb-true}
+use borrow.Author.Tests.{eq-eqb, ne-eqb, lt-ltb, le-ltb, le-leb, lt-leb, leb-true}
 use Rattle.section.specs.Header.{bodyOf}
 use Rattle.wire.proofs.Laws.Tests.{both}
 use Rattle.wire.specs.Fields.{byteAt, sixteenAt}
@@ -22,7 +22,7 @@ use Rattle.messages.specs.declared.Table.{Table}
 use Rattle.messages.specs.declared.Table.the-variants.{Announcements, Blocks}
 use Rattle.messages.specs.declared.Judged.the-variants as judged
 use Rattle.messages.specs.Message.{messageOf, adaptationOf, messageLengthOf, payloadOf, wantedOf}
-use Rattle.messages.specs.Contents.{moduleKind, modulesStart, modulesEnd, compatibilityOf, moduleCountOf, modulesFrom, modulesOf, blockSizeOf, sizeOf, announcementFramed, blockModuleOf, blockNumberOf}
+use Rattle.messages.specs.Contents.{moduleKind, modulesStart, modulesEnd, moduleCountOf, modulesFrom, modulesOf, blockSizeOf, sizeOf, announcementFramed, blockModuleOf, blockNumberOf}
 use Rattle.messages.specs.Limits.{someBad, total, beyond10}
 use Rattle.messages.specs.Refusals.{short7, meets8, messageFramed, payloadFramed, meets7, meets9, meets10, meets11, payloadRefusal, messageRefusal}
 use Rattle.messages.specs.Judged.{tableOf, announcementOf, blockOf, readOf, messageJudged, judgedOf}
@@ -108,7 +108,7 @@ module _ (p : List ℕ) where
     framed-rest n = rw (le-leb (modulesStart p) (length p) l, ne-eqb (modulesEnd p) 0 n)
 
 -- as many as are counted, where they do not end before
-counted : (k a : ℕ) (is : List (List ℕ)) → (endOf k a is ≡ 0 → ⊥) → length (take k is) ≡ k
+pub counted : (k a : ℕ) (is : List (List ℕ)) → (endOf k a is ≡ 0 → ⊥) → length (take k is) ≡ k
 unfolding endOf
 counted zero a is n = refl
 counted (suc k) a [] n = absurd (n refl)
@@ -127,7 +127,7 @@ module _ (p : List ℕ) (f : announcementFramed p ≡ true) where
   pub framed-starts : modulesStart p ≤ length p
   framed-starts = leb-true (modulesStart p) (length p) (framed-both .0)
 
-  framed-ends : modulesEnd p ≡ 0 → ⊥
+  pub framed-ends : modulesEnd p ≡ 0 → ⊥
   framed-ends z =
       let h = framed-both .1 in
       let e = eq-eqb (modulesEnd p) 0 z in
@@ -137,15 +137,11 @@ module _ (p : List ℕ) (f : announcementFramed p ≡ true) where
   framed-count : length (map sizeOf (modulesOf p)) ≡ moduleCountOf p
   framed-count = length-map (modulesOf p) sizeOf ∙ counted (moduleCountOf p) (modulesStart p) (items moduleKind (drop (modulesStart p) p)) framed-ends
 
--- the count, from the two fields that code reads for it
-pub count-of : (p : List ℕ) (n m : ℕ) → n ≡ compatibilityOf p → m ≡ sixteenAt p (18 + n) → moduleCountOf p ≡ m
-count-of p n m e f = ap (λ (x : ℕ). sixteenAt p (18 + x)) (sym e) ∙ sym f
-
--- and the sizes, from the three
-pub sizes-said : (p : List ℕ) (n m bs : ℕ) → n ≡ compatibilityOf p → moduleCountOf p ≡ m → bs ≡ blockSizeOf p
-    → (someBad bs (map sizeOf (modulesFrom p (20 + n) m)) || ltb 65536 (total (map sizeOf (modulesFrom p (20 + n) m))))
+-- the sizes, from the three fields that code reads for them
+pub sizes-said : (p : List ℕ) (i m bs : ℕ) → i ≡ modulesStart p → m ≡ moduleCountOf p → bs ≡ blockSizeOf p
+    → (someBad bs (map sizeOf (modulesFrom p i m)) || ltb 65536 (total (map sizeOf (modulesFrom p i m))))
     ≡ (someBad (blockSizeOf p) (map sizeOf (modulesOf p)) || ltb 65536 (total (map sizeOf (modulesOf p))))
-sizes-said p n m bs e f g = rw (sym f, e, g)
+sizes-said p i m bs e f g = rw (e, f, g)
 
 -- 10, one limit after another
 module _ (p : List ℕ) where

@@ -1,31 +1,25 @@
 -- What an answer of `check` says, and when it is given: exactly the stated case.
 -- Assumes nothing.
-use Prim.Native.Nat.{ℕ, _+_, _≤_, _<_, _%_, _-_}
+use Prim.Native.Nat.{ℕ, _+_, _≤_, _<_, _-_}
 use mathlib.Core.Path.{_≡_, refl, sym, ap, _∙_}
 use mathlib.Core.Logic.{_↔_}
 use mathlib.Core.Bool.{Bool, true, false, not, cond, _||_, or-false}
-use mathlib.Core.List.{List, [], _∷_}
+use mathlib.Core.List.{List}
 use native.Mathlib.Omega.{arith}
 use lib.Dec.{ltb, eqb, lit<, lit≤}
 use lib.ListN.{length, take, drop}
 use borrow.Author.Tests.{ltb-false, eqb-true, eqb-false, eq-eqb, ne-eqb, not-false}
-use Rattle.wire.specs.Tests.{Tests, firstMet, holds, RisingFrom, Within}
-use Rattle.wire.proofs.Laws.Tests.{lowest-met, none-met, met-within}
+use Rattle.wire.specs.Tests.{holds, RisingFrom}
+use Rattle.wire.proofs.Laws.Tests.{neither, lowest-met, none-met, met-within}
 use Rattle.wire.proofs.Laws.Fields.{bits-lt}
-use Rattle.section.specs.Crc.{crcOf}
-use Rattle.section.specs.Header.{tableOf, syntaxOf, lengthOf, currentOf, sectionOf, lastOf, isTable, limitOf, headerOf, bodyOf}
+use Rattle.section.specs.Header.{syntaxOf, lengthOf, currentOf, sectionOf, lastOf, limitOf, headerOf, bodyOf}
 use Rattle.section.specs.Refusals.{meets2, meets3, meets4, meets5, meets6, sectionTests, refusalOf, GoodSection}
 use Rattle.section.specs.Answer.{numberOf, refused, checkedOf}
 use Rattle.section.specs.declared.Rules.{Rules}
 use Rattle.section.specs.declared.Refusal.{Refusal}
 use Rattle.section.specs.declared.Header.{Header}
-use Rattle.section.specs.declared.Checked.{Checked}
 use Rattle.section.specs.declared.Checked.the-variants.{Refused, Accepted}
 use Rattle.section.proofs.Laws.Refusals.{past2, past3, past4, past5, past6, is0}
-
-neither : (a b : Bool) → (a || b) ≡ false → (a ≡ false) × (b ≡ false)
-neither true b e = let z : _≡_ {A = ℕ} 0 1 = cc in absurd (omega arith)
-neither false b e = (refl, e)
 
 module _ (rules : Rules) (s : List ℕ) where
   pub rising : RisingFrom 0 (sectionTests rules s)

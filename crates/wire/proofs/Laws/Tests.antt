@@ -4,7 +4,7 @@ use Prim.Native.Nat.{ℕ, zero, suc, _<_, _≤_}
 use mathlib.Core.Path.{_≡_, refl, sym, ap, _∙_}
 use mathlib.Core.Logic.{_↔_}
 use mathlib.Core.Bool.{Bool, true, false, cond, _&&_, _||_}
-use mathlib.Core.List.{List, [], _∷_, _++_}
+use mathlib.Core.List.{[], _∷_, _++_}
 use native.Mathlib.Omega.{arith}
 use lib.Dec.{eqb}
 use borrow.Author.Tests.{eq-eqb, ne-eqb}
@@ -14,6 +14,11 @@ use Rattle.wire.specs.Tests.{Tests, firstMet, holds, RisingFrom, Within}
 pub both : (a b : Bool) → (a && b) ≡ true → (a ≡ true) × (b ≡ true)
 both true b e = (refl, e)
 both false b e = let z : _≡_ {A = ℕ} 0 1 = cc in absurd (omega arith)
+
+-- and two of which neither is
+pub neither : (a b : Bool) → (a || b) ≡ false → (a ≡ false) × (b ≡ false)
+neither true b e = let z : _≡_ {A = ℕ} 0 1 = cc in absurd (omega arith)
+neither false b e = (refl, e)
 
 -- one test more in front, by whether it holds
 module _ (t : ℕ × Bool) (ts : Tests) where
@@ -104,7 +109,8 @@ met-append k (t ∷ ts) us r = go (met-append (t .0) ts us (r .1)) (t .1)
     go e true = let h = r .0 in sym (rw (ne-eqb (t .0) 0 (λ z. omega arith)))
     go e false = e
 
-clash : (b : Bool) → b ≡ true → b ≡ false → ⊥
+-- no test is met and not met
+pub clash : (b : Bool) → b ≡ true → b ≡ false → ⊥
 clash b e f = let z : _≡_ {A = ℕ} 0 1 = cc in omega arith
 
 -- THE LOWEST: the answer is n exactly where test n holds and no lower one does, and 0 exactly where none holds.

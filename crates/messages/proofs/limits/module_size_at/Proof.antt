@@ -1,7 +1,6 @@
 -- `messages::limits::module_size_at` meets its contract.
 -- Assumes nothing.
-use mathlib.Core.Path.{_≡_, refl, sym, ap, _∙_}
-use native.Mathlib.Omega.{arith}
+use mathlib.Core.Path.{ap, _∙_}
 use Rattle.wire.proofs.Laws.Loops.{tail, item-fits}
 use Rattle.messages.specs.Contents.{moduleKind}
 use Rattle.messages.proofs.Laws.Modules.{module-kind}

@@ -8,44 +8,29 @@ use Rattle.messages.proofs.message.announcement_of.Tie as tie
 payload-requires : tie.Need-payload-requires
 payload-requires c κs = search needs
 
-sixteen-at-requires : tie.Need-sixteen-at-requires
-sixteen-at-requires c κs = search needs
-
-cast-n : tie.Need-cast-n
-cast-n c = search needs
-
-modules-end-requires : tie.Need-modules-end-requires
-modules-end-requires c κs = search needs
+modules-start-requires : tie.Need-modules-start-requires
+modules-start-requires c κs = search needs
 
 thirty-two-at-requires : tie.Need-thirty-two-at-requires
 thirty-two-at-requires c κs = search needs
 
-sixteen-at-requires-2 : tie.Need-sixteen-at-requires-2
-sixteen-at-requires-2 c κs = search needs
+sixteen-at-requires : tie.Need-sixteen-at-requires
+sixteen-at-requires c κs = search needs
 
-add-sixteen-at : tie.Need-add-sixteen-at
-add-sixteen-at c = search needs
-
-sixteen-at-requires-3 : tie.Need-sixteen-at-requires-3
-sixteen-at-requires-3 c κs = search needs
-
-cast-t9 : tie.Need-cast-t9
-cast-t9 c = search needs
+module-count-requires : tie.Need-module-count-requires
+module-count-requires c κs = search needs
 
 eight-at-requires : tie.Need-eight-at-requires
 eight-at-requires c κs = search needs
 
-add-t11 : tie.Need-add-t11
-add-t11 c = search needs
+add-t8 : tie.Need-add-t8
+add-t8 c = search needs
 
-add-t12 : tie.Need-add-t12
-add-t12 c = search needs
+add-t9 : tie.Need-add-t9
+add-t9 c = search needs
 
-add-t13 : tie.Need-add-t13
-add-t13 c = search needs
-
-add-less : tie.Need-add-less
-add-less c = search needs
+modules-end-requires : tie.Need-modules-end-requires
+modules-end-requires c κs = search needs
 
 less-requires : tie.Need-less-requires
 less-requires c κs = search needs
@@ -59,18 +44,13 @@ announcement-of-spec =
     tie.close
     (tie.spec
     payload-requires
-    sixteen-at-requires
-    cast-n
-    modules-end-requires
+    modules-start-requires
     thirty-two-at-requires
-    sixteen-at-requires-2
-    add-sixteen-at
-    sixteen-at-requires-3
-    cast-t9
+    sixteen-at-requires
+    module-count-requires
     eight-at-requires
-    add-t11
-    add-t12
-    add-t13
-    add-less
+    add-t8
+    add-t9
+    modules-end-requires
     less-requires
     returns)

@@ -1,6 +1,5 @@
 -- `messages::message::block_refusal` meets its contract.
 -- Assumes nothing.
-use mathlib.Core.Path.{_≡_, refl, sym, ap, _∙_}
 use native.Mathlib.Omega.{arith}
 use Rattle.messages.proofs.Laws.Refusals.{block-short, block-other, block-number, block-good}
 use borrow.Author.Needs.{needs}

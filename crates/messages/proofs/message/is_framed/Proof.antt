@@ -1,6 +1,6 @@
 -- `messages::message::is_framed` meets its contract.
 -- Assumes nothing.
-use mathlib.Core.Path.{_≡_, refl, sym, ap, ap₂, _∙_}
+use mathlib.Core.Path.{ap₂, _∙_}
 use native.Mathlib.Omega.{arith}
 use lib.Dec.{leb}
 use Rattle.messages.proofs.Laws.Refusals.{uneven, even}

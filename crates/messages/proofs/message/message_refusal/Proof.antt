@@ -1,6 +1,6 @@
 -- `messages::message::message_refusal` meets its contract: the order of 7, 8, and 7 again.
 -- Assumes nothing.
-use mathlib.Core.Path.{_≡_, refl, sym, ap, _∙_}
+use mathlib.Core.Path.{sym, ap, _∙_}
 use native.Mathlib.Omega.{arith}
 use borrow.Author.Tests.{not-true, not-false}
 use Rattle.messages.specs.Refusals.{payloadRefusal}

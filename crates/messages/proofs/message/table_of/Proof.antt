@@ -1,6 +1,5 @@
 -- `messages::message::table_of` meets its contract.
 -- Assumes nothing.
-use borrow.Author.Needs.{needs}
 use borrow.Author.Tests.{eq-eqb, ne-eqb}
 use Rattle.messages.proofs.message.table_of.Statement.{statement}
 use Rattle.messages.proofs.message.table_of.Tie as tie

@@ -1,6 +1,6 @@
 -- `messages::modules::announcement_refusal` meets its contract: 7, 10, 11.
 -- Assumes nothing.
-use mathlib.Core.Path.{_≡_, refl, sym, ap, _∙_}
+use mathlib.Core.Path.{sym, _∙_}
 use borrow.Author.Tests.{not-true, not-false}
 use Rattle.messages.proofs.Laws.Refusals.{announcement-open, announcement-beyond, announcement-twice, announcement-good}
 use borrow.Author.Needs.{needs}

@@ -1,6 +1,6 @@
 -- `messages::modules::is_announcement` meets its contract.
 -- Assumes nothing.
-use mathlib.Core.Path.{_≡_, refl, sym, ap, _∙_}
+use mathlib.Core.Path.{sym, ap, _∙_}
 use native.Mathlib.Omega.{arith}
 use Prim.Native.Nat.{ℕ, _+_}
 use lib.Dec.{eqb}
@@ -11,14 +11,8 @@ use borrow.Author.Needs.{needs}
 use Rattle.messages.proofs.modules.is_announcement.Statement.{statement}
 use Rattle.messages.proofs.modules.is_announcement.Tie as tie
 
-sixteen-at-requires : tie.Need-sixteen-at-requires
-sixteen-at-requires c κs = search needs
-
-cast-if1 : tie.Need-cast-if1
-cast-if1 c = search needs
-
-add-if1 : tie.Need-add-if1
-add-if1 c = search needs
+modules-start-requires : tie.Need-modules-start-requires
+modules-start-requires c κs = search needs
 
 returns : tie.Need-returns
 returns c = framed-short (c .before .before .before .args .p .now) (omega arith)
@@ -42,9 +36,7 @@ pub is-announcement-spec : {M : Type 1} → statement M
 is-announcement-spec =
     tie.close
     (tie.spec
-    sixteen-at-requires
-    cast-if1
-    add-if1
+    modules-start-requires
     returns
     modules-end-requires
     returns-2
