@@ -1,0 +1,91 @@
+-- `carousel::store::take_block` meets its contract: what none of 12 to 16 meets has its place in the image, and is put there.
+-- Assumes nothing.
+use mathlib.Core.Path.{_≡_, refl, sym, ap, _∙_}
+use native.Mathlib.Omega.{arith}
+use lib.ListN.{length, length-map}
+use Rattle.messages.specs.Heard.{Arrived, arrivedIn}
+use Rattle.carousel.specs.Record.{Record, announcedBy, recordOf, placeOf}
+use Rattle.carousel.specs.Step.{blockRefusal}
+use Rattle.carousel.proofs.Laws.Rule.{Kept, kept, number-small, ruled-says, ruled-count}
+use Rattle.carousel.proofs.Laws.Says.{says-count}
+use Rattle.carousel.proofs.Laws.Outcomes.{arrived-bad, arrived-good}
+use Rattle.carousel.proofs.View.{Fits, fits, fits-in}
+use borrow.Author.Needs.{needs}
+use Rattle.carousel.proofs.store.take_block.Statement.{statement}
+use Rattle.carousel.proofs.store.take_block.Tie as tie
+
+-- the record, the block, and what is known at each place
+abbrev says : tie.Start → Record
+says s = recordOf (s .args .c)
+
+abbrev d : tie.Start → Arrived
+d s = arrivedIn (s .args .b) (s .args .bytes .now)
+
+count : (s : tie.Start) → length (announcedBy (s .args .c) .modules) ≡ s .args .c .count
+count s = says-count (s .args .c) (sym (length-map (s .args .c .modules) _) ∙ s .good .0 .1 .1 .1 .1 .1 .0 .1 .0 .1) (ruled-count (s .args .c) (s .pre))
+
+matches : (c : tie.Else1) → blockRefusal (announcedBy (c .before .before .before .before .args .c)) (length (c .before .before .before .before .args .image .now)) (d (c .before .before .before .before)) ≡ 0
+matches c = sym (c .before .block-refusal .ensures) ∙ c .if1 .left
+
+its : (c : tie.Else1) → Fits (announcedBy (c .before .before .before .before .args .c)) (length (c .before .before .before .before .args .image .now)) (d (c .before .before .before .before))
+its c = fits _ _ _ (matches c)
+
+keeping : (c : tie.Else1) → Kept (says (c .before .before .before .before))
+keeping c = let s = c .before .before .before .before in let u = its c .found in kept (says s) (omega arith) (ruled-says (s .args .c) (s .pre))
+
+place : (c : tie.After-place-from) → c .place-from .result ≡ placeOf (announcedBy (c .before .before .before .before .before .before .before .args .c)) (d (c .before .before .before .before .before .before .before) .number)
+unfolding announcedBy arrivedIn
+place c = let e = c .place-from .ensures .0 in omega arith
+
+block-refusal-requires : tie.Need-block-refusal-requires
+block-refusal-requires c κs = ruled-count (c .before .before .args .c) (c .before .before .pre)
+
+refuse-requires : tie.Need-refuse-requires
+refuse-requires c κs = search needs
+
+returns : tie.Need-returns
+returns c =
+    let s = c .before .before .before .before .before in
+    let e = c .before .before .block-refusal .ensures in
+    let o = arrived-bad (says s) (s .args .image .now) (d s) (λ z. c .before .if1 .taken (e ∙ z)) in
+    rw (o, c .refuse .ensures, e) (refl, refl)
+
+cast-place-from : tie.Need-cast-place-from
+cast-place-from c = search needs
+
+place-from-requires : tie.Need-place-from-requires
+place-from-requires c κs = (ruled-count (c .before .before .before .before .before .before .args .c) (c .before .before .before .before .before .before .pre), omega arith)
+
+put-requires : tie.Need-put-requires
+unfolding arrivedIn
+put-requires c κs =
+    let s = c .before .before .before .before .before .before .before .before in
+    let f = its (c .before .before .before .before) in
+    let k = keeping (c .before .before .before .before) in
+    let p = place (c .before) in
+    let n = count s in
+    let u = f .found in
+    (omega arith, ruled-count (s .args .c) (s .pre), number-small (says s) k _ _ (f .found) (f .within), rw p (fits-in (record { says = says s; image = s .args .image .now }) k (d s) f))
+
+same-length : tie.Need-same-length
+same-length c = search needs
+
+returns-2 : tie.Need-returns-2
+returns-2 c =
+    let s = c .before .before .before .before .before .before .before .before .before .before .before in
+    let o = arrived-good (says s) (s .args .image .now) (d s) (matches (c .before .before .before .before .before .before .before)) in
+    let p = place (c .before .before .before .before) in
+    rw (o, ← p) (c .before .before .put .ensures .0, c .before .before .put .ensures .1)
+
+pub take-block-spec : {M : Type 1} → statement M
+take-block-spec =
+    tie.close
+    (tie.spec
+    block-refusal-requires
+    refuse-requires
+    returns
+    cast-place-from
+    place-from-requires
+    put-requires
+    same-length
+    returns-2)

@@ -1,0 +1,6 @@
+pub mod Blocks
+pub mod Marks
+pub mod Record
+pub mod Changes
+pub mod Step
+pub mod Calls
