@@ -4,3 +4,8 @@ pub mod View
 pub mod Matching
 pub mod Simulation
 pub mod Steps
+pub mod Exact
+pub mod Complete
+pub mod Longest
+pub mod Soundings
+pub mod Unique

@@ -9,13 +9,12 @@ use lib.Dec.{eqb}
 use lib.ListN.{length}
 use borrow.Author.Tests.{eq-eqb, ne-eqb, eqb-true, lt-ltb, le-ltb}
 use Rattle.wire.specs.Tests.{firstMet}
-use Rattle.wire.proofs.Laws.Tests.{both}
+use Rattle.wire.proofs.Laws.Tests.{both, clash}
 use Rattle.messages.specs.Limits.{twice11}
 use Rattle.messages.specs.Heard.{Announced, Arrived, Heard, refusal, announced, arrived}
 use Rattle.carousel.specs.Record.{numbersOf, moduleAt, placeOf, bytesOf, blockCount, blockLength}
 use Rattle.carousel.specs.Step.{meets12, meets13, meets14, meets15, meets16, blockRefusal}
 use Rattle.carousel.proofs.Views.{blockMatches, heardMatches, Matching}
-use Rattle.carousel.proofs.Laws.Tests.{clash}
 use Rattle.carousel.proofs.Laws.Places.{place-is}
 use Rattle.carousel.proofs.View.{fits}
 
@@ -65,6 +64,6 @@ same-block c d e = cc
 pub matching-means : (a : Announced) → twice11 (numbersOf (a .modules)) ≡ false → (n i b : ℕ) → i < length (a .modules) → (h : Heard)
     → (heardMatches a n i b h ≡ true) ↔ ((d : Arrived) × (h ≡ arrived d) × Matching a n i b d)
 unfolding heardMatches
-matching-means a k n i b u (refusal m) = ((λ e. clash _ e refl), (λ p. cc (p .1)))
-matching-means a k n i b u (announced c) = ((λ e. clash _ e refl), (λ p. cc (p .1)))
+matching-means a k n i b u (refusal m) = ((λ e. absurd (clash _ e refl)), (λ p. cc (p .1)))
+matching-means a k n i b u (announced c) = ((λ e. absurd (clash _ e refl)), (λ p. cc (p .1)))
 matching-means a k n i b u (arrived d) = ((λ e. (d, refl, means a k n i b u d e)), (λ p. rw (same-block d (p .0) (p .1)) (meant a k n i b u (p .0) (p .2))))

@@ -9,27 +9,24 @@ use lib.Dec.{eqb}
 use lib.ListN.{length, replicate}
 use lib.Seq.{take-at, drop-at}
 use borrow.Author.Tests.{eqb-true, le-leb}
+use Rattle.wire.proofs.Laws.Tests.{clash}
 use Rattle.section.specs.Answer.{refused}
 use Rattle.messages.specs.declared.Listed.{Listed}
 use Rattle.messages.specs.Limits.{mostModules, beyond10, twice11}
 use Rattle.messages.specs.Heard.{Announced, Heard, refusal, announced, arrived, heardOf}
+use Rattle.messages.proofs.Laws.Heard.{heard-limits}
 use Rattle.carousel.specs.declared.Carousel.{Carousel}
 use Rattle.carousel.specs.Marks.{clearFrom, marksWithin}
 use Rattle.carousel.specs.Record.{Record, sizesOf, numbersOf, listedIn, startIn, announcedBy, startsBy, recordOf, placeOf, sums, sameNumbers, withinLimits, ruled, unused, allUnused, ruledOf}
 use Rattle.carousel.specs.Changes.{emptyRecord, entries, madeAfresh, withMark, afresh, marking}
-use Rattle.carousel.specs.Step.{blockRefusal, sameAnnounced, Outcome, refusing, new, same, repeated, stored, matched, onArrived, onAnnounced, onHeard, outcomeOf, carouselAfter, recordAfter}
+use Rattle.carousel.specs.Step.{blockRefusal, sameAnnounced, Outcome, refusing, new, same, repeated, stored, matched, onArrived, onAnnounced, onHeard, outcomeOf, carouselAfter, recordAfter, steppedOf}
 use Rattle.carousel.proofs.Views.{isNew}
-use Rattle.carousel.proofs.Laws.Tests.{clash}
 use Rattle.carousel.proofs.Laws.Places.{few-modules}
 use Rattle.carousel.proofs.Laws.Rule.{kept, keeps, fresh-kept, shaped, ruled-parts, parts-ruled}
+use Rattle.carousel.proofs.Laws.Afresh.{entries-length}
 use Rattle.carousel.proofs.View.{fits, matched-fixed, arrived-old}
 
 -- the entries of a record made afresh
-entries-length : (s : ℕ) (ms : List Listed) → length (entries s ms) ≡ length ms
-unfolding entries
-entries-length s [] = refl
-entries-length s (m ∷ ms) = ap suc (entries-length (s + m .size) ms)
-
 entries-listed : (s : ℕ) (ms : List Listed) → map listedIn (entries s ms) ≡ ms
 unfolding entries
 entries-listed s [] = refl
@@ -94,7 +91,7 @@ Limited h = (a : Announced) → h ≡ announced a → (beyond10 (a .blockSize) (
 shape-old : (c : Carousel) (o : Outcome) → isNew o ≡ false → shaped c ≡ true → shaped (carouselAfter c o) ≡ true
 unfolding isNew
 shape-old c (refusing n) e s = s
-shape-old c (new a) e s = clash _ refl e
+shape-old c (new a) e s = absurd (clash _ refl e)
 shape-old c same e s = s
 shape-old c repeated e s = s
 shape-old c (stored k at bytes) e s = mark-shaped c k ∙ s
@@ -133,12 +130,13 @@ pub empty-ruled : ruledOf emptyRecord ≡ true
 unfolding emptyRecord ruledOf allUnused ruled withinLimits sameNumbers sums announcedBy startsBy marksWithin clearFrom
 empty-ruled = refl
 
--- THE STEP KEEPS THE RULE, where no announcement is heard that 10 or 11 meets.
-module _ (keep : (s : List ℕ) (a : Announced) → heardOf s ≡ announced a → (beyond10 (a .blockSize) (sizesOf (a .modules)) ≡ false) × (twice11 (numbersOf (a .modules)) ≡ false)) where
-  pub step-rule : (c : Carousel) (s image : List ℕ) → ruledOf c ≡ true → ruledOf (carouselAfter c (outcomeOf c s image)) ≡ true
-  step-rule c s image e =
-      let p = ruled-parts c e in
-      let o = onHeard (recordOf c) image (heardOf s) in
-      let w : ruledOf (carouselAfter c o) ≡ true
-      = parts-ruled (carouselAfter c o) (shape-after c image (heardOf s) (keep s) (p .0)) (ap (λ (r : Record). ruled r) (says-after c o) ∙ rule-after (recordOf c) image (heardOf s) (keep s) (p .1)) in
-      rw (outcome-ruled c s image e) w
+-- THE STEP KEEPS THE RULE.
+pub step-rule : (c : Carousel) (s image : List ℕ) → ruledOf c ≡ true → ruledOf (steppedOf c s image .state) ≡ true
+unfolding steppedOf
+step-rule c s image e =
+    let p = ruled-parts c e in
+    let o = onHeard (recordOf c) image (heardOf s) in
+    let l = heard-limits s in
+    let w : ruledOf (carouselAfter c o) ≡ true
+    = parts-ruled (carouselAfter c o) (shape-after c image (heardOf s) l (p .0)) (ap (λ (r : Record). ruled r) (says-after c o) ∙ rule-after (recordOf c) image (heardOf s) l (p .1)) in
+    rw (outcome-ruled c s image e) w

@@ -9,6 +9,7 @@ use native.Mathlib.Omega.{arith}
 use lib.Dec.{eqb}
 use lib.ListN.{length, getD, take, drop}
 use borrow.Author.Tests.{eqb-true}
+use Rattle.wire.proofs.Laws.Tests.{clash}
 use Rattle.section.specs.declared.Refusal.{Refusal}
 use Rattle.section.specs.Answer.{refused}
 use Rattle.messages.specs.Heard.{Announced, Arrived, Heard, refusal, announced, arrived, heardOf}
@@ -21,7 +22,6 @@ use Rattle.carousel.specs.Changes.{madeAfresh, withMark, overwrite}
 use Rattle.carousel.specs.Step.{blockRefusal, bytesDiffer, sameAnnounced, Outcome, refusing, new, same, repeated, stored, matched, onArrived, onAnnounced, onHeard, outcomeOf}
 use Rattle.carousel.specs.Step.{answerOf, carouselAfter, imageAfter, steppedOf, imageOf}
 use Rattle.carousel.proofs.Views.{isNew}
-use Rattle.carousel.proofs.Laws.Tests.{clash}
 use Rattle.carousel.proofs.Laws.Marks.{mark-same, mark-other}
 use Rattle.carousel.proofs.Laws.Images.{length-over, over-same, over-outside}
 use Rattle.carousel.proofs.Laws.Rule.{Kept, kept, in-words, ruled-says}
@@ -38,10 +38,10 @@ changing answer.Repeated = false
 
 quiet : (c : Carousel) (image : List ℕ) (o : Outcome) → changing (answerOf o) ≡ false → (carouselAfter c o ≡ c) × (imageAfter image o ≡ image)
 quiet c image (refusing n) e = (refl, refl)
-quiet c image (new a) e = clash _ refl e
+quiet c image (new a) e = absurd (clash _ refl e)
 quiet c image same e = (refl, refl)
 quiet c image repeated e = (refl, refl)
-quiet c image (stored k at bytes) e = clash _ refl e
+quiet c image (stored k at bytes) e = absurd (clash _ refl e)
 
 module _ (c : Carousel) (s image : List ℕ) where
   step-quiet : changing (steppedOf c s image .answer) ≡ false → (steppedOf c s image .state ≡ c) × (imageOf c s image ≡ image)
@@ -101,22 +101,22 @@ made-new (stored k at bytes) = refl
 module _ (r : Record) (image : List ℕ) where
   made : (h : Heard) → isMade (answerOf (onHeard r image h)) ≡ true → Made r image h
   unfolding onHeard onAnnounced
-  made (refusal n) e = clash _ e refl
+  made (refusal n) e = absurd (clash _ e refl)
   made (announced a) e = go (sameAnnounced (r .announced) a) refl e
     where
       go : (t : Bool) → sameAnnounced (r .announced) a ≡ t → isMade (answerOf (cond t same (new a))) ≡ true → Made r image (announced a)
-      go true f e = clash _ e refl
+      go true f e = absurd (clash _ e refl)
       go false f e = record { told = a; heard = refl; came = rw f }
-  made (arrived d) e = clash _ e (made-new (onArrived r image d) ∙ arrived-old r image d)
+  made (arrived d) e = absurd (clash _ e (made-new (onArrived r image d) ∙ arrived-old r image d))
 
   put : (h : Heard) → isStored (answerOf (onHeard r image h)) ≡ true → Put r image h
   unfolding onHeard onAnnounced onArrived matched
-  put (refusal n) e = clash _ e refl
+  put (refusal n) e = absurd (clash _ e refl)
   put (announced a) e = go (sameAnnounced (r .announced) a) e
     where
       go : (t : Bool) → isStored (answerOf (cond t same (new a))) ≡ true → Put r image (announced a)
-      go true e = clash _ e refl
-      go false e = clash _ e refl
+      go true e = absurd (clash _ e refl)
+      go false e = absurd (clash _ e refl)
   put (arrived d) e =
       go (eqb (blockRefusal (r .announced) (length image) d) 0) (received r (placeOf (r .announced) (d .number)) (d .block)) (bytesDiffer r image (placeOf (r .announced) (d .number)) d)
       refl refl e
@@ -126,10 +126,10 @@ module _ (r : Record) (image : List ℕ) where
           (stored (markOf (placeOf (r .announced) (d .number)) (d .block)) (blockAt r (placeOf (r .announced) (d .number)) (d .block)) (d .bytes)))
           (refusing (refused (blockRefusal (r .announced) (length image) d))))) ≡ true
           → Put r image (arrived d)
-      go true true true f g e = clash _ e refl
-      go true true false f g e = clash _ e refl
+      go true true true f g e = absurd (clash _ e refl)
+      go true true false f g e = absurd (clash _ e refl)
       go true false w f g e = record { block = d; heard = refl; fitting = fits _ _ d (eqb-true _ _ f); clear = g; came = rw (f, g) }
-      go false u w f g e = clash _ e refl
+      go false u w f g e = absurd (clash _ e refl)
 
 -- the mark and the place of a data section's block, in a record
 abbrev pub itsMark : Carousel → Arrived → ℕ
@@ -163,7 +163,7 @@ module _ (c : Carousel) (s image : List ℕ) where
     where
       go : (t : Bool) → ruledOf c ≡ t → ruledOf c ≡ true
       go true f = f
-      go false f = clash _ e (ap changing (broken-refused c s image f))
+      go false f = absurd (clash _ e (ap changing (broken-refused c s image f)))
 
   heard-answer : ruledOf c ≡ true → steppedOf c s image .answer ≡ answerOf (onHeard (recordOf c) image (heardOf s))
   unfolding steppedOf

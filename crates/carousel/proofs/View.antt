@@ -10,16 +10,18 @@ use native.Mathlib.Decide.{decLt}
 use lib.Dec.{eqb, ltb}
 use lib.ListN.{length, getD, take, drop}
 use borrow.Author.Tests.{eqb-true, eqb-false, ltb-true, ltb-false, not-false}
+use Rattle.wire.proofs.Laws.Tests.{neither, clash}
+use Rattle.wire.proofs.Laws.Order.{none-exactly}
 use Rattle.section.specs.Answer.{refused}
 use Rattle.messages.specs.Heard.{Announced, Arrived, Heard, refusal, announced, arrived}
 use Rattle.carousel.specs.declared.Answer.the-variants as answer
 use Rattle.carousel.specs.Marks.{markOf}
 use Rattle.carousel.specs.Record.{Record, sizesOf, moduleAt, placeOf, bytesOf, sums, blockCount, blockLength, received, blockAt, sameNumbers}
 use Rattle.carousel.specs.Changes.{marking, overwrite}
-use Rattle.carousel.specs.Step.{meets12, meets13, meets14, meets15, meets16, blockRefusal, bytesDiffer, sameAnnounced}
+use Rattle.carousel.specs.Step.{meets12, meets13, meets14, meets15, meets16, blockTests, blockRefusal, bytesDiffer, sameAnnounced}
 use Rattle.carousel.specs.Step.{refusing, new, same, repeated, stored, matched, onArrived, onAnnounced, onHeard, answerOf}
 use Rattle.carousel.proofs.Views.{Held, after, Slot, slot, hit, reply, blockMatches, heardMatches, heardBytes, isNew}
-use Rattle.carousel.proofs.Laws.Tests.{alike, clash, neither, none}
+use Rattle.carousel.proofs.Laws.Tests.{alike}
 use Rattle.carousel.proofs.Laws.Marks.{mark-same, mark-other}
 use Rattle.carousel.proofs.Laws.Blocks.{ends, apart}
 use Rattle.carousel.proofs.Laws.Places.{number-at, place-is, module-fits, modules-apart, block-size-pos}
@@ -38,19 +40,15 @@ pub record Fits (a : Announced) (n : ℕ) (d : Arrived) : Type 0 where
 pub fits : (a : Announced) (n : ℕ) (d : Arrived) → blockRefusal a n d ≡ 0 → Fits a n d
 unfolding blockRefusal meets12 meets13 meets14 meets15 meets16
 fits a n d e =
-    let e12 = none 12 (meets12 a d) _ (λ z. omega arith) e in
-    let e13 = none 13 (meets13 a (d .number)) _ (λ z. omega arith) (e12 .1) in
-    let e14 = none 14 (meets14 a d) _ (λ z. omega arith) (e13 .1) in
-    let e15 = none 15 (meets15 a n) _ (λ z. omega arith) (e14 .1) in
-    let e16 = none 16 (meets16 a d) _ (λ z. omega arith) (e15 .1) in
+    let t = none-exactly (blockTests a n d) (λ z. omega arith, (λ z. omega arith, (λ z. omega arith, (λ z. omega arith, (λ z. omega arith, tt))))) .0 e in
     let p = placeOf a (d .number) in
-    let h = neither (eqb (length (a .modules)) 0) (not (eqb (a .download) (d .download))) (e12 .0) in
-    let w = neither (not (ltb (d .block) (blockCount a p))) (not (eqb (length (d .bytes)) (blockLength a p (d .block)))) (e16 .0) in
+    let h = neither (eqb (length (a .modules)) 0) (not (eqb (a .download) (d .download))) (t .0) in
+    let w = neither (not (ltb (d .block) (blockCount a p))) (not (eqb (length (d .bytes)) (blockLength a p (d .block)))) (t .1 .1 .1 .1 .0) in
     record {
       download = eqb-true _ _ (not-false _ (h .1));
-      found = ltb-true _ _ (not-false _ (e13 .0));
-      version = eqb-true _ _ (not-false _ (e14 .0));
-      room = ltb-false _ _ (e15 .0);
+      found = ltb-true _ _ (not-false _ (t .1 .0));
+      version = eqb-true _ _ (not-false _ (t .1 .1 .0));
+      room = ltb-false _ _ (t .1 .1 .1 .0);
       within = ltb-true _ _ (not-false _ (w .0));
       whole = eqb-true _ _ (not-false _ (w .1));
     }
@@ -278,7 +276,7 @@ module _ (x : Held) (k : Kept (x .says)) where
     where
       go : (t : Bool) → isNew (cond t same (new a)) ≡ false → Fixed x (after x (cond t same (new a)))
       go true n = unchanged
-      go false n = clash _ refl n
+      go false n = absurd (clash _ refl n)
 
   pub fixed : (h : Heard) → isNew (onHeard (x .says) (x .image) h) ≡ false → Fixed x (after x (onHeard (x .says) (x .image) h))
   unfolding onHeard
@@ -304,7 +302,7 @@ module _ (x : Held) (k : Kept (x .says)) where
       where
         go : (t : Bool) → isNew (cond t same (new a)) ≡ false → slot (after x (cond t same (new a))) i b ≡ slot x i b
         go true n = refl
-        go false n = clash _ refl n
+        go false n = absurd (clash _ refl n)
 
     pub view-law : (h : Heard) → isNew (onHeard (x .says) (x .image) h) ≡ false
         → slot (after x (onHeard (x .says) (x .image) h)) i b ≡ cond (heardMatches (x .says .announced) (length (x .image)) i b h) (hit (heardBytes h) (slot x i b)) (slot x i b)

@@ -53,3 +53,9 @@ unfoldable pub reportOf : Carousel → (number : ℕ) → Report
 reportOf c number = cond (eqb (missingNumber c number) 0)
     (reportOn (missingOf (recordOf c) (placeOf (announcedBy c) number)))
     (report.Refused (refused (missingNumber c number)))
+
+-- the paper's number of a report; 0 is no refusal
+abbrev pub numberOfReport : Report → ℕ
+numberOfReport (report.Refused r) = r .number
+numberOfReport report.Whole = 0
+numberOfReport (report.Lacking l) = 0

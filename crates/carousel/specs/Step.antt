@@ -2,13 +2,14 @@
 -- Assumes nothing.
 use Prim.Native.Nat.{ℕ}
 use mathlib.Core.Bool.{Bool, true, false, not, cond, _&&_, _||_}
-use mathlib.Core.List.{List, [], _∷_}
+use mathlib.Core.List.{List, [], _∷_, _++_}
 use lib.Dec.{eqb, ltb}
 use lib.ListN.{length, take, drop}
 use Rattle.wire.specs.Tests.{Tests, firstMet}
 use Rattle.section.specs.declared.Refusal.{Refusal}
 use Rattle.section.specs.Answer.{refused}
 use Rattle.messages.specs.declared.Listed.{Listed}
+use Rattle.messages.specs.Judged.{carouselTests}
 use Rattle.messages.specs.Heard.{Announced, Arrived, Heard, refusal, announced, arrived, heardOf}
 use Rattle.carousel.specs.declared.Carousel.{Carousel}
 use Rattle.carousel.specs.declared.Answer.{Answer}
@@ -45,7 +46,7 @@ blockTests a n d = (12, meets12 a d) ∷ (13, meets13 a (d .number)) ∷ (14, me
 unfoldable pub blockRefusal : Announced → ℕ → Arrived → ℕ
 blockRefusal a n d = firstMet (blockTests a n d)
 
--- 17: "block marked, bytes differ"
+-- whether the bytes now in the image are other ones
 unfoldable pub bytesDiffer : Record → List ℕ → (place : ℕ) → Arrived → Bool
 bytesDiffer r image i d = not (sameNumbers (take (length (d .bytes)) (drop (blockAt r i (d .block)) image)) (d .bytes))
 
@@ -136,3 +137,17 @@ numberOf answer.New = 0
 numberOf answer.Same = 0
 numberOf answer.Stored = 0
 numberOf answer.Repeated = 0
+
+-- 17: "block marked, bytes differ"
+abbrev pub meets17 : Record → List ℕ → Arrived → Bool
+meets17 r image d = received r (placeOf (r .announced) (d .number)) (d .block) && bytesDiffer r image (placeOf (r .announced) (d .number)) d
+
+-- what a record holds against what was heard: 12 to 17 for a data section, and nothing for any other
+abbrev pub heardTests : Record → List ℕ → Heard → Tests
+heardTests r image (refusal n) = []
+heardTests r image (announced a) = []
+heardTests r image (arrived d) = blockTests (r .announced) (length image) d ++ ((17, meets17 r image d) ∷ [])
+
+-- The paper's table for one section, in its order: 1, then 2 to 11 of the section itself (with the paper's exception), then 12 to 17.
+abbrev pub stepTests : Carousel → (s image : List ℕ) → Tests
+stepTests c s image = (1, not (ruledOf c)) ∷ (carouselTests s ++ heardTests (recordOf c) image (heardOf s))

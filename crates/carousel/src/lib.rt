@@ -27,8 +27,9 @@ ghost use mathlib.Core.Bool.{true};
 ghost use Prim.Native.Nat.{_<_};
 ghost use Rattle.carousel.specs.Record.{announcedBy, recordOf, placeOf, missingOf, ruledOf};
 ghost use Rattle.carousel.specs.Changes.{emptyRecord};
-ghost use Rattle.carousel.specs.Step.{steppedOf, imageOf};
-ghost use Rattle.carousel.specs.Calls.{lackOf, handoutNumber, handedOut, reportOf};
+ghost use Rattle.wire.specs.Tests.{firstMet};
+ghost use Rattle.carousel.specs.Step.{steppedOf, imageOf, numberOf, stepTests};
+ghost use Rattle.carousel.specs.Calls.{lackOf, handoutNumber, handedOut, missingNumber, reportOf, numberOfReport};
 
 // An announced module, and where it starts in the image.
 pub struct Module {
@@ -94,7 +95,8 @@ pub fn empty() -> Carousel
 // One section: its answer, the record after it, and the image changed where a block was stored.
 pub fn step(c: Carousel, s: &[u8], image: &mut [u8]) -> Stepped
     ensures { λ r. ⌜ (r ≡ steppedOf c (now (s .entry)) (now (image .entry)))
-        × (now (image .exit) ≡ imageOf c (now (s .entry)) (now (image .entry))) ⌝ }
+        × (now (image .exit) ≡ imageOf c (now (s .entry)) (now (image .entry)))
+        × (numberOf (r .answer) ≡ firstMet (stepTests c (now (s .entry)) (now (image .entry)))) ⌝ }
 {
     if !is_ruled(c) {
         return refuse(c, 1);
@@ -157,7 +159,7 @@ pub fn handout<'a>(c: Carousel, image: &'a [u8], number: u16) -> &'a [u8]
 
 // How many blocks of the module with this number are missing, and the lowest of them.
 pub fn missing(c: Carousel, number: u16) -> Report
-    ensures { λ r. ⌜ r ≡ reportOf c number ⌝ }
+    ensures { λ r. ⌜ (r ≡ reportOf c number) × (numberOfReport r ≡ missingNumber c number) ⌝ }
 {
     if !is_ruled(c) {
         return Report::Refused(Refusal { number: 1 });

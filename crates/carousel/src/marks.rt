@@ -24,11 +24,11 @@ pub fn with_mark(c: Carousel, k: usize) -> Carousel
     requires { ⌜ k < 4096 ⌝ }
     ensures { λ r. ⌜ r ≡ withMark c k ⌝ }
 {
-    let w = k / 32;
-    let b = (k % 32) as u32;
+    let word = k / 32;
+    let bit = (k % 32) as u32;
     let mut next = c;
-    let x = next.marks[w];
-    next.marks[w] = x | (1u32 << b);
+    let before = next.marks[word];
+    next.marks[word] = before | (1u32 << bit);
     next
 }
 

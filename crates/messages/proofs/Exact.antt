@@ -24,7 +24,7 @@ use Rattle.messages.specs.declared.Block.{Block}
 use Rattle.messages.specs.declared.Judged.the-variants as judged
 use Rattle.messages.specs.Message.{payloadOf}
 use Rattle.messages.specs.Refusals.{short7, meets8, meets7, meets9, meets10, meets11, payloadTests, messageTests, messageRefusal}
-use Rattle.messages.specs.Judged.{tableOf, announcementOf, blockOf, readOf, messageJudged, judgedOf, numberOfJudged}
+use Rattle.messages.specs.Judged.{tableOf, announcementOf, blockOf, readOf, messageJudged, judgedOf, numberOfJudged, tableIn, carouselTests}
 use Rattle.messages.proofs.Laws.Refusals.{judged-good, judged-refused, judged-message}
 
 -- no number in the table is 0
@@ -138,26 +138,18 @@ read-number Blocks b = refl
 
 module _ (s : List ℕ) where
   -- its table, and the message's refusal in it
-  abbrev pub tableIn : Table
-  tableIn = tableOf (headerOf s .table)
-
   abbrev pub inMessage : ℕ
-  inMessage = messageRefusal tableIn (headerOf s) (bodyOf s)
+  inMessage = messageRefusal (tableIn s) (headerOf s) (bodyOf s)
 
-  -- the tests of the section, and then those of the message
-  abbrev pub carouselTests : Tests
-  carouselTests = sectionTests Carousel s ++ messageTests tableIn (headerOf s) (bodyOf s)
-
-  -- a section that is good for its own part is judged as its message is
-  by-message : refusalOf Carousel s ≡ 0 → messageJudged tableIn (headerOf s) (bodyOf s) ≡ judgedOf s
+  by-message : refusalOf Carousel s ≡ 0 → messageJudged (tableIn s) (headerOf s) (bodyOf s) ≡ judgedOf s
   by-message z = judged-message s (headerOf s) (section.accepted-with Carousel s z)
 
-  message-number : numberOfJudged (messageJudged tableIn (headerOf s) (bodyOf s)) ≡ inMessage
+  message-number : numberOfJudged (messageJudged (tableIn s) (headerOf s) (bodyOf s)) ≡ inMessage
   unfolding messageJudged
   message-number = go (eqb inMessage 0) refl
     where
-      go : (t : Bool) → eqb inMessage 0 ≡ t → numberOfJudged (cond t (readOf tableIn (bodyOf s)) (judged.Refused (refused inMessage))) ≡ inMessage
-      go true e = read-number tableIn (bodyOf s) ∙ sym (eqb-true _ _ e)
+      go : (t : Bool) → eqb inMessage 0 ≡ t → numberOfJudged (cond t (readOf (tableIn s) (bodyOf s)) (judged.Refused (refused inMessage))) ≡ inMessage
+      go true e = read-number (tableIn s) (bodyOf s) ∙ sym (eqb-true _ _ e)
       go false e = refl
 
   pub judged-number : numberOfJudged (judgedOf s) ≡ cond (eqb (refusalOf Carousel s) 0) inMessage (refusalOf Carousel s)
@@ -168,12 +160,12 @@ module _ (s : List ℕ) where
       go false e = ap numberOfJudged (sym (judged-refused s _ (section.refused-with Carousel s (eqb-false _ _ e))))
 
   -- n EXACTLY WHERE THE FIRST TEST THAT HOLDS IS OF n, IN THE SECTION'S TABLE AND THEN THE MESSAGE'S
-  all-tests : numberOfJudged (judgedOf s) ≡ firstMet carouselTests
+  pub all-tests : numberOfJudged (judgedOf s) ≡ firstMet (carouselTests s)
   unfolding refusalOf messageRefusal
-  all-tests = judged-number ∙ sym (met-append 0 (sectionTests Carousel s) (messageTests tableIn (headerOf s) (bodyOf s)) (section.rising Carousel s))
+  all-tests = judged-number ∙ sym (met-append 0 (sectionTests Carousel s) (messageTests (tableIn s) (headerOf s) (bodyOf s)) (section.rising Carousel s))
 
-  pub refused-exactly : (n : ℕ) → 0 < n → (numberOfJudged (judgedOf s) ≡ n) ↔ First n carouselTests
-  refused-exactly n p = rw all-tests (first-exactly carouselTests n p)
+  pub refused-exactly : (n : ℕ) → 0 < n → (numberOfJudged (judgedOf s) ≡ n) ↔ First n (carouselTests s)
+  refused-exactly n p = rw all-tests (first-exactly (carouselTests s) n p)
 
   -- no refusal: neither of the section nor of the message
   neither-refused : numberOfJudged (judgedOf s) ≡ 0 → (refusalOf Carousel s ≡ 0) × (inMessage ≡ 0)
@@ -184,23 +176,23 @@ module _ (s : List ℕ) where
       go false e m = absurd (eqb-false _ _ e m)
 
   -- TAKEN EXACTLY WHERE THE ANSWER IS WHAT THE MESSAGE SAYS, AND WHERE SECTION AND MESSAGE ARE GOOD
-  pub taken-exactly : (numberOfJudged (judgedOf s) ≡ 0) ↔ (judgedOf s ≡ readOf tableIn (bodyOf s))
-  taken-exactly = (there, λ e. ap numberOfJudged e ∙ read-number tableIn (bodyOf s))
+  pub taken-exactly : (numberOfJudged (judgedOf s) ≡ 0) ↔ (judgedOf s ≡ readOf (tableIn s) (bodyOf s))
+  taken-exactly = (there, λ e. ap numberOfJudged e ∙ read-number (tableIn s) (bodyOf s))
     where
-      there : numberOfJudged (judgedOf s) ≡ 0 → judgedOf s ≡ readOf tableIn (bodyOf s)
+      there : numberOfJudged (judgedOf s) ≡ 0 → judgedOf s ≡ readOf (tableIn s) (bodyOf s)
       there z = let q = neither-refused z in sym (judged-good _ _ _ (q .1) ∙ by-message (q .0))
 
-  pub good-exactly : (numberOfJudged (judgedOf s) ≡ 0) ↔ (GoodSection Carousel s × None (messageTests tableIn (headerOf s) (bodyOf s)))
+  pub good-exactly : (numberOfJudged (judgedOf s) ≡ 0) ↔ (GoodSection Carousel s × None (messageTests (tableIn s) (headerOf s) (bodyOf s)))
   good-exactly = (there, back)
     where
-      there : numberOfJudged (judgedOf s) ≡ 0 → GoodSection Carousel s × None (messageTests tableIn (headerOf s) (bodyOf s))
+      there : numberOfJudged (judgedOf s) ≡ 0 → GoodSection Carousel s × None (messageTests (tableIn s) (headerOf s) (bodyOf s))
       there z = let q = neither-refused z in (section.good-exactly Carousel s .0 (q .0), message-taken _ _ _ .0 (q .1))
 
-      back : GoodSection Carousel s × None (messageTests tableIn (headerOf s) (bodyOf s)) → numberOfJudged (judgedOf s) ≡ 0
+      back : GoodSection Carousel s × None (messageTests (tableIn s) (headerOf s) (bodyOf s)) → numberOfJudged (judgedOf s) ≡ 0
       back g = judged-number ∙ rw (eq-eqb (refusalOf Carousel s) 0 (section.good-exactly Carousel s .1 (g .0))) (message-taken _ _ _ .1 (g .1))
 
   -- AN ANNOUNCEMENT EXACTLY OF ONE TABLE, A BLOCK EXACTLY OF THE OTHER
-  pub announced-exactly : (a : Announcement) → (judgedOf s ≡ judged.Announced a) ↔ ((numberOfJudged (judgedOf s) ≡ 0) × (tableIn ≡ Announcements) × (announcementOf (bodyOf s) ≡ a))
+  pub announced-exactly : (a : Announcement) → (judgedOf s ≡ judged.Announced a) ↔ ((numberOfJudged (judgedOf s) ≡ 0) × ((tableIn s) ≡ Announcements) × (announcementOf (bodyOf s) ≡ a))
   unfolding readOf
   announced-exactly a = (there, back)
     where
@@ -208,16 +200,16 @@ module _ (s : List ℕ) where
       read Announcements e = (refl, cc)
       read Blocks e = let z : _≡_ {A = ℕ} 0 1 = cc in absurd (omega arith)
 
-      there : judgedOf s ≡ judged.Announced a → (numberOfJudged (judgedOf s) ≡ 0) × (tableIn ≡ Announcements) × (announcementOf (bodyOf s) ≡ a)
+      there : judgedOf s ≡ judged.Announced a → (numberOfJudged (judgedOf s) ≡ 0) × ((tableIn s) ≡ Announcements) × (announcementOf (bodyOf s) ≡ a)
       there e =
           let z = ap numberOfJudged e in
-          let q = read tableIn (sym (taken-exactly .0 z) ∙ e) in
+          let q = read (tableIn s) (sym (taken-exactly .0 z) ∙ e) in
           (z, q .0, q .1)
 
-      back : (numberOfJudged (judgedOf s) ≡ 0) × (tableIn ≡ Announcements) × (announcementOf (bodyOf s) ≡ a) → judgedOf s ≡ judged.Announced a
+      back : (numberOfJudged (judgedOf s) ≡ 0) × ((tableIn s) ≡ Announcements) × (announcementOf (bodyOf s) ≡ a) → judgedOf s ≡ judged.Announced a
       back w = taken-exactly .0 (w .0) ∙ ap (λ (t : Table). readOf t (bodyOf s)) (w .1) ∙ ap judged.Announced (w .2)
 
-  pub carried-exactly : (b : Block) → (judgedOf s ≡ judged.Carried b) ↔ ((numberOfJudged (judgedOf s) ≡ 0) × (tableIn ≡ Blocks) × (blockOf (bodyOf s) ≡ b))
+  pub carried-exactly : (b : Block) → (judgedOf s ≡ judged.Carried b) ↔ ((numberOfJudged (judgedOf s) ≡ 0) × ((tableIn s) ≡ Blocks) × (blockOf (bodyOf s) ≡ b))
   unfolding readOf
   carried-exactly b = (there, back)
     where
@@ -225,11 +217,11 @@ module _ (s : List ℕ) where
       read Announcements e = let z : _≡_ {A = ℕ} 0 1 = cc in absurd (omega arith)
       read Blocks e = (refl, cc)
 
-      there : judgedOf s ≡ judged.Carried b → (numberOfJudged (judgedOf s) ≡ 0) × (tableIn ≡ Blocks) × (blockOf (bodyOf s) ≡ b)
+      there : judgedOf s ≡ judged.Carried b → (numberOfJudged (judgedOf s) ≡ 0) × ((tableIn s) ≡ Blocks) × (blockOf (bodyOf s) ≡ b)
       there e =
           let z = ap numberOfJudged e in
-          let q = read tableIn (sym (taken-exactly .0 z) ∙ e) in
+          let q = read (tableIn s) (sym (taken-exactly .0 z) ∙ e) in
           (z, q .0, q .1)
 
-      back : (numberOfJudged (judgedOf s) ≡ 0) × (tableIn ≡ Blocks) × (blockOf (bodyOf s) ≡ b) → judgedOf s ≡ judged.Carried b
+      back : (numberOfJudged (judgedOf s) ≡ 0) × ((tableIn s) ≡ Blocks) × (blockOf (bodyOf s) ≡ b) → judgedOf s ≡ judged.Carried b
       back w = taken-exactly .0 (w .0) ∙ ap (λ (t : Table). readOf t (bodyOf s)) (w .1) ∙ ap judged.Carried (w .2)

@@ -2,12 +2,14 @@
 -- Assumes nothing.
 use Prim.Native.Nat.{ℕ, _+_, _-_}
 use mathlib.Core.Bool.{cond}
-use mathlib.Core.List.{List}
+use mathlib.Core.List.{List, _++_}
 use lib.Dec.{eqb}
 use lib.ListN.{length}
+use Rattle.wire.specs.Tests.{Tests}
 use Rattle.section.specs.declared.Rules.the-variants.{Carousel}
 use Rattle.section.specs.declared.Header.{Header}
-use Rattle.section.specs.Header.{announcementTable, bodyOf}
+use Rattle.section.specs.Header.{announcementTable, headerOf, bodyOf}
+use Rattle.section.specs.Refusals.{sectionTests}
 use Rattle.section.specs.Answer.{refused, checkedOf, onChecked}
 use Rattle.messages.specs.declared.Table.{Table}
 use Rattle.messages.specs.declared.Table.the-variants.{Announcements, Blocks}
@@ -17,7 +19,7 @@ use Rattle.messages.specs.declared.Judged.{Judged}
 use Rattle.messages.specs.declared.Judged.the-variants as judged
 use Rattle.messages.specs.Message.{identifierOf, adaptationOf, payloadOf}
 use Rattle.messages.specs.Contents.{downloadOf, blockSizeOf, moduleCountOf, modulesStart, modulesEnd, blockModuleOf, blockVersionOf, blockNumberOf}
-use Rattle.messages.specs.Refusals.{messageRefusal}
+use Rattle.messages.specs.Refusals.{messageTests, messageRefusal}
 
 -- "DSM-CC sections 0x3B and 0x3C become an announcement (DII) and blocks (DDB)"
 abbrev pub tableOf : ℕ → Table
@@ -66,3 +68,10 @@ abbrev pub numberOfJudged : Judged → ℕ
 numberOfJudged (judged.Refused r) = r .number
 numberOfJudged (judged.Announced a) = 0
 numberOfJudged (judged.Carried b) = 0
+
+-- The paper's table for a carousel section, in its order: 2 to 6 of the section, then those of its message, with the exception.
+abbrev pub tableIn : List ℕ → Table
+tableIn s = tableOf (headerOf s .table)
+
+abbrev pub carouselTests : List ℕ → Tests
+carouselTests s = sectionTests Carousel s ++ messageTests (tableIn s) (headerOf s) (bodyOf s)

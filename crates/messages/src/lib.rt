@@ -21,7 +21,8 @@ use wire::byte_at;
 use wire::sixteen_at;
 use wire::thirty_two_at;
 ghost use mathlib.Core.Path.{_≡_};
-ghost use Rattle.messages.specs.Judged.{judgedOf};
+ghost use Rattle.wire.specs.Tests.{firstMet};
+ghost use Rattle.messages.specs.Judged.{judgedOf, numberOfJudged, carouselTests};
 ghost use Rattle.messages.specs.Heard.{noneListed, listedAt};
 
 // Which of the carousel's two tables.
@@ -64,7 +65,7 @@ pub enum Judged {
 
 // What a carousel section is, whatever was announced before.
 pub fn judge(s: &[u8]) -> Judged
-    ensures { λ r. ⌜ r ≡ judgedOf (now (s .entry)) ⌝ }
+    ensures { λ r. ⌜ (r ≡ judgedOf (now (s .entry))) × (numberOfJudged r ≡ firstMet (carouselTests (now (s .entry)))) ⌝ }
 {
     let checked = section::check(s, Rules::Carousel);
     match checked {

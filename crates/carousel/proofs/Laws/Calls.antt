@@ -2,21 +2,21 @@
 -- Assumes nothing.
 use Prim.Native.Nat.{ℕ, suc, _≤_, _<_}
 use mathlib.Core.Path.{_≡_, refl, sym, ap, _∙_}
-use mathlib.Core.Bool.{true, false}
+use mathlib.Core.Bool.{Bool, true, false, cond}
 use mathlib.Core.List.{List, [], _∷_}
 use native.Mathlib.Omega.{arith}
 use lib.Dec.{eqb, ltb}
 use lib.ListN.{length}
-use borrow.Author.Tests.{eq-eqb, ne-eqb, lt-ltb, le-ltb, ltb-true, ltb-false, not-false}
+use borrow.Author.Tests.{eq-eqb, ne-eqb, eqb-true, lt-ltb, le-ltb, ltb-true, ltb-false, not-false}
 use Rattle.wire.specs.Tests.{firstMet}
+use Rattle.wire.proofs.Laws.Order.{none-exactly}
 use Rattle.section.specs.Answer.{refused}
 use Rattle.carousel.specs.declared.Carousel.{Carousel}
 use Rattle.carousel.specs.declared.Lack.{Lack}
 use Rattle.carousel.specs.declared.Report.the-variants as report
 use Rattle.carousel.specs.Record.{announcedBy, recordOf, placeOf, bytesOf, missingOf, completeOf, partOf, ruledOf}
 use Rattle.carousel.specs.Step.{meets13, meets15}
-use Rattle.carousel.specs.Calls.{handoutNumber, handedOut, missingNumber, lackOf, reportOn, reportOf}
-use Rattle.carousel.proofs.Laws.Tests.{none}
+use Rattle.carousel.specs.Calls.{handoutTests, handoutNumber, handedOut, missingNumber, lackOf, reportOn, reportOf, numberOfReport}
 
 -- how many, and none
 pub lack-count : (bs : List ℕ) → lackOf bs .count ≡ length bs
@@ -53,6 +53,20 @@ module _ (c : Carousel) (number : ℕ) where
     pub report-is : place < length (announcedBy c .modules) → reportOf c number ≡ reportOn lacks
     unfolding reportOf missingNumber firstMet meets13
     report-is h = rw (r, lt-ltb place (length (announcedBy c .modules)) h)
+
+  -- its number
+  on-number : (bs : List ℕ) → numberOfReport (reportOn bs) ≡ 0
+  unfolding reportOn
+  on-number [] = refl
+  on-number (b ∷ bs) = refl
+
+  pub report-number : numberOfReport (reportOf c number) ≡ missingNumber c number
+  unfolding reportOf
+  report-number = go (eqb (missingNumber c number) 0) refl
+    where
+      go : (t : Bool) → eqb (missingNumber c number) 0 ≡ t → numberOfReport (cond t (reportOn lacks) (report.Refused (refused (missingNumber c number)))) ≡ missingNumber c number
+      go true e = on-number lacks ∙ sym (eqb-true (missingNumber c number) 0 e)
+      go false e = refl
 
   -- the hand-out's number
   module _ (image : List ℕ) where
@@ -95,10 +109,8 @@ module _ (c : Carousel) (number : ℕ) where
     pub given-out : handoutNumber c image number ≡ 0 → (ruledOf c ≡ true) × (place < length (announcedBy c .modules)) × (bytesOf (announcedBy c) ≤ length image)
     unfolding handoutNumber meets13 meets15
     given-out e =
-        let f = none 1 _ _ (λ z. omega arith) e in
-        let g = none 13 _ _ (λ z. omega arith) (f .1) in
-        let h = none 15 _ _ (λ z. omega arith) (g .1) in
-        (not-false _ (f .0), ltb-true place (length (announcedBy c .modules)) (not-false _ (g .0)), ltb-false (length image) (bytesOf (announcedBy c)) (h .0))
+        let f = none-exactly (handoutTests c image number) (λ z. omega arith, (λ z. omega arith, (λ z. omega arith, (λ z. omega arith, tt)))) .0 e in
+        (not-false _ (f .0), ltb-true place (length (announcedBy c .modules)) (not-false _ (f .1 .0)), ltb-false (length image) (bytesOf (announcedBy c)) (f .1 .1 .0))
 
     pub out-none : (handoutNumber c image number ≡ 0 → ⊥) → handedOut c image number ≡ []
     unfolding handedOut

@@ -14,10 +14,10 @@ use lib.Bits.{bitOr, or-shr, or-mod, or-zero-r}
 use lib.ListN.{length, getD, set, take, drop, replicate}
 use lib.Seq.{getD-set-same, getD-set-other, take-set-lt, take-set-le, drop-set-lt, drop-set-add, getD-take, getD-drop}
 use borrow.Author.Tests.{eq-eqb, eqb-true}
-use Rattle.wire.proofs.Laws.Tests.{both}
+use Rattle.wire.proofs.Laws.Tests.{both, clash}
 use Rattle.messages.specs.Limits.{mostBlocks}
 use Rattle.carousel.specs.Marks.{moduleWords, markOf, isMarked, marksWith, clearFrom, marksWithin}
-use Rattle.carousel.proofs.Laws.Tests.{alike, clash, joint}
+use Rattle.carousel.proofs.Laws.Tests.{alike, joint}
 
 -- a number below 2 is 0 or 1
 two : (n : ℕ) → n < 2 → (n ≡ 0) ⊎ (n ≡ 1)
@@ -103,7 +103,7 @@ clear-with n (w ∷ ws) k l e =
 -- and no other is
 pub clear-means : (n : ℕ) (ws : List ℕ) (k : ℕ) → clearFrom n ws ≡ true → isMarked ws k ≡ true → k < n
 unfolding clearFrom isMarked
-clear-means n [] k e m = clash _ m (rw (zero-div (2 ^ (k % 32))))
+clear-means n [] k e m = absurd (clash _ m (rw (zero-div (2 ^ (k % 32)))))
 clear-means n (w ∷ ws) k e m =
     let h = both (eqb (w / 2 ^ n) 0) (clearFrom (n - 32) ws) e in
     elim (decLt k 32) [
@@ -112,7 +112,7 @@ clear-means n (w ∷ ws) k e m =
           let r : k % 32 ≡ k = omega arith in
           elim (decLt k n) [
             | yes l ↦ l
-            | no l ↦ let z : eqb (w / 2 ^ k % 2) 1 ≡ true = rw (q, r) at m in clash _ z (rw (shifted w n k (eqb-true _ _ (h .0)) (omega arith)))
+            | no l ↦ let z : eqb (w / 2 ^ k % 2) 1 ≡ true = rw (q, r) at m in absurd (clash _ z (rw (shifted w n k (eqb-true _ _ (h .0)) (omega arith))))
           ]
       | no p ↦
           let q : k / 32 ≡ suc ((k - 32) / 32) = omega arith in

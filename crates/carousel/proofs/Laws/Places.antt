@@ -8,19 +8,18 @@ use native.Mathlib.Omega.{arith}
 use lib.Dec.{eqb, ltb, leb·suc-suc}
 use lib.ListN.{length, getD, length-map}
 use borrow.Author.Tests.{eq-eqb, ne-eqb, eqb-true, eqb-false, lt-ltb, ltb-false}
-use Rattle.wire.proofs.Laws.Tests.{both}
+use Rattle.wire.proofs.Laws.Tests.{both, neither, clash}
 use Rattle.messages.specs.declared.Listed.{Listed}
 use Rattle.messages.specs.Limits.{largestBlock, mostModules, mostBlocks, mostBytes, badSize, someBad, total, beyond10, among, twice11}
 use Rattle.messages.specs.Heard.{noneListed}
 use Rattle.carousel.specs.Record.{sizesOf, numbersOf, placeIn, sums, sameNumbers}
-use Rattle.carousel.proofs.Laws.Tests.{clash, neither}
 
 -- the same numbers are the same list
 pub same-is : (xs ys : List ℕ) → sameNumbers xs ys ≡ true → xs ≡ ys
 unfolding sameNumbers
 same-is [] [] e = refl
-same-is [] (y ∷ ys) e = clash _ e refl
-same-is (x ∷ xs) [] e = clash _ e refl
+same-is [] (y ∷ ys) e = absurd (clash _ e refl)
+same-is (x ∷ xs) [] e = absurd (clash _ e refl)
 same-is (x ∷ xs) (y ∷ ys) e =
     let h = both (eqb x y) (sameNumbers xs ys) e in
     rw (eqb-true x y (h .0), same-is xs ys (h .1))

@@ -1,6 +1,6 @@
 -- `carousel::missing` meets its contract: 1, 13, and else what the module lacks.
 -- Assumes nothing.
-use Prim.Native.Nat.{_<_}
+use Prim.Native.Nat.{ℕ, _<_}
 use mathlib.Core.Path.{_≡_, sym, ap, _∙_}
 use mathlib.Core.Bool.{true}
 use native.Mathlib.Omega.{arith}
@@ -8,10 +8,12 @@ use lib.ListN.{length, length-map}
 use borrow.Author.Tests.{not-true, not-false}
 use Rattle.carousel.specs.declared.Lack.{Lack}
 use Rattle.carousel.specs.Record.{announcedBy, recordOf, placeOf, missingOf, ruledOf}
-use Rattle.carousel.specs.Calls.{lackOf}
+use Rattle.carousel.specs.declared.Carousel.{Carousel}
+use Rattle.carousel.specs.declared.Report.{Report}
+use Rattle.carousel.specs.Calls.{lackOf, missingNumber, reportOf, numberOfReport}
 use Rattle.carousel.proofs.Laws.Rule.{ruled-count}
 use Rattle.carousel.proofs.Laws.Says.{says-count}
-use Rattle.carousel.proofs.Laws.Calls.{lack-whole, lack-some, report-1, report-13, report-is}
+use Rattle.carousel.proofs.Laws.Calls.{lack-whole, lack-some, report-1, report-13, report-is, report-number}
 use borrow.Author.Needs.{needs}
 use Rattle.carousel.proofs.missing.Statement.{statement}
 use Rattle.carousel.proofs.missing.Tie as tie
@@ -41,8 +43,12 @@ lack c =
 is-ruled-requires : tie.Need-is-ruled-requires
 is-ruled-requires c κs = search needs
 
+-- a report, with its number
+numbered : (c : Carousel) (n : ℕ) (r : Report) → r ≡ reportOf c n → (r ≡ reportOf c n) × (numberOfReport r ≡ missingNumber c n)
+numbered c n r e = (e, ap numberOfReport e ∙ report-number c n)
+
 returns : tie.Need-returns
-returns c = let s = c .before .before in sym (report-1 (s .args .c) (s .args .number) (sym (c .before .is-ruled .ensures) ∙ not-true _ (c .if1 .taken)))
+returns c = let s = c .before .before in numbered _ _ _ (sym (report-1 (s .args .c) (s .args .number) (sym (c .before .is-ruled .ensures) ∙ not-true _ (c .if1 .taken))))
 
 cast-n : tie.Need-cast-n
 cast-n c = search needs
@@ -51,7 +57,7 @@ place-from-requires : tie.Need-place-from-requires
 place-from-requires c κs = (ruled-count _ (ruled (c .before .before)), omega arith)
 
 returns-2 : tie.Need-returns-2
-returns-2 c = let s = c .before .before .before .before .before .before in sym (report-13 (s .args .c) (s .args .number) (ruled (c .before .before .before .before)) (let p = place (c .before) in let n = count (c .before .before .before .before) in omega (arith, c .if2 .taken)))
+returns-2 c = let s = c .before .before .before .before .before .before in numbered _ _ _ (sym (report-13 (s .args .c) (s .args .number) (ruled (c .before .before .before .before)) (let p = place (c .before) in let n = count (c .before .before .before .before) in omega (arith, c .if2 .taken))))
 
 lack-of-requires : tie.Need-lack-of-requires
 lack-of-requires c κs = (ruled (c .before .before .before .before), omega (arith, c .if2 .left))
@@ -59,13 +65,13 @@ lack-of-requires c κs = (ruled (c .before .before .before .before), omega (arit
 returns-3 : tie.Need-returns-3
 returns-3 c =
     let s = c .before .before .before .before .before .before .before .before .before in
-    sym (report-is (s .args .c) (s .args .number) (ruled (c .before .before .before .before .before .before .before)) (found (c .before .before .before)) ∙ lack-whole _ (sym (ap (λ (l : Lack). l .count) (lack (c .before .before))) ∙ c .if3 .taken))
+    numbered _ _ _ (sym (report-is (s .args .c) (s .args .number) (ruled (c .before .before .before .before .before .before .before)) (found (c .before .before .before)) ∙ lack-whole _ (sym (ap (λ (l : Lack). l .count) (lack (c .before .before))) ∙ c .if3 .taken)))
 
 returns-4 : tie.Need-returns-4
 returns-4 c =
     let s = c .before .before .before .before .before .before .before .before .before in
     let o = report-is (s .args .c) (s .args .number) (ruled (c .before .before .before .before .before .before .before)) (found (c .before .before .before)) ∙ lack-some _ (λ e. c .if3 .left (ap (λ (l : Lack). l .count) (lack (c .before .before)) ∙ e)) in
-    rw (o, lack (c .before .before))
+    numbered _ _ _ (rw (o, lack (c .before .before)))
 
 pub missing-spec : {M : Type 1} → statement M
 missing-spec =

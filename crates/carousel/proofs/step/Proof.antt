@@ -16,7 +16,11 @@ use Rattle.messages.specs.Judged.{judgedOf}
 use Rattle.messages.specs.Heard.{spanOf, listOf, announcedIn, arrivedIn, heardIn, heardOf}
 use Rattle.messages.proofs.Laws.Heard.{announcement-inside, count-said, heard-small, block-inside, heard-limits}
 use Rattle.carousel.specs.Record.{recordOf, sizesOf, ruledOf}
-use Rattle.carousel.specs.Step.{Outcome, onAnnounced, onArrived, imageAfter, returning}
+use Rattle.wire.specs.Tests.{firstMet}
+use Rattle.carousel.specs.declared.Carousel.{Carousel}
+use Rattle.carousel.specs.declared.Stepped.{Stepped}
+use Rattle.carousel.specs.Step.{Outcome, onAnnounced, onArrived, imageAfter, returning, steppedOf, imageOf, numberOf, stepTests}
+use Rattle.carousel.proofs.Exact.{step-number}
 use Rattle.carousel.proofs.Laws.Places.{bytes-most}
 use Rattle.carousel.proofs.Laws.Rule.{ruled-count}
 use Rattle.carousel.proofs.Laws.Outcomes.{announced-image, stepped-is, comes-broken, comes-refused, comes-announced, comes-carried}
@@ -26,9 +30,14 @@ use Rattle.carousel.proofs.step.Tie as tie
 ruled : (c : tie.Else1) → ruledOf (c .before .before .before .before .args .c) ≡ true
 ruled c = sym (c .before .is-ruled .ensures) ∙ not-false _ (c .if1 .left)
 
+-- an answer and an image, with the answer's number
+numbered : (c : Carousel) (s image : List ℕ) (r : Stepped) (l : List ℕ) → r ≡ steppedOf c s image → l ≡ imageOf c s image
+    → (r ≡ steppedOf c s image) × (l ≡ imageOf c s image) × (numberOf (r .answer) ≡ firstMet (stepTests c s image))
+numbered c s image r l e f = (e, f, ap (λ (x : Stepped). numberOf (x .answer)) e ∙ step-number c s image)
+
 -- an announcement, and the bytes that its modules are read from
 is-announced : (c : tie.After-struct-known) → judgedOf (c .before .before .before .before .before .before .before .before .before .args .s .now) ≡ judged.Announced (c .before .before .judged2 .given .0 .0)
-is-announced c = sym (c .before .before .before .before .judge .ensures) ∙ c .before .before .judged2 .given .1
+is-announced c = sym (c .before .before .before .before .judge .ensures .0) ∙ c .before .before .judged2 .given .1
 
 abbrev announced : tie.After-struct-known → Announcement
 announced c = c .before .before .judged2 .given .0 .0
@@ -46,7 +55,7 @@ small c =
 
 -- a block
 is-carried : (c : tie.After-struct-known2) → judgedOf (c .before .before .before .before .before .before .before .before .before .args .s .now) ≡ judged.Carried (c .before .before .judged3 .given .0 .0)
-is-carried c = sym (c .before .before .before .before .judge .ensures) ∙ c .before .before .judged3 .given .1
+is-carried c = sym (c .before .before .before .before .judge .ensures .0) ∙ c .before .before .judged3 .given .1
 
 is-ruled-requires : tie.Need-is-ruled-requires
 is-ruled-requires c κs = search needs
@@ -58,7 +67,7 @@ returns : tie.Need-returns
 returns c =
     let s = c .before .before .before .before .before .args in
     let p = stepped-is (s .c) (s .s .now) (s .image .now) _ (comes-broken (s .c) (s .s .now) (s .image .now) (sym (c .before .before .is-ruled .ensures) ∙ not-true _ (c .before .if1 .taken))) in
-    (c .refuse .ensures ∙ sym (p .0), sym (p .1))
+    numbered _ _ _ _ _ (c .refuse .ensures ∙ sym (p .0)) (sym (p .1))
 
 judge-requires : tie.Need-judge-requires
 judge-requires c κs = search needs
@@ -109,16 +118,16 @@ take-block-requires c κs = ruled (c .before .before .before .before .before .be
 returns-2 : tie.Need-returns-2
 returns-2 c =
     let s = c .before .before .before .before .before .before .before .before .args in
-    let e = sym (c .before .before .before .judge .ensures) ∙ c .before .judged .given .1 in
+    let e = sym (c .before .before .before .judge .ensures .0) ∙ c .before .judged .given .1 in
     let p = stepped-is (s .c) (s .s .now) (s .image .now) _ (comes-refused (s .c) (s .s .now) (s .image .now) (ruled (c .before .before .before .before)) _ e) in
-    (sym (p .0), sym (p .1))
+    numbered _ _ _ _ _ (sym (p .0)) (sym (p .1))
 
 returns-3 : tie.Need-returns-3
 returns-3 c =
     let s = c .before .before .before .before .before .before .before .before .before .before .before .args in
     let k = c .before .before in
     let p = stepped-is (s .c) (s .s .now) (s .image .now) _ (comes-announced (s .c) (s .s .now) (s .image .now) (ruled (c .before .before .before .before .before .before .before)) (announced k) (is-announced k)) in
-    (c .take-announcement .ensures ∙ ap (λ (l : List ℕ). returning (s .c) (onAnnounced (recordOf (s .c)) (announcedIn (announced k) l))) (list-is k) ∙ sym (p .0), sym (p .1 ∙ announced-image _ _ _))
+    numbered _ _ _ _ _ (c .take-announcement .ensures ∙ ap (λ (l : List ℕ). returning (s .c) (onAnnounced (recordOf (s .c)) (announcedIn (announced k) l))) (list-is k) ∙ sym (p .0)) (sym (p .1 ∙ announced-image _ _ _))
 
 same-length : tie.Need-same-length
 same-length c = search needs
@@ -129,10 +138,9 @@ returns-4 c =
     let b = c .before .before .before .before .before .before .before .judged3 .given .0 .0 in
     let p = stepped-is (s .c) (s .s .now) (s .image .now) _ (comes-carried (s .c) (s .s .now) (s .image .now) (ruled (c .before .before .before .before .before .before .before .before .before .before)) b (is-carried (c .before .before .before .before .before))) in
     let l = part (s .s .now) (b .start) (b .size) in
-    let f : List ℕ → Outcome = λ x. onArrived (recordOf (s .c)) (s .image .now) (arrivedIn b x) in (
-      c .before .before .take-block .ensures .0 ∙ ap (λ (x : List ℕ). returning (s .c) (f x)) l ∙ sym (p .0),
-      c .before .before .take-block .ensures .1 ∙ ap (λ (x : List ℕ). imageAfter (s .image .now) (f x)) l ∙ sym (p .1),
-    )
+    let f : List ℕ → Outcome = λ x. onArrived (recordOf (s .c)) (s .image .now) (arrivedIn b x) in
+    numbered _ _ _ _ _ (c .before .before .take-block .ensures .0 ∙ ap (λ (x : List ℕ). returning (s .c) (f x)) l ∙ sym (p .0))
+    (c .before .before .take-block .ensures .1 ∙ ap (λ (x : List ℕ). imageAfter (s .image .now) (f x)) l ∙ sym (p .1))
 
 pub step-spec : {M : Type 1} → statement M
 step-spec =

@@ -26,11 +26,11 @@ use Rattle.messages.specs.Message.{adaptationOf, messageLengthOf, payloa
 use Rattle.messages.specs.Contents.{moduleKind, moduleCountOf, modulesStart, modulesEnd, modulesOf, sizeOf, blockSizeOf, announcementFramed, dataOf}
 use Rattle.messages.specs.Limits.{someBad, total, beyond10, twice11}
 use Rattle.messages.specs.Refusals.{messageFramed, payloadFramed, meets7, meets10, meets11, messageTests}
-use Rattle.messages.specs.Judged.{announcementOf, blockOf, judgedOf, numberOfJudged}
+use Rattle.messages.specs.Judged.{announcementOf, blockOf, judgedOf, numberOfJudged, tableIn}
 use Rattle.messages.specs.Heard.{listedOf, listOf, spanOf, Announced, announced, announcedIn, heardIn, heardOf}
 use Rattle.messages.proofs.Laws.Modules.{module-kind}
 use Rattle.messages.proofs.Laws.Refusals.{counted, framed-starts, framed-ends}
-use Rattle.messages.proofs.Exact.{tableIn, good-exactly, announced-exactly, carried-exactly}
+use Rattle.messages.proofs.Exact.{good-exactly, announced-exactly, carried-exactly}
 
 -- a message that ends with its body, and its payload with it
 module _ (t : Table) (b : List ℕ) (f : meets7 t b ≡ false) where

@@ -2,13 +2,17 @@
 -- Assumes nothing.
 use mathlib.Core.Path.{_≡_, sym, ap, _∙_}
 use native.Mathlib.Omega.{arith}
-use Prim.Native.Nat.{_≤_}
+use Prim.Native.Nat.{ℕ, _≤_}
 use lib.ListN.{length}
 use Rattle.section.specs.declared.Rules.the-variants.{Carousel}
 use Rattle.section.specs.declared.Checked.the-variants.{Accepted}
 use Rattle.section.specs.Answer.{checkedOf}
 use Rattle.section.proofs.Laws.Exact.{accepted-has, body-part}
-use Rattle.messages.specs.Judged.{messageJudged}
+use mathlib.Core.List.{List}
+use Rattle.wire.specs.Tests.{firstMet}
+use Rattle.messages.specs.declared.Judged.{Judged}
+use Rattle.messages.specs.Judged.{messageJudged, judgedOf, numberOfJudged, carouselTests}
+use Rattle.messages.proofs.Exact.{all-tests}
 use Rattle.messages.proofs.Laws.Refusals.{judged-refused, judged-message}
 use borrow.Author.Needs.{needs}
 use Rattle.messages.proofs.judge.Statement.{statement}
@@ -45,13 +49,17 @@ part-judge-message-end c = omega (arith, long c)
 judge-message-requires : tie.Need-judge-message-requires
 judge-message-requires c κs = search needs
 
+-- an answer, with its number
+numbered : (s : List ℕ) (r : Judged) → r ≡ judgedOf s → (r ≡ judgedOf s) × (numberOfJudged r ≡ firstMet (carouselTests s))
+numbered s r e = (e, ap numberOfJudged e ∙ all-tests s)
+
 returns : tie.Need-returns
-returns c = judged-refused _ _ (sym (c .before .before .before .check .ensures .0) ∙ c .before .checked .given .1)
+returns c = numbered _ _ (judged-refused _ _ (sym (c .before .before .before .check .ensures .0) ∙ c .before .checked .given .1))
 
 returns-2 : tie.Need-returns-2
 returns-2 c =
     let s = c .before .before .before .before .before .before .before .args .s .now in
-    c .judge-message .ensures ∙ ap (messageJudged _ _) (body-part s) ∙ judged-message s _ (told (c .before .before))
+    numbered s _ (c .judge-message .ensures ∙ ap (messageJudged _ _) (body-part s) ∙ judged-message s _ (told (c .before .before)))
 
 pub judge-spec : {M : Type 1} → statement M
 judge-spec =

@@ -38,7 +38,7 @@ returns-3 c =
     rw (
       eq-eqb _ _ (c .before .before .before .before .before .before .if1 .left),
       eq-eqb _ _ (c .before .before .before .if2 .left),
-      modules-lengths (map listedIn (take (s .args .c .count) (s .args .c .modules))) (listOf (s .args .list .now)) (λ e. c .if3 .taken (omega (arith, e, n, s .pre .1))),
+      modules-lengths (map listedIn (take (s .args .c .count) (s .args .c .modules))) (listOf (s .args .list .now)) (λ e. omega (arith, e, n, s .pre .1, c .if3 .taken)),
     )
 
 is-same-list-requires : tie.Need-is-same-list-requires

@@ -7,17 +7,15 @@ use Rattle.carousel.proofs.Laws.Words.{one-shl}
 use borrow.Author.Needs.{needs}
 use Rattle.carousel.proofs.marks.with_mark.Statement.{statement}
 use Rattle.carousel.proofs.marks.with_mark.Tie as tie
-use Rattle.carousel.proofs.marks.with_mark.Reads as reads
-use Rattle.carousel.proofs.marks.with_mark.Lts as lts
 
-cast-b : tie.Need-cast-b
-cast-b c = search needs
+cast-bit : tie.Need-cast-bit
+cast-bit c = search needs
 
-mul-x : tie.Need-mul-x
-mul-x c = search needs
+mul-before : tie.Need-mul-before
+mul-before c = search needs
 
-element-copy-out-x : tie.Need-element-copy-out-x
-element-copy-out-x c = search needs
+element-copy-out-before : tie.Need-element-copy-out-before
+element-copy-out-before c = search needs
 
 shl-next : tie.Need-shl-next
 shl-next c = search needs
@@ -35,4 +33,11 @@ returns c = rw (one-shl (c .before .args .k % 32) (search needs))
 pub with-mark-spec : {M : Type 1} → statement M
 with-mark-spec =
     tie.close
-    (tie.spec cast-b mul-x element-copy-out-x shl-next mul-next element-write-next returns)
+    (tie.spec
+    cast-bit
+    mul-before
+    element-copy-out-before
+    shl-next
+    mul-next
+    element-write-next
+    returns)

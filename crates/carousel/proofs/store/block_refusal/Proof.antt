@@ -109,7 +109,7 @@ returns-4 : tie.Need-returns-4
 unfolding arrivedIn
 returns-4 c =
     let s = c .before .before .before .before .before .before .before .before .before .before .before .before .before in
-    sym (is-14 (a s) (s .args .room) (d s) (some (c .before .before .before .before .before .before .before .before .before .before)) (its (c .before .before .before .before .before .before .before)) (found (c .before .before .before .before)) (λ e. c .if4 .taken (sym (version-of (c .before .before .before .before)) ∙ e)))
+    sym (is-14 (a s) (s .args .room) (d s) (some (c .before .before .before .before .before .before .before .before .before .before)) (its (c .before .before .before .before .before .before .before)) (found (c .before .before .before .before)) (λ e. omega (arith, sym (version-of (c .before .before .before .before)) ∙ e, c .if4 .taken)))
 
 total-requires : tie.Need-total-requires
 total-requires c κs = search needs
