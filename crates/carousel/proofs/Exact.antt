@@ -3,16 +3,15 @@
 use Prim.Native.Nat.{ℕ, zero, suc, _<_}
 use mathlib.Core.Path.{_≡_, refl, sym, ap, subst, _∙_}
 use mathlib.Core.Logic.{_↔_}
-use mathlib.Core.Bool.{Bool, true, false, not, cond, _&&_}
+use mathlib.Core.Bool.{Bool, true, false, not, cond, _&&_, or-false}
 use mathlib.Core.List.{List, [], _∷_, _++_}
 use native.Mathlib.Omega.{arith}
 use lib.Dec.{eqb, lit<}
 use lib.ListN.{length}
 use borrow.Author.Tests.{eq-eqb, eqb-true, not-false}
-use Rattle.wire.specs.Tests.{Tests, firstMet, holds, RisingFrom}
+use Rattle.wire.specs.Tests.{firstMet, holds, RisingFrom}
 use Rattle.wire.proofs.Laws.Tests.{both, clash, met-append, lowest-met, none-met}
 use Rattle.wire.proofs.Laws.Order.{None, First, Numbered, none-exactly, first-exactly}
-use Rattle.section.specs.declared.Header.{Header}
 use Rattle.section.specs.declared.Rules.the-variants as rules
 use Rattle.section.specs.declared.Refusal.{Refusal}
 use Rattle.section.specs.Header.{headerOf, bodyOf}
@@ -31,8 +30,8 @@ use Rattle.messages.proofs.Exact.{refused-exactly, taken-exactly}
 use Rattle.carousel.specs.declared.Carousel.{Carousel}
 use Rattle.carousel.specs.declared.Answer.{Answer}
 use Rattle.carousel.specs.declared.Answer.the-variants as answer
-use Rattle.carousel.specs.Record.{Record, recordOf, announcedBy, placeOf, received, ruledOf}
-use Rattle.carousel.specs.Step.{blockTests, blockRefusal, bytesDiffer, sameModules, sameAnnounced, Outcome, refusing, new, same, repeated, stored, matched}
+use Rattle.carousel.specs.Record.{Record, recordOf, announcedBy, placeOf, received, completeOf, ruledOf}
+use Rattle.carousel.specs.Step.{meets12, meets13, meets14, meets15, meets16, blockTests, blockRefusal, bytesDiffer, sameModules, sameAnnounced, Outcome, refusing, new, same, repeated, stored, matched}
 use Rattle.carousel.specs.Step.{onArrived, onAnnounced, onHeard, outcomeOf, answerOf, steppedOf, numberOf, meets17, heardTests, stepTests}
 use Rattle.carousel.specs.Calls.{handoutTests, handoutNumber, missingTests, missingNumber}
 use Rattle.carousel.proofs.Laws.Tests.{rising-numbered, numbered-both, none-both, met-before, met-after}
@@ -47,6 +46,12 @@ module _ (a : Announced) (n : ℕ) (d : Arrived) where
   pub block-exactly : (k : ℕ) → 0 < k → (blockRefusal a n d ≡ k) ↔ ((holds k (blockTests a n d) ≡ true) × ((m : ℕ) → m < k → holds m (blockTests a n d) ≡ false))
   unfolding blockRefusal
   block-exactly k p = lowest-met (blockTests a n d) rising k p
+
+  -- test k of the table is the test of that number
+  pub block-tests : (holds 12 (blockTests a n d) ≡ meets12 a d) × (holds 13 (blockTests a n d) ≡ meets13 a (d .number)) × (holds 14 (blockTests a n d) ≡ meets14 a d)
+      × (holds 15 (blockTests a n d) ≡ meets15 a n) × (holds 16 (blockTests a n d) ≡ meets16 a d)
+  unfolding holds
+  block-tests = (or-false (meets12 a d), or-false (meets13 a (d .number)), or-false (meets14 a d), or-false (meets15 a n), or-false (meets16 a d))
 
   pub matching-exactly : (blockRefusal a n d ≡ 0) ↔ ((m : ℕ) → holds m (blockTests a n d) ≡ false)
   unfolding blockRefusal
@@ -292,6 +297,17 @@ module _ (c : Carousel) (image : List ℕ) (number : ℕ) where
   unfolding handoutNumber
   handout-exactly n p = lowest-met (handoutTests c image number) handout-rising n p
 
+  pub handout-tests : (holds 1 (handoutTests c image number) ≡ not (ruledOf c)) × (holds 13 (handoutTests c image number) ≡ meets13 (announcedBy c) number)
+      × (holds 15 (handoutTests c image number) ≡ meets15 (announcedBy c) (length image))
+      × (holds 20 (handoutTests c image number) ≡ not (completeOf (recordOf c) (placeOf (announcedBy c) number)))
+  unfolding holds
+  handout-tests = (
+    or-false (not (ruledOf c)),
+    or-false (meets13 (announcedBy c) number),
+    or-false (meets15 (announcedBy c) (length image)),
+    or-false (not (completeOf (recordOf c) (placeOf (announcedBy c) number))),
+  )
+
   pub handout-given : (handoutNumber c image number ≡ 0) ↔ ((m : ℕ) → holds m (handoutTests c image number) ≡ false)
   unfolding handoutNumber
   handout-given = none-met (handoutTests c image number) handout-rising
@@ -303,6 +319,10 @@ module _ (c : Carousel) (number : ℕ) where
   pub missing-exactly : (n : ℕ) → 0 < n → (missingNumber c number ≡ n) ↔ ((holds n (missingTests c number) ≡ true) × ((m : ℕ) → m < n → holds m (missingTests c number) ≡ false))
   unfolding missingNumber
   missing-exactly n p = lowest-met (missingTests c number) missing-rising n p
+
+  pub missing-tests : (holds 1 (missingTests c number) ≡ not (ruledOf c)) × (holds 13 (missingTests c number) ≡ meets13 (announcedBy c) number)
+  unfolding holds
+  missing-tests = (or-false (not (ruledOf c)), or-false (meets13 (announcedBy c) number))
 
   pub missing-given : (missingNumber c number ≡ 0) ↔ ((m : ℕ) → holds m (missingTests c number) ≡ false)
   unfolding missingNumber

@@ -4,7 +4,7 @@ use Prim.Native.Nat.{ℕ}
 use mathlib.Core.Path.{_≡_, refl, ap, _∙_}
 use mathlib.Core.Bool.{true, false}
 use mathlib.Core.List.{List, [], _∷_}
-use lib.ListN.{length, replicate}
+use lib.ListN.{replicate}
 use Rattle.wire.specs.Fields.{fieldAt}
 use Rattle.wire.specs.Tests.{firstMet}
 use Rattle.wire.specs.Items.{framed, itemsIn, items}
@@ -16,7 +16,7 @@ use Rattle.carousel.specs.declared.Carousel.{Carousel}
 use Rattle.carousel.specs.declared.Answer.the-variants as answer
 use Rattle.carousel.specs.declared.Report.the-variants as report
 use Rattle.carousel.specs.Blocks.{blocksOf, lengthOf}
-use Rattle.carousel.specs.Marks.{markWords, isMarked, marksWith, clearFrom, marksWithin, clearAmong}
+use Rattle.carousel.specs.Marks.{isMarked, marksWith, clearFrom, marksWithin, clearAmong}
 use Rattle.carousel.specs.Record.{Record, announcedBy, startsBy, recordOf, placeIn, sums, blockAt, missingOf, completeOf, sameNumbers, withinLimits, ruled, allUnused, ruledOf}
 use Rattle.carousel.specs.Changes.{emptyRecord, entries, madeAfresh, withMark, afresh, marking, overwrite}
 use Rattle.carousel.specs.Step.{meets12, meets13, meets14, meets15, meets16, blockRefusal, bytesDiffer, sameModules, sameAnnounced, refusing, new, same, repeated, stored}

@@ -4,11 +4,11 @@ use Prim.Native.Nat.{ℕ, _<_}
 use mathlib.Core.Path.{_≡_, refl, sym, ap, _∙_}
 use mathlib.Core.Logic.{_↔_, _⊎_, inl, inr}
 use mathlib.Core.Bool.{Bool, true, false, cond}
-use mathlib.Core.List.{List, _++_}
+use mathlib.Core.List.{List}
 use native.Mathlib.Omega.{arith}
 use lib.Dec.{eqb, lit<}
 use borrow.Author.Tests.{eq-eqb, eqb-true, eqb-false}
-use Rattle.wire.specs.Tests.{Tests, firstMet}
+use Rattle.wire.specs.Tests.{firstMet}
 use Rattle.wire.proofs.Laws.Tests.{met-append}
 use Rattle.wire.proofs.Laws.Order.{None, First, Numbered, none-exactly, first-exactly}
 use Rattle.section.specs.declared.Header.{Header}
@@ -24,7 +24,7 @@ use Rattle.messages.specs.declared.Block.{Block}
 use Rattle.messages.specs.declared.Judged.the-variants as judged
 use Rattle.messages.specs.Message.{payloadOf}
 use Rattle.messages.specs.Refusals.{short7, meets8, meets7, meets9, meets10, meets11, payloadTests, messageTests, messageRefusal}
-use Rattle.messages.specs.Judged.{tableOf, announcementOf, blockOf, readOf, messageJudged, judgedOf, numberOfJudged, tableIn, carouselTests}
+use Rattle.messages.specs.Judged.{announcementOf, blockOf, readOf, messageJudged, judgedOf, numberOfJudged, tableIn, carouselTests}
 use Rattle.messages.proofs.Laws.Refusals.{judged-good, judged-refused, judged-message}
 
 -- no number in the table is 0

@@ -1,20 +1,19 @@
 -- The hand-out and the missing report, from the facts that code learns on its ways.
 -- Assumes nothing.
-use Prim.Native.Nat.{ℕ, suc, _≤_, _<_}
-use mathlib.Core.Path.{_≡_, refl, sym, ap, _∙_}
+use Prim.Native.Nat.{ℕ, _≤_, _<_}
+use mathlib.Core.Path.{_≡_, refl, sym, _∙_}
 use mathlib.Core.Bool.{Bool, true, false, cond}
 use mathlib.Core.List.{List, [], _∷_}
 use native.Mathlib.Omega.{arith}
-use lib.Dec.{eqb, ltb}
+use lib.Dec.{eqb}
 use lib.ListN.{length}
 use borrow.Author.Tests.{eq-eqb, ne-eqb, eqb-true, lt-ltb, le-ltb, ltb-true, ltb-false, not-false}
 use Rattle.wire.specs.Tests.{firstMet}
 use Rattle.wire.proofs.Laws.Order.{none-exactly}
 use Rattle.section.specs.Answer.{refused}
 use Rattle.carousel.specs.declared.Carousel.{Carousel}
-use Rattle.carousel.specs.declared.Lack.{Lack}
 use Rattle.carousel.specs.declared.Report.the-variants as report
-use Rattle.carousel.specs.Record.{announcedBy, recordOf, placeOf, bytesOf, missingOf, completeOf, partOf, ruledOf}
+use Rattle.carousel.specs.Record.{announcedBy, recordOf, placeOf, bytesOf, missingOf, partOf, ruledOf}
 use Rattle.carousel.specs.Step.{meets13, meets15}
 use Rattle.carousel.specs.Calls.{handoutTests, handoutNumber, handedOut, missingNumber, lackOf, reportOn, reportOf, numberOfReport}
 

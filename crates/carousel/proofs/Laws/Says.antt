@@ -1,15 +1,14 @@
 -- What a record of 16 entries says, entry by entry.
 -- Assumes nothing.
 use Prim.Native.Nat.{ℕ, _≤_, _<_}
-use mathlib.Core.Path.{_≡_, sym, ap, _∙_}
+use mathlib.Core.Path.{_≡_, ap, _∙_}
 use mathlib.Core.List.{List, map}
 use native.Mathlib.Omega.{arith}
 use lib.ListN.{length, getD, take, length-map, List·getD-map}
 use lib.Seq.{getD-take, length-take-le}
-use Rattle.messages.specs.Heard.{noneListed}
 use Rattle.carousel.specs.declared.Module.{Module}
 use Rattle.carousel.specs.declared.Carousel.{Carousel}
-use Rattle.carousel.specs.Record.{listedIn, startIn, announcedBy, startsBy, moduleAt, placeIn, placeOf, unused}
+use Rattle.carousel.specs.Record.{listedIn, startIn, announcedBy, startsBy, moduleAt, unused}
 
 -- the listed ones are as many as are counted
 pub listed-length : (ms : List Module) (n : ℕ) → n ≤ length ms → length (map listedIn (take n ms)) ≡ n

@@ -1,11 +1,10 @@
 -- `carousel::handout` meets its contract: what is handed out lies in the image, at its start.
 -- Assumes nothing.
-use Prim.Native.Nat.{ℕ, _+_, _-_, _≤_, _<_}
-use mathlib.Core.Path.{_≡_, refl, sym, ap, _∙_}
+use Prim.Native.Nat.{_+_, _-_, _≤_, _<_}
+use mathlib.Core.Path.{_≡_, sym, ap, _∙_}
 use mathlib.Core.Bool.{true}
-use mathlib.Core.List.{List}
 use native.Mathlib.Omega.{arith}
-use lib.ListN.{length, getD, take, drop, length-map}
+use lib.ListN.{length, getD, length-map}
 use Rattle.messages.specs.declared.Listed.{Listed}
 use Rattle.carousel.specs.declared.Module.{Module}
 use Rattle.carousel.specs.Record.{announcedBy, recordOf, startsBy, moduleAt, placeOf, bytesOf, partOf, unused, ruledOf}

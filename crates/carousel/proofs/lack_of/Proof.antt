@@ -11,7 +11,7 @@ use Rattle.carousel.specs.Record.{announcedBy, recordOf, moduleAt, block
 use Rattle.carousel.specs.Calls.{lackOf}
 use Rattle.carousel.proofs.Laws.Blocks.{few}
 use Rattle.carousel.proofs.Laws.Places.{block-size-pos, size-most}
-use Rattle.carousel.proofs.Laws.Rule.{Kept, kept, ruled-says, ruled-count}
+use Rattle.carousel.proofs.Laws.Rule.{kept, ruled-says, ruled-count}
 use Rattle.carousel.proofs.Laws.Says.{says-count, says-module}
 use borrow.Author.Needs.{needs}
 use Rattle.carousel.proofs.lack_of.Statement.{statement}

@@ -1,8 +1,8 @@
 -- `carousel::blocks::blocks_of` meets its contract. The bound: a quotient is no more than what is divided.
 -- Assumes nothing.
 use Rattle.carousel.specs.Blocks.{blocksOf}
-use Prim.Native.Nat.{_+_, _-_, _/_}
-use mathlib.Core.Path.{_≡_, refl, sym}
+use Prim.Native.Nat.{_+_, _-_}
+use mathlib.Core.Path.{refl, sym}
 use native.Mathlib.Nat.{div-zero, div-le-self}
 use native.Mathlib.Omega.{arith}
 use borrow.Author.Needs.{needs}

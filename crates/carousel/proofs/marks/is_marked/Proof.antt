@@ -1,7 +1,6 @@
 -- `carousel::marks::is_marked` meets its contract. Past the words a mark reads as clear.
 -- Assumes nothing.
 use Rattle.carousel.specs.Marks.{isMarked}
-use mathlib.Core.Path.{_≡_, refl}
 use Prim.Native.Nat.{_%_, _^_}
 use native.Mathlib.Nat.{zero-div}
 use lib.ListN.{List·getD-eq-default}

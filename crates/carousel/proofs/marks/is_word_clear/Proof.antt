@@ -1,7 +1,7 @@
 -- `carousel::marks::is_word_clear` meets its contract: a word has no marks above its 32.
 -- Assumes nothing.
-use Prim.Native.Nat.{_/_, _^_, _<_, _≤_}
-use mathlib.Core.Path.{_≡_, sym}
+use Prim.Native.Nat.{_^_, _<_, _≤_}
+use mathlib.Core.Path.{sym}
 use native.Mathlib.Nat.{div-eq-of-lt}
 use native.Mathlib.Omega.{arith}
 use lib.Pow.{pow-mono}

@@ -1,6 +1,6 @@
 -- `carousel::store::take_block` meets its contract: what none of 12 to 16 meets has its place in the image, and is put there.
 -- Assumes nothing.
-use mathlib.Core.Path.{_≡_, refl, sym, ap, _∙_}
+use mathlib.Core.Path.{_≡_, refl, sym, _∙_}
 use native.Mathlib.Omega.{arith}
 use lib.ListN.{length, length-map}
 use Rattle.messages.specs.Heard.{Arrived, arrivedIn}
