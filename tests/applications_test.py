@@ -9,34 +9,7 @@ from the front to the end, into plain lists, and then answers from those.
 """
 import random
 
-from second import crc, framed, refusal, settle, with_crc
-
-
-class Malformed(Exception):
-    pass
-
-
-class Reader:
-    def __init__(self, data):
-        self.data, self.at = data, 0
-
-    def left(self):
-        return len(self.data) - self.at
-
-    def take(self, n):
-        if self.left() < n:
-            raise Malformed
-        self.at += n
-        return self.data[self.at - n : self.at]
-
-    def number(self, n):
-        return int.from_bytes(self.take(n), "big")
-
-    def length12(self):
-        return self.number(2) % 4096
-
-    def rest(self):
-        return self.take(self.left())
+from second import Malformed, Reader, framed, refusal, settle, with_crc
 
 
 def repeated(data, one):

@@ -1,4 +1,4 @@
-"""What the second programs share: the CRC by a table, and framed stretches. Written from the paper (01), not from the Rattle code."""
+"""What the second programs share: the CRC by a table, a reader of fields, and framed stretches. Written from the paper (01), not from the Rattle code."""
 import sys
 from pathlib import Path
 
@@ -40,6 +40,33 @@ def refusal(s, tables, limit):
     if at(5) % 2 == 0:
         applies.add(6)
     return min(applies, default=0)
+
+
+class Malformed(Exception):
+    pass
+
+
+class Reader:
+    def __init__(self, data):
+        self.data, self.at = data, 0
+
+    def left(self):
+        return len(self.data) - self.at
+
+    def take(self, n):
+        if self.left() < n:
+            raise Malformed
+        self.at += n
+        return self.data[self.at - n : self.at]
+
+    def number(self, n):
+        return int.from_bytes(self.take(n), "big")
+
+    def length12(self):
+        return self.number(2) % 4096
+
+    def rest(self):
+        return self.take(self.left())
 
 
 def with_crc(s):

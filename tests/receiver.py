@@ -1,0 +1,239 @@
+"""A carousel receiver in plain Python, and makers of its sections. Written from the paper (01), not from the Rattle code.
+
+The marks are one number of 4,096 bits, not words; a section's numbers are gathered and the lowest taken, not tested in turn.
+"""
+from second import Malformed, Reader, refusal, with_crc
+
+MODULES, BLOCKS, LARGEST, IMAGE = 16, 256, 4066, 65_536
+
+
+# ---- the record
+
+
+class Module:
+    def __init__(self, number=0, size=0, version=0, start=0):
+        self.number, self.size, self.version, self.start = number, size, version, start
+
+    def fields(self):
+        return [self.number, self.size, self.version, self.start]
+
+
+class Record:
+    """The empty one, as the receiver starts."""
+
+    def __init__(self):
+        self.download = self.block_size = self.count = self.marks = 0
+        self.modules = [Module() for _ in range(MODULES)]
+
+    def used(self):
+        return self.modules[: self.count]
+
+    def total(self):
+        return sum(m.size for m in self.used())
+
+    def place(self, number):
+        return next((i for i, m in enumerate(self.used()) if m.number == number), None)
+
+    def blocks(self, i):
+        return -(-self.modules[i].size // self.block_size)
+
+    def missing(self, i):
+        """The numbers of the module's blocks that have no mark."""
+        return [b for b in range(self.blocks(i)) if not self.marks >> (BLOCKS * i + b) & 1]
+
+
+def over_limits(block_size, sizes):
+    """Refusal 10."""
+    if not 1 <= block_size <= LARGEST or not 1 <= len(sizes) <= MODULES:
+        return True
+    return any(not 1 <= z <= BLOCKS * block_size for z in sizes) or sum(sizes) > IMAGE
+
+
+def twice(numbers):
+    """Refusal 11."""
+    return len(set(numbers)) < len(numbers)
+
+
+def ruled(r):
+    if r.count > MODULES or any(any(m.fields()) for m in r.modules[r.count :]):
+        return False
+    if r.count == 0:
+        return r.download == r.block_size == r.marks == 0
+    if over_limits(r.block_size, [m.size for m in r.used()]) or twice([m.number for m in r.used()]):
+        return False
+    if any(m.start != sum(before.size for before in r.modules[:i]) for i, m in enumerate(r.used())):
+        return False
+    possible = sum((1 << r.blocks(i)) - 1 << BLOCKS * i for i in range(r.count))
+    return r.marks | possible == possible
+
+
+# ---- the messages
+
+
+class Announcement:
+    def __init__(self, r):
+        self.download, self.block_size = r.number(4), r.number(2)
+        r.take(10)
+        r.take(r.number(2))
+        self.modules = []
+        for _ in range(r.number(2)):
+            self.modules.append((r.number(2), r.number(4), r.number(1)))
+            r.take(r.number(1))
+        r.take(r.number(2))
+        if r.left():
+            raise Malformed
+
+    def record(self):
+        r = Record()
+        r.download, r.block_size, r.count = self.download, self.block_size, len(self.modules)
+        at = 0
+        for i, (number, size, version) in enumerate(self.modules):
+            r.modules[i] = Module(number, size, version, at)
+            at += size
+        return r
+
+
+class Block:
+    def __init__(self, r, download):
+        self.download, self.number, self.version = download, r.number(2), r.number(1)
+        r.take(1)
+        self.block, self.data = r.number(2), r.rest()
+
+
+def judged(s):
+    """A section by itself: its number, 2 to 11 or 0, and what it says."""
+    n = refusal(s, {0x3B, 0x3C}, 4093)
+    if n:
+        return n, None
+    r = Reader(s[8:-4])
+    if r.left() < 12:
+        return 7, None
+    dii = s[0] == 0x3B
+    if r.take(2) != b"\x11\x03" or r.number(2) != (0x1002 if dii else 0x1003):
+        return 8, None
+    identifier, _, adaptation, length = r.number(4), r.number(1), r.number(1), r.number(2)
+    try:
+        if length != r.left() or adaptation > length:
+            raise Malformed
+        r.take(adaptation)
+        message = Announcement(r) if dii else Block(r, identifier)
+    except Malformed:
+        return 7, None
+    if dii:
+        if over_limits(message.block_size, [z for _, z, _ in message.modules]):
+            return 10, None
+        return (11 if twice([n for n, _, _ in message.modules]) else 0), message
+    return (9 if s[3] * 256 + s[4] != message.number or s[6] != message.block % 256 else 0), message
+
+
+# ---- the calls; an image is a bytearray, and each answers a number first
+
+
+def step(r, image, s):
+    """The number, the kind and the record after it. The image changes in place."""
+    if not ruled(r):
+        return 1, "none", r
+    n, message = judged(s)
+    if n:
+        return n, "none", r
+    return announced(r, message) if s[0] == 0x3B else received(r, image, message)
+
+
+def announced(r, a):
+    if (r.download, r.block_size) == (a.download, a.block_size) and [(m.number, m.size, m.version) for m in r.used()] == a.modules:
+        return 0, "same", r
+    return 0, "new", a.record()
+
+
+def received(r, image, d):
+    applies = set()
+    if r.count == 0 or r.download != d.download:
+        applies.add(12)
+    i = r.place(d.number)
+    if i is None:
+        return min(applies | {13}), "none", r
+    m = r.modules[i]
+    left = m.size - d.block * r.block_size
+    at = m.start + d.block * r.block_size
+    there = bytes(image[at : at + len(d.data)])
+    marked = d.block < BLOCKS and r.marks >> (BLOCKS * i + d.block) & 1
+    if d.version != m.version:
+        applies.add(14)
+    if len(image) < r.total():
+        applies.add(15)
+    if left <= 0 or len(d.data) != min(left, r.block_size):
+        applies.add(16)
+    if marked and there != d.data:
+        applies.add(17)
+    if applies:
+        return min(applies), "none", r
+    if marked:
+        return 0, "repeated", r
+    image[at : at + len(d.data)] = d.data
+    r.marks |= 1 << (BLOCKS * i + d.block)
+    return 0, "stored", r
+
+
+def handout(r, image, number):
+    """The number and the part."""
+    if not ruled(r):
+        return 1, b""
+    i = r.place(number)
+    if i is None:
+        return 13, b""
+    if len(image) < r.total():
+        return 15, b""
+    if r.missing(i):
+        return 20, b""
+    m = r.modules[i]
+    return 0, bytes(image[m.start : m.start + m.size])
+
+
+def missing(r, number):
+    """The number and, where it is 0, the missing blocks."""
+    if not ruled(r):
+        return 1, []
+    i = r.place(number)
+    return (13, []) if i is None else (0, r.missing(i))
+
+
+# ---- sections; what is left out is right for the rest
+
+
+def section(table, body, extension=0, number=0, last=None, byte5=0xC1, flags=0xB0, length=None):
+    length = len(body) + 9 if length is None else length
+    last = 255 if last is None else last
+    return with_crc(bytes([table, flags | length >> 8, length & 255, extension >> 8, extension & 255, byte5, number, last]) + body)
+
+
+def message(number, payload, identifier=0, adaptation=b"", first=0x11, second=0x03, unread=0xFF, adapted=None, size=None):
+    adapted = len(adaptation) if adapted is None else adapted
+    size = len(adaptation) + len(payload) if size is None else size
+    head = bytes([first, second]) + number.to_bytes(2, "big") + identifier.to_bytes(4, "big") + bytes([unread, adapted]) + size.to_bytes(2, "big")
+    return head + adaptation + payload
+
+
+HEADS = ("extension", "number", "last", "byte5", "flags", "length")
+
+
+def whole(table, number, payload, given):
+    head = {k: given.pop(k) for k in list(given) if k in HEADS}
+    return section(given.pop("table", table), message(given.pop("code", number), payload, **given), **head)
+
+
+def dii(download, block_size, modules, info=b"", compatibility=b"", private=b"", unread10=bytes(10), infos=None, compatible=None, count=None, privates=None, tail=b"", **given):
+    """modules: (number, size, version). infos, compatible, count and privates are lengths that may be told wrong."""
+    two = lambda n: n.to_bytes(2, "big")
+    infos = len(info) if infos is None else infos
+    out = download.to_bytes(4, "big") + two(block_size) + unread10
+    out += two(len(compatibility) if compatible is None else compatible) + compatibility + two(len(modules) if count is None else count)
+    for number, size, version in modules:
+        out += two(number) + size.to_bytes(4, "big") + bytes([version, infos]) + info
+    out += two(len(private) if privates is None else privates) + private + tail
+    return whole(0x3B, 0x1002, out, given)
+
+
+def ddb(download, module, version, block, data, reserved=0xFF, **given):
+    payload = module.to_bytes(2, "big") + bytes([version, reserved]) + block.to_bytes(2, "big") + data
+    given = {"extension": module, "number": block % 256, "identifier": download, **given}
+    return whole(0x3C, 0x1003, payload, given)
