@@ -1,13 +1,21 @@
 -- Each public call of this crate leaves one answer, one record and one image. `handout` hands out a part of the lent image: its bytes are determined,
 -- and where they stand in memory is no matter of a contract.
 -- Assumes nothing.
-use mathlib.Core.Path.{_≡_, sym, _∙_}
+use Prim.Native.Nat.{ℕ}
+use mathlib.Core.Path.{_≡_, sym, ap, _∙_}
+use mathlib.Core.List.{List}
 use contract.Lifetimes.{Lfts}
 use borrow.Fn.Kinds.{Dens, resT, endedOf}
 use denote.Triple.Clauses.{AtExit}
 use Rattle.wire.proofs.Once.{OneAnswer}
+use Rattle.carousel.specs.declared.Carousel.{Carousel}
+use Rattle.carousel.specs.declared.Answer.{Answer}
+use Rattle.carousel.specs.declared.Stepped.{Stepped}
+use Rattle.carousel.specs.Step.{steppedOf, imageOf}
 use Rattle.carousel.proofs.empty.Kinds as empty-kinds
 use Rattle.carousel.proofs.empty.Reads as empty-reads
+use Rattle.carousel.proofs.rule.is_ruled.Kinds as is-ruled-kinds
+use Rattle.carousel.proofs.rule.is_ruled.Reads as is-ruled-reads
 use Rattle.carousel.proofs.step.Kinds as step-kinds
 use Rattle.carousel.proofs.step.Reads as step-reads
 use Rattle.carousel.proofs.handout_number.Kinds as handout-number-kinds
@@ -16,6 +24,9 @@ use Rattle.carousel.proofs.handout.Kinds as handout-kinds
 use Rattle.carousel.proofs.handout.Reads as handout-reads
 use Rattle.carousel.proofs.missing.Kinds as missing-kinds
 use Rattle.carousel.proofs.missing.Reads as missing-reads
+
+is-ruled : OneAnswer 0 is-ruled-kinds.ps is-ruled-kinds.r is-ruled-reads.Post
+is-ruled κs a x y s t p q = p ∙ sym q
 
 empty : OneAnswer 0 empty-kinds.ps empty-kinds.r empty-reads.Post
 empty κs a x y s t p q = p ∙ sym q
@@ -37,3 +48,16 @@ step κs a x y s t p q = p .0 ∙ sym (q .0)
 step-image : (κs : Lfts 2) (a : Dens κs step-kinds.ps) (x y : resT step-kinds.r κs .Denot) (s t : AtExit (endedOf 2 step-kinds.ps step-kinds.r) κs)
     → step-reads.Post κs a x s → step-reads.Post κs a y t → s .1 .1 .0 .now ≡ t .1 .1 .0 .now
 step-image κs a x y s t p q = p .1 ∙ sym (q .1)
+
+-- The entry in place. Its proof is a walk by hand, for which the prover has no reading of the kind above; this is over the equations of its contract: any two answers,
+-- records and images that meet them coincide, and are those of the step by value.
+pub in-place : (c : Carousel) (s image : List ℕ) (r r′ : Answer) (d d′ : Carousel) (l l′ : List ℕ)
+    → (r ≡ steppedOf c s image .answer) × (d ≡ steppedOf c s image .state) × (l ≡ imageOf c s image)
+    → (r′ ≡ steppedOf c s image .answer) × (d′ ≡ steppedOf c s image .state) × (l′ ≡ imageOf c s image) → (r ≡ r′) × (d ≡ d′) × (l ≡ l′)
+in-place c s image r r′ d d′ l l′ p q = (p .0 ∙ sym (q .0), p .1 ∙ sym (q .1), p .2 ∙ sym (q .2))
+
+pub in-place-by-value : (c : Carousel) (s image : List ℕ) (r : Answer) (d : Carousel) (l : List ℕ) (x : Stepped) (m : List ℕ)
+    → (r ≡ steppedOf c s image .answer) × (d ≡ steppedOf c s image .state) × (l ≡ imageOf c s image) → (x ≡ steppedOf c s image) × (m ≡ imageOf c s image)
+    → (r ≡ x .answer) × (d ≡ x .state) × (l ≡ m)
+in-place-by-value c s image r d l x m p q =
+    (p .0 ∙ sym (ap (λ (y : Stepped). y .answer) (q .0)), p .1 ∙ sym (ap (λ (y : Stepped). y .state) (q .0)), p .2 ∙ sym (q .1))

@@ -18,7 +18,7 @@ use entries::place_from;
 use entries::total;
 use marks::lack_among;
 use messages::Judged;
-use rule::is_ruled;
+pub use rule::is_ruled;
 use section::Refusal;
 use store::refuse;
 use store::take_block;
@@ -118,6 +118,18 @@ pub fn step(c: Carousel, s: &[u8], image: &mut [u8]) -> Stepped
             take_block(c, b, &s[at..e], image)
         }
     }
+}
+
+// The wheelhouse loop's entry: the record is lent, and changed in place. Thin, over the step by value.
+pub fn step_in(c: &mut Carousel, s: &[u8], image: &mut [u8]) -> Answer
+    ensures { λ r. ⌜ (r ≡ steppedOf (now (c .entry)) (now (s .entry)) (now (image .entry)) .answer)
+        × (now (c .exit) ≡ steppedOf (now (c .entry)) (now (s .entry)) (now (image .entry)) .state)
+        × (now (image .exit) ≡ imageOf (now (c .entry)) (now (s .entry)) (now (image .entry)))
+        × (numberOf r ≡ firstMet (stepTests (now (c .entry)) (now (s .entry)) (now (image .entry)))) ⌝ }
+{
+    let st = step(*c, s, image);
+    *c = st.state;
+    st.answer
 }
 
 // 0 where the module with this number is handed out, else 1, 13, 15 or 20.

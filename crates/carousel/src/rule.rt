@@ -15,6 +15,7 @@ ghost use Rattle.carousel.specs.Blocks.{blocksOf};
 ghost use Rattle.carousel.specs.Marks.{marksWithin};
 ghost use Rattle.carousel.specs.Record.{announcedBy, listedIn, startIn, sizesOf, sums, sameNumbers, isUnused, allUnused, withinLimits, ruledOf};
 
+// Whether a record keeps its rule.
 pub fn is_ruled(c: Carousel) -> bool
     ensures { λ r. ⌜ r ≡ ruledOf c ⌝ }
 {

@@ -1,0 +1,55 @@
+-- `receiver::give` meets its contract: a table leaves record and image; everything else is a step of the carousel.
+-- Assumes nothing.
+use mathlib.Core.Path.{_≡_, refl, sym, _∙_}
+use borrow.Author.Tests.{eq-eqb, ne-eqb}
+use Rattle.carousel.specs.declared.Stepped.{Stepped}
+use Rattle.receiver.specs.declared.Fate.{Fate}
+use Rattle.receiver.specs.declared.Given.{Given}
+use Rattle.receiver.specs.Run.{carouselFate, givenOf, imageGiven}
+use borrow.Author.Needs.{needs}
+use Rattle.receiver.proofs.give.Statement.{statement}
+use Rattle.receiver.proofs.give.Tie as tie
+
+stepped : (f : Fate) (r t : Stepped) → f ≡ carouselFate (r .answer) → r ≡ t
+    → _≡_ {A = Given} (record { fate = f; state = r .state }) (record { fate = carouselFate (t .answer); state = t .state })
+stepped f r t e g = rw (e, g)
+
+byte-at-requires : tie.Need-byte-at-requires
+byte-at-requires c κs = search needs
+
+table-fate-requires : tie.Need-table-fate-requires
+table-fate-requires c κs = search needs
+
+returns : tie.Need-returns
+unfolding givenOf imageGiven
+returns c =
+    let e = eq-eqb _ 0x74 (sym (c .before .before .byte-at .ensures .0) ∙ c .before .if1 .taken) in
+    rw (e, c .table-fate .ensures) (refl, refl)
+
+step-requires : tie.Need-step-requires
+step-requires c κs = search needs
+
+carousel-fate-requires : tie.Need-carousel-fate-requires
+carousel-fate-requires c κs = search needs
+
+same-length : tie.Need-same-length
+same-length c = search needs
+
+returns-2 : tie.Need-returns-2
+unfolding givenOf imageGiven
+returns-2 c =
+    let e = ne-eqb _ 0x74 (λ f. c .before .before .before .before .before .before .if1 .left (c .before .before .before .before .before .before .before .byte-at .ensures .0 ∙ f)) in
+    let p = c .before .before .before .before .step .ensures in
+    rw e (stepped _ _ _ (c .carousel-fate .ensures) (p .0), p .1)
+
+pub give-spec : {M : Type 1} → statement M
+give-spec =
+    tie.close
+    (tie.spec
+    byte-at-requires
+    table-fate-requires
+    returns
+    step-requires
+    carousel-fate-requires
+    same-length
+    returns-2)

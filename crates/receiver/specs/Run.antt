@@ -1,0 +1,137 @@
+-- One place of a stretch, and the run. 01, "The run".
+-- Assumes nothing.
+use Prim.Native.Nat.{ℕ, zero, suc, _+_}
+use mathlib.Core.Bool.{Bool, cond, _||_}
+use mathlib.Core.List.{List, [], _∷_}
+use lib.Dec.{eqb, ltb}
+use lib.ListN.{length, take, drop}
+use Rattle.wire.specs.Fields.{byteAt}
+use Rattle.section.specs.Header.{lengthOf, applicationTable}
+use Rattle.applications.specs.declared.ReadAnswer.{ReadAnswer}
+use Rattle.applications.specs.declared.ReadAnswer.the-variants as reading
+use Rattle.applications.specs.Answers.{readAnswer}
+use Rattle.carousel.specs.declared.Carousel.{Carousel}
+use Rattle.carousel.specs.declared.Answer.{Answer}
+use Rattle.carousel.specs.declared.Answer.the-variants as answer
+use Rattle.carousel.specs.Record.{ruledOf}
+use Rattle.carousel.specs.Step.{steppedOf, imageOf}
+use Rattle.receiver.specs.declared.Stop.{Stop}
+use Rattle.receiver.specs.declared.Stop.the-variants as stop
+use Rattle.receiver.specs.declared.Fate.{Fate}
+use Rattle.receiver.specs.declared.Fate.the-variants as fate
+use Rattle.receiver.specs.declared.What.the-variants as what
+use Rattle.receiver.specs.declared.Took.{Took}
+use Rattle.receiver.specs.declared.Given.{Given}
+use Rattle.receiver.specs.declared.Ran.{Ran}
+
+-- what the section at the head of a stretch says of its length: "3 + L bytes"
+abbrev pub saidLength : List ℕ → ℕ
+saidLength s = 3 + lengthOf s
+
+-- "fewer than 3 or 3 + L bytes"
+abbrev pub isShort : List ℕ → Bool
+isShort s = ltb (length s) 3 || ltb (length s) (saidLength s)
+
+-- "nothing left, stop "end"; byte 0xFF, stop "stuffing"; fewer than 3 or 3 + L bytes, stop "short"; budget used up, stop "budget""
+unfoldable pub stopAt : List ℕ → Stop
+stopAt s = cond (eqb (length s) 0) stop.End (cond (eqb (byteAt s 0) 0xFF) stop.Stuffing (cond (isShort s) stop.Short stop.Budget))
+
+-- the length of the whole section that a stretch begins with; 0 where one of the first three stops stands
+unfoldable pub wholeAt : List ℕ → ℕ
+wholeAt s = cond (isShort s || eqb (byteAt s 0) 0xFF) 0 (saidLength s)
+
+-- "0x74 by the application rules (kind "table" when accepted), every other by the carousel's"
+unfoldable pub readFate : ReadAnswer → Fate
+readFate (reading.Refused r) = fate.Refused r
+readFate (reading.Accepted t) = fate.Table
+
+abbrev pub tableFate : List ℕ → Fate
+tableFate s = readFate (readAnswer s)
+
+unfoldable pub carouselFate : Answer → Fate
+carouselFate answer.New = fate.New
+carouselFate answer.Same = fate.Same
+carouselFate answer.Stored = fate.Stored
+carouselFate answer.Repeated = fate.Repeated
+carouselFate (answer.Refused r) = fate.Refused r
+
+-- what becomes of one whole section, of the record and of the image
+unfoldable pub givenOf : Carousel → (s image : List ℕ) → Given
+givenOf c s image = cond (eqb (byteAt s 0) applicationTable)
+    (record { fate = tableFate s; state = c })
+    (record { fate = carouselFate (steppedOf c s image .answer); state = steppedOf c s image .state })
+
+unfoldable pub imageGiven : Carousel → (s image : List ℕ) → List ℕ
+imageGiven c s image = cond (eqb (byteAt s 0) applicationTable) image (imageOf c s image)
+
+-- the paper's number and kind of a fate: "A refused section's kind is "none"."
+abbrev pub numberOf : Fate → ℕ
+numberOf (fate.Refused r) = r .number
+numberOf fate.Table = 0
+numberOf fate.New = 0
+numberOf fate.Same = 0
+numberOf fate.Stored = 0
+numberOf fate.Repeated = 0
+
+-- "At each place": "state" before all, then the stops in their order, "else take one section, accepted or refused"
+abbrev pub stoppedBy : Carousel → Stop → Took
+stoppedBy c x = record { what = what.Stopped x; state = c }
+
+unfoldable pub tookOf : Carousel → (s image : List ℕ) → (budget : ℕ) → Took
+tookOf c s image budget = cond (ruledOf c)
+    (cond (eqb (wholeAt s) 0 || eqb budget 0)
+    (stoppedBy c (stopAt s))
+    (record {
+      what = what.Taken (record { length = wholeAt s; fate = givenOf c (take (wholeAt s) s) image .fate });
+      state = givenOf c (take (wholeAt s) s) image .state;
+    }))
+    (stoppedBy c stop.State)
+
+unfoldable pub imageTook : Carousel → (s image : List ℕ) → (budget : ℕ) → List ℕ
+imageTook c s image budget = cond (ruledOf c) (cond (eqb (wholeAt s) 0 || eqb budget 0) image (imageGiven c (take (wholeAt s) s) image)) image
+
+-- THE RUN, of a record that keeps its rule: what it leaves, and the image beside it. Sections taken is the count here.
+pub record Outcome : Type 0 where
+  pub state : Carousel
+  pub image : List ℕ
+  pub taken : ℕ
+  pub passed : ℕ
+  pub stop : Stop
+
+abbrev pub halted : Carousel → List ℕ → Stop → Outcome
+halted c image x = record { state = c; image = image; taken = 0; passed = 0; stop = x }
+
+-- one section of n bytes before it
+abbrev pub after : ℕ → Outcome → Outcome
+after n o = record { state = o .state; image = o .image; taken = suc (o .taken); passed = n + o .passed; stop = o .stop }
+
+unfoldable pub runs : ℕ → Carousel → (s image : List ℕ) → Outcome
+runs zero c s image = halted c image (stopAt s)
+runs (suc budget) c s image = cond (eqb (wholeAt s) 0)
+    (halted c image (stopAt s))
+    (after (wholeAt s) (runs budget (givenOf c (take (wholeAt s) s) image .state) (drop (wholeAt s) s) (imageGiven c (take (wholeAt s) s) image)))
+
+-- "A broken record stops it before any other stop, "state", taken and passed 0."
+unfoldable pub runOf : Carousel → (s image : List ℕ) → (budget : ℕ) → Outcome
+runOf c s image budget = cond (ruledOf c) (runs budget c s image) (halted c image stop.State)
+
+abbrev pub ranOf : Carousel → (s image : List ℕ) → (budget : ℕ) → Ran
+ranOf c s image budget =
+    record { state = runOf c s image budget .state; taken = runOf c s image budget .taken; passed = runOf c s image budget .passed; stop = runOf c s image budget .stop }
+
+abbrev pub imageRan : Carousel → (s image : List ℕ) → (budget : ℕ) → List ℕ
+imageRan c s image budget = runOf c s image budget .image
+
+-- the sections that a run takes, one after another: they are whatever whole sections stand in the stretch, accepted or refused
+unfoldable pub sectionsOf : (budget : ℕ) → List ℕ → List (List ℕ)
+sectionsOf zero s = []
+sectionsOf (suc budget) s = cond (eqb (wholeAt s) 0) [] (take (wholeAt s) s ∷ sectionsOf budget (drop (wholeAt s) s))
+
+-- a record and an image, carried from call to call over one section after another
+pub record Held : Type 0 where
+  pub state : Carousel
+  pub image : List ℕ
+
+unfoldable pub walk : Held → List (List ℕ) → Held
+walk x [] = x
+walk x (s ∷ ss) = walk (record { state = givenOf (x .state) s (x .image) .state; image = imageGiven (x .state) s (x .image) }) ss

@@ -1,0 +1,221 @@
+// The run over many sections, and what a wheelhouse box calls.
+//
+// What stands at a place of a stretch, what one section comes to, and the run are defined in
+// specs/Run.antt. A section of table 0x74 goes by the application rules, every other by the
+// carousel's.
+
+use applications::ReadAnswer;
+use carousel::Answer;
+use carousel::Carousel;
+use section::Refusal;
+ghost use mathlib.Core.Path.{_≡_};
+ghost use mathlib.Core.Bool.{true};
+ghost use Prim.Native.Nat.{_≤_};
+ghost use lib.ListN.{length};
+ghost use Rattle.carousel.specs.Record.{ruledOf};
+ghost use Rattle.receiver.specs.Run.{stoppedBy, wholeAt, stopAt, givenOf, imageGiven, tookOf, imageTook, ranOf, imageRan, tableFate, carouselFate};
+
+// The byte that fills a stretch after its last section.
+const STUFFING: u8 = 0xFF;
+
+// Why a run stops.
+pub enum Stop {
+    End,
+    Stuffing,
+    Short,
+    Budget,
+    State,
+}
+
+// What became of a section: a table, one of the carousel's answers, or a refusal.
+pub enum Fate {
+    Table,
+    New,
+    Same,
+    Stored,
+    Repeated,
+    Refused(Refusal),
+}
+
+// A section that was taken.
+pub struct Section {
+    pub length: usize,
+    pub fate: Fate,
+}
+
+pub enum What {
+    Stopped(Stop),
+    Taken(Section),
+}
+
+// What stood at a place, beside the record after it: an enum may hold no array.
+pub struct Took {
+    pub what: What,
+    pub state: Carousel,
+}
+
+// What became of one whole section, beside the record after it.
+pub struct Given {
+    pub fate: Fate,
+    pub state: Carousel,
+}
+
+// A run: the record after it, the sections taken, the bytes passed, and why it stopped.
+pub struct Ran {
+    pub state: Carousel,
+    pub taken: usize,
+    pub passed: usize,
+    pub stop: Stop,
+}
+
+// What stands at the head of a stretch: a stop, or one section, taken.
+pub fn take(c: Carousel, stretch: &[u8], image: &mut [u8], budget: usize) -> Took
+    ensures { λ r. ⌜ (r ≡ tookOf c (now (stretch .entry)) (now (image .entry)) budget)
+        × (now (image .exit) ≡ imageTook c (now (stretch .entry)) (now (image .entry)) budget) ⌝ }
+{
+    if !carousel::is_ruled(c) {
+        return stopped(c, Stop::State);
+    }
+    let n = whole_at(stretch);
+    if n == 0 {
+        return stopped(c, stop_at(stretch));
+    }
+    if budget == 0 {
+        return stopped(c, stop_at(stretch));
+    }
+    let g = give(c, &stretch[..n], image);
+    let next = g.state;
+    let fate = g.fate;
+    let section = Section {
+        length: n,
+        fate: fate,
+    };
+    Took {
+        what: What::Taken(section),
+        state: next,
+    }
+}
+
+// The run: sections are taken until there is a reason to stop.
+pub fn run(c: Carousel, stretch: &[u8], image: &mut [u8], budget: usize) -> Ran
+    ensures { λ r. ⌜ (r ≡ ranOf c (now (stretch .entry)) (now (image .entry)) budget)
+        × (now (image .exit) ≡ imageRan c (now (stretch .entry)) (now (image .entry)) budget) ⌝ }
+{
+    if !carousel::is_ruled(c) {
+        return Ran {
+            state: c,
+            taken: 0,
+            passed: 0,
+            stop: Stop::State,
+        };
+    }
+    let mut d = c;
+    let mut taken: usize = 0;
+    let mut passed: usize = 0;
+    while taken < budget {
+        let rest = &stretch[passed..];
+        let n = whole_at(rest);
+        if n == 0 {
+            return ended(d, taken, passed, stop_at(rest));
+        }
+        let g = give(d, &rest[..n], image);
+        d = g.state;
+        taken += 1;
+        passed += n;
+    }
+    ended(d, taken, passed, stop_at(&stretch[passed..]))
+}
+
+fn stopped(c: Carousel, stop: Stop) -> Took
+    ensures { λ r. ⌜ r ≡ stoppedBy c stop ⌝ }
+{
+    Took {
+        what: What::Stopped(stop),
+        state: c,
+    }
+}
+
+fn ended(c: Carousel, taken: usize, passed: usize, stop: Stop) -> Ran
+    ensures { λ r. ⌜ r ≡ record { state = c; taken = taken; passed = passed; stop = stop } ⌝ }
+{
+    Ran {
+        state: c,
+        taken: taken,
+        passed: passed,
+        stop: stop,
+    }
+}
+
+// The length of the section that a stretch begins with; 0 where it begins with no whole one.
+fn whole_at(s: &[u8]) -> usize
+    ensures { λ r. ⌜ (r ≡ wholeAt (now (s .entry))) × (r ≤ length (now (s .entry))) ⌝ }
+{
+    if s.len() < 3 {
+        return 0;
+    }
+    if wire::byte_at(s, 0) == STUFFING {
+        return 0;
+    }
+    let n = 3 + wire::twelve_at(s, 1);
+    if s.len() < n {
+        return 0;
+    }
+    n
+}
+
+// Why a run stops at a place where it takes nothing.
+fn stop_at(s: &[u8]) -> Stop
+    ensures { λ r. ⌜ r ≡ stopAt (now (s .entry)) ⌝ }
+{
+    if s.len() == 0 {
+        return Stop::End;
+    }
+    if wire::byte_at(s, 0) == STUFFING {
+        return Stop::Stuffing;
+    }
+    if whole_at(s) == 0 {
+        return Stop::Short;
+    }
+    Stop::Budget
+}
+
+// One whole section, by its table number.
+fn give(c: Carousel, s: &[u8], image: &mut [u8]) -> Given
+    ensures { λ r. ⌜ (r ≡ givenOf c (now (s .entry)) (now (image .entry))) × (now (image .exit) ≡ imageGiven c (now (s .entry)) (now (image .entry))) ⌝ }
+{
+    if wire::byte_at(s, 0) == section::APPLICATION_TABLE {
+        return Given {
+            fate: table_fate(s),
+            state: c,
+        };
+    }
+    let st = carousel::step(c, s, image);
+    let next = st.state;
+    let answer = st.answer;
+    let fate = carousel_fate(answer);
+    Given {
+        fate: fate,
+        state: next,
+    }
+}
+
+fn table_fate(s: &[u8]) -> Fate
+    ensures { λ r. ⌜ r ≡ tableFate (now (s .entry)) ⌝ }
+{
+    match applications::read(s) {
+        ReadAnswer::Refused(r) => Fate::Refused(r),
+        ReadAnswer::Accepted(_) => Fate::Table,
+    }
+}
+
+fn carousel_fate(a: Answer) -> Fate
+    ensures { λ r. ⌜ r ≡ carouselFate a ⌝ }
+{
+    match a {
+        Answer::New => Fate::New,
+        Answer::Same => Fate::Same,
+        Answer::Stored => Fate::Stored,
+        Answer::Repeated => Fate::Repeated,
+        Answer::Refused(r) => Fate::Refused(r),
+    }
+}
