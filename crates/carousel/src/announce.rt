@@ -6,6 +6,7 @@ use crate::Stepped;
 use crate::empty;
 use messages::Announcement;
 use messages::Listed;
+use messages::MOST_MODULES;
 use messages::module_at;
 ghost use mathlib.Core.Path.{_≡_};
 ghost use mathlib.Core.Bool.{_&&_};
@@ -13,7 +14,7 @@ ghost use mathlib.Core.List.{map};
 ghost use Prim.Native.Nat.{_≤_};
 ghost use lib.Dec.{eqb};
 ghost use lib.ListN.{length, take};
-ghost use Rattle.messages.specs.Limits.{total};
+ghost use Rattle.messages.specs.Limits.{mostModules, mostBytes, total};
 ghost use Rattle.messages.specs.Heard.{listOf, announcedIn};
 ghost use Rattle.carousel.specs.Record.{announcedBy, recordOf, listedIn, sizesOf};
 ghost use Rattle.carousel.specs.Changes.{madeAfresh};
@@ -21,7 +22,7 @@ ghost use Rattle.carousel.specs.Step.{sameModules, sameAnnounced, onAnno
 
 // "Same", or "new" with the record made afresh. `list` is where the announced modules lie.
 pub fn take_announcement(c: Carousel, a: Announcement, list: &[u8]) -> Stepped
-    requires { ⌜ (c .count ≤ 16) × (a .count ≤ 16) × (a .count ≡ length (listOf (now list))) × (total (sizesOf (listOf (now list))) ≤ 65536) ⌝ }
+    requires { ⌜ (c .count ≤ mostModules) × (a .count ≤ mostModules) × (a .count ≡ length (listOf (now list))) × (total (sizesOf (listOf (now list))) ≤ mostBytes) ⌝ }
     ensures { λ r. ⌜ r ≡ returning c (onAnnounced (recordOf c) (announcedIn a (now (list .entry)))) ⌝ }
 {
     if is_same(c, a, list) {
@@ -38,7 +39,7 @@ pub fn take_announcement(c: Carousel, a: Announcement, list: &[u8]) -> Stepped
 }
 
 fn is_same(c: Carousel, a: Announcement, list: &[u8]) -> bool
-    requires { ⌜ (c .count ≤ 16) × (a .count ≡ length (listOf (now list))) ⌝ }
+    requires { ⌜ (c .count ≤ mostModules) × (a .count ≡ length (listOf (now list))) ⌝ }
     ensures { λ r. ⌜ r ≡ sameAnnounced (announcedBy c) (announcedIn a (now (list .entry))) ⌝ }
 {
     if c.download != a.download {
@@ -55,8 +56,8 @@ fn is_same(c: Carousel, a: Announcement, list: &[u8]) -> bool
     is_same_list(ms, n, list)
 }
 
-fn is_same_list(ms: [Module; 16], n: usize, list: &[u8]) -> bool
-    requires { ⌜ (n ≤ 16) × (n ≡ length (listOf (now list))) ⌝ }
+fn is_same_list(ms: [Module; MOST_MODULES], n: usize, list: &[u8]) -> bool
+    requires { ⌜ (n ≤ mostModules) × (n ≡ length (listOf (now list))) ⌝ }
     ensures { λ r. ⌜ r ≡ sameModules (map listedIn (take n ms)) (listOf (now (list .entry))) ⌝ }
 {
     let mut i: usize = 0;
@@ -83,7 +84,7 @@ fn is_same_module(m: Module, l: Listed) -> bool
 
 // The record after a new announcement. Nothing of the old one stays.
 fn made_afresh(c: Carousel, a: Announcement, list: &[u8]) -> Carousel
-    requires { ⌜ (a .count ≤ 16) × (a .count ≡ length (listOf (now list))) × (total (sizesOf (listOf (now list))) ≤ 65536) ⌝ }
+    requires { ⌜ (a .count ≤ mostModules) × (a .count ≡ length (listOf (now list))) × (total (sizesOf (listOf (now list))) ≤ mostBytes) ⌝ }
     ensures { λ r. ⌜ r ≡ madeAfresh c (announcedIn a (now (list .entry))) ⌝ }
 {
     let mut next = empty();

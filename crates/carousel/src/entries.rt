@@ -1,15 +1,17 @@
 // The record's first n entries: the announced modules.
 use crate::Module;
+use messages::MOST_MODULES;
 ghost use mathlib.Core.Path.{_≡_};
 ghost use mathlib.Core.List.{map};
 ghost use Prim.Native.Nat.{_+_, _≤_};
 ghost use lib.ListN.{drop, take};
 ghost use Rattle.messages.specs.Limits as limits;
+ghost use Rattle.messages.specs.Limits.{mostModules};
 ghost use Rattle.carousel.specs.Record.{listedIn, sizesOf, numbersOf, placeIn};
 
 // The sizes together.
-pub fn total(ms: [Module; 16], n: usize) -> usize
-    requires { ⌜ n ≤ 16 ⌝ }
+pub fn total(ms: [Module; MOST_MODULES], n: usize) -> usize
+    requires { ⌜ n ≤ mostModules ⌝ }
     ensures { λ r. ⌜ r ≡ limits.total (sizesOf (map listedIn (take n ms))) ⌝ }
 {
     let mut sum: usize = 0;
@@ -23,8 +25,8 @@ pub fn total(ms: [Module; 16], n: usize) -> usize
 }
 
 // Whether a size is 0 or over 256 blocks.
-pub fn some_bad(block_size: u16, ms: [Module; 16], n: usize) -> bool
-    requires { ⌜ n ≤ 16 ⌝ }
+pub fn some_bad(block_size: u16, ms: [Module; MOST_MODULES], n: usize) -> bool
+    requires { ⌜ n ≤ mostModules ⌝ }
     ensures { λ r. ⌜ r ≡ limits.someBad «block_size» (sizesOf (map listedIn (take n ms))) ⌝ }
 {
     let most = messages::MOST_BLOCKS * block_size as usize;
@@ -43,8 +45,8 @@ pub fn some_bad(block_size: u16, ms: [Module; 16], n: usize) -> bool
 }
 
 // The first place from `from` on that has this number, n where there is none.
-pub fn place_from(ms: [Module; 16], n: usize, from: usize, number: u16) -> usize
-    requires { ⌜ (n ≤ 16) × (from ≤ n) ⌝ }
+pub fn place_from(ms: [Module; MOST_MODULES], n: usize, from: usize, number: u16) -> usize
+    requires { ⌜ (n ≤ mostModules) × (from ≤ n) ⌝ }
     ensures { λ r. ⌜ (r ≡ from + placeIn number (drop from (map listedIn (take n ms)))) × (r ≤ n) ⌝ }
 {
     let mut i = from;
@@ -59,8 +61,8 @@ pub fn place_from(ms: [Module; 16], n: usize, from: usize, number: u16) -> usize
 }
 
 // Whether a number comes twice.
-pub fn has_twice(ms: [Module; 16], n: usize) -> bool
-    requires { ⌜ n ≤ 16 ⌝ }
+pub fn has_twice(ms: [Module; MOST_MODULES], n: usize) -> bool
+    requires { ⌜ n ≤ mostModules ⌝ }
     ensures { λ r. ⌜ r ≡ limits.twice11 (numbersOf (map listedIn (take n ms))) ⌝ }
 {
     let mut i: usize = 0;

@@ -43,7 +43,7 @@ pub struct Carousel {
     pub download: u32,
     pub block_size: u16,
     pub count: u16,
-    pub modules: [Module; 16],
+    pub modules: [Module; messages::MOST_MODULES],
     pub marks: [u32; 128],
 }
 

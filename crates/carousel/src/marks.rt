@@ -2,7 +2,8 @@
 use crate::Carousel;
 use crate::Lack;
 ghost use mathlib.Core.Path.{_≡_};
-ghost use Prim.Native.Nat.{_+_, _-_, _/_, _^_, _<_, _≤_};
+ghost use Prim.Native.Nat.{_+_, _-_, _*_, _/_, _^_, _<_, _≤_};
+ghost use Rattle.messages.specs.Limits.{mostModules, mostBlocks};
 ghost use lib.Dec.{eqb};
 ghost use Rattle.carousel.specs.Marks.{isMarked, clearFrom, clearAmong};
 ghost use Rattle.carousel.specs.Changes.{withMark};
@@ -21,7 +22,7 @@ pub fn is_marked(words: &[u32], k: usize) -> bool
 
 // The record with mark k set.
 pub fn with_mark(c: Carousel, k: usize) -> Carousel
-    requires { ⌜ k < 4096 ⌝ }
+    requires { ⌜ k < mostModules * mostBlocks ⌝ }
     ensures { λ r. ⌜ r ≡ withMark c k ⌝ }
 {
     let word = k / 32;
@@ -70,7 +71,7 @@ fn after_word(n: usize) -> usize
 
 // How many of n blocks have no mark, and the lowest of them; `first` is the mark of block 0.
 pub fn lack_among(words: &[u32], first: usize, n: usize) -> Lack
-    requires { ⌜ first + n ≤ 4096 ⌝ }
+    requires { ⌜ first + n ≤ mostModules * mostBlocks ⌝ }
     ensures { λ r. ⌜ r ≡ lackOf (clearAmong (now (words .entry)) first 0 n) ⌝ }
 {
     let mut lack = Lack {
@@ -88,7 +89,7 @@ pub fn lack_among(words: &[u32], first: usize, n: usize) -> Lack
 
 // One block before those that were looked at.
 fn with_block(lack: Lack, b: usize, here: bool) -> Lack
-    requires { ⌜ lack .count < 4096 ⌝ }
+    requires { ⌜ lack .count < mostModules * mostBlocks ⌝ }
     ensures { λ r. ⌜ r ≡ oneMore lack b here ⌝ }
 {
     if here {

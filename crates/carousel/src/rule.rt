@@ -6,21 +6,25 @@ use crate::entries::has_twice;
 use crate::entries::some_bad;
 use crate::entries::total;
 use crate::marks::is_clear_from;
+use messages::MOST_MODULES;
 ghost use mathlib.Core.Path.{_≡_};
 ghost use mathlib.Core.List.{map};
 ghost use Prim.Native.Nat.{_≤_};
 ghost use lib.ListN.{drop, take};
-ghost use Rattle.messages.specs.Limits.{beyond10};
+ghost use Rattle.messages.specs.Limits.{mostModules, beyond10};
 ghost use Rattle.carousel.specs.Blocks.{blocksOf};
 ghost use Rattle.carousel.specs.Marks.{marksWithin};
 ghost use Rattle.carousel.specs.Record.{announcedBy, listedIn, startIn, sizesOf, sums, sameNumbers, isUnused, allUnused, withinLimits, ruledOf};
+
+// The words of one module's marks: 256, 32 to a word.
+const MODULE_WORDS: usize = 8;
 
 // Whether a record keeps its rule.
 pub fn is_ruled(c: Carousel) -> bool
     ensures { λ r. ⌜ r ≡ ruledOf c ⌝ }
 {
     let n = c.count as usize;
-    if messages::MOST_MODULES < n {
+    if MOST_MODULES < n {
         return false;
     }
     let ms = c.modules;
@@ -52,12 +56,12 @@ fn is_unused(m: Module) -> bool
 }
 
 // Whether the entries from n on are unused.
-fn all_unused(ms: [Module; 16], n: usize) -> bool
-    requires { ⌜ n ≤ 16 ⌝ }
+fn all_unused(ms: [Module; MOST_MODULES], n: usize) -> bool
+    requires { ⌜ n ≤ mostModules ⌝ }
     ensures { λ r. ⌜ r ≡ allUnused (drop n ms) ⌝ }
 {
     let mut i = n;
-    while i < 16 {
+    while i < MOST_MODULES {
         if !is_unused(ms[i]) {
             return false;
         }
@@ -67,7 +71,7 @@ fn all_unused(ms: [Module; 16], n: usize) -> bool
 }
 
 fn is_within_limits(c: Carousel) -> bool
-    requires { ⌜ c .count ≤ 16 ⌝ }
+    requires { ⌜ c .count ≤ mostModules ⌝ }
     ensures { λ r. ⌜ r ≡ withinLimits (announcedBy c) ⌝ }
 {
     let n = c.count as usize;
@@ -85,8 +89,8 @@ fn is_within_limits(c: Carousel) -> bool
 }
 
 // 10, of the first n entries.
-fn is_beyond(block_size: u16, ms: [Module; 16], n: usize) -> bool
-    requires { ⌜ n ≤ 16 ⌝ }
+fn is_beyond(block_size: u16, ms: [Module; MOST_MODULES], n: usize) -> bool
+    requires { ⌜ n ≤ mostModules ⌝ }
     ensures { λ r. ⌜ r ≡ beyond10 «block_size» (sizesOf (map listedIn (take n ms))) ⌝ }
 {
     if block_size == 0 {
@@ -105,8 +109,8 @@ fn is_beyond(block_size: u16, ms: [Module; 16], n: usize) -> bool
 }
 
 // Whether the starts of the first n entries are running sums.
-fn is_running(ms: [Module; 16], n: usize) -> bool
-    requires { ⌜ n ≤ 16 ⌝ }
+fn is_running(ms: [Module; MOST_MODULES], n: usize) -> bool
+    requires { ⌜ n ≤ mostModules ⌝ }
     ensures { λ r. ⌜ r ≡ sameNumbers (map startIn (take n ms)) (sums 0 (sizesOf (map listedIn (take n ms)))) ⌝ }
 {
     let mut sum: usize = 0;
@@ -124,7 +128,7 @@ fn is_running(ms: [Module; 16], n: usize) -> bool
 
 // Whether no mark past a last block is set.
 fn is_in_place(c: Carousel) -> bool
-    requires { ⌜ c .count ≤ 16 ⌝ }
+    requires { ⌜ c .count ≤ mostModules ⌝ }
     ensures { λ r. ⌜ r ≡ marksWithin (map (λ z. blocksOf (c .«block_size») z) (sizesOf (announcedBy c .modules))) (c .marks) ⌝ }
 {
     let n = c.count as usize;
@@ -134,13 +138,13 @@ fn is_in_place(c: Carousel) -> bool
     let mut i: usize = 0;
     while i < n {
         let m = ms[i];
-        let at = 8 * i;
-        let e = at + 8;
+        let at = MODULE_WORDS * i;
+        let e = at + MODULE_WORDS;
         if !is_clear_from(&words[at..e], blocks_of(c.block_size, m.size)) {
             return false;
         }
         i += 1;
     }
-    let at = 8 * n;
+    let at = MODULE_WORDS * n;
     is_clear_from(&words[at..], 0)
 }

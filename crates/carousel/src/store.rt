@@ -14,6 +14,7 @@ ghost use Prim.Native.Nat.{_+_, _<_, _≤_};
 ghost use mathlib.Core.Bool.{true};
 ghost use lib.ListN.{length};
 ghost use Rattle.section.specs.Answer.{refused};
+ghost use Rattle.messages.specs.Limits.{mostModules, mostBlocks};
 ghost use Rattle.messages.specs.Heard.{arrivedIn};
 ghost use Rattle.carousel.specs.Record.{announcedBy, recordOf, blockAt, placeOf, sameNumbers, ruledOf};
 ghost use Rattle.carousel.specs.Changes.{overwrite};
@@ -45,7 +46,7 @@ pub fn refuse(c: Carousel, number: u8) -> Stepped
 
 // The lowest of 12 to 16 that meets a block, the image having `room` bytes; 0 where none does.
 fn block_refusal(c: Carousel, b: Block, bytes: &[u8], room: usize) -> u8
-    requires { ⌜ c .count ≤ 16 ⌝ }
+    requires { ⌜ c .count ≤ mostModules ⌝ }
     ensures { λ r. ⌜ r ≡ blockRefusal (announcedBy c) room (arrivedIn b (now (bytes .entry))) ⌝ }
 {
     let n = c.count as usize;
@@ -75,7 +76,7 @@ fn block_refusal(c: Carousel, b: Block, bytes: &[u8], room: usize) -> u8
 
 // A matching block: "stored", "repeated", or 17.
 fn put(c: Carousel, place: usize, b: Block, bytes: &[u8], image: &mut [u8]) -> Stepped
-    requires { ⌜ (place < c .count) × (c .count ≤ 16) × (b .block < 256) × (blockAt (recordOf c) place (b .block) + length (now bytes) ≤ length (now image)) ⌝ }
+    requires { ⌜ (place < c .count) × (c .count ≤ mostModules) × (b .block < mostBlocks) × (blockAt (recordOf c) place (b .block) + length (now bytes) ≤ length (now image)) ⌝ }
     ensures { λ r. ⌜ (r ≡ returning c (matched (recordOf c) (now (image .entry)) place (arrivedIn b (now (bytes .entry)))))
         × (now (image .exit) ≡ imageAfter (now (image .entry)) (matched (recordOf c) (now (image .entry)) place (arrivedIn b (now (bytes .entry))))) ⌝ }
 {
