@@ -6,3 +6,4 @@ pub mod Counts
 pub mod Made
 pub mod Spans
 pub mod Exact
+pub mod Numbers

@@ -26,22 +26,22 @@ use Rattle.applications.proofs.part.Kinds as part-kinds
 use Rattle.applications.proofs.part.Reads as part-reads
 
 read : OneAnswer 1 read-kinds.ps read-kinds.r read-reads.Post
-read κs a x y s t p q = p ∙ sym q
+read κs a x y s t p q = p .0 ∙ sym (q .0)
 
 application-at : OneAnswer 1 application-at-kinds.ps application-at-kinds.r application-at-reads.Post
-application-at κs a x y s t p q = p ∙ sym q
+application-at κs a x y s t p q = p .0 ∙ sym (q .0)
 
 descriptor-at : OneAnswer 1 descriptor-at-kinds.ps descriptor-at-kinds.r descriptor-at-reads.Post
-descriptor-at κs a x y s t p q = p ∙ sym q
+descriptor-at κs a x y s t p q = p .0 ∙ sym (q .0)
 
 item-at : OneAnswer 1 item-at-kinds.ps item-at-kinds.r item-at-reads.Post
-item-at κs a x y s t p q = p ∙ sym q
+item-at κs a x y s t p q = p .0 ∙ sym (q .0)
 
 extension-at : OneAnswer 1 extension-at-kinds.ps extension-at-kinds.r extension-at-reads.Post
-extension-at κs a x y s t p q = p ∙ sym q
+extension-at κs a x y s t p q = p .0 ∙ sym (q .0)
 
 resolve : OneAnswer 1 resolve-kinds.ps resolve-kinds.r resolve-reads.Post
-resolve κs a x y s t p q = p ∙ sym q
+resolve κs a x y s t p q = p .0 ∙ sym (q .0)
 
 class-of : OneAnswer 0 class-of-kinds.ps class-of-kinds.r class-of-reads.Post
 class-of κs a x y s t p q = p ∙ sym q

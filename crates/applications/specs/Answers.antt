@@ -1,13 +1,14 @@
 -- What each call answers. 01: "Asking by place answers the section's own refusals (2 to 7, 18), then 19."
 -- Assumes nothing.
 use Prim.Native.Nat.{ℕ, _+_}
-use mathlib.Core.Bool.{Bool, cond}
-use mathlib.Core.List.{List, [], _∷_}
+use mathlib.Core.Bool.{Bool, true, false, cond}
+use mathlib.Core.List.{List, [], _∷_, _++_}
 use lib.Dec.{leb, eqb}
 use lib.ListN.{length, take, drop}
 use Rattle.wire.specs.declared.Place.{Place}
 use Rattle.wire.specs.Fields.{byteAt, bits}
 use Rattle.wire.specs.Places.{onPlace, partAt}
+use Rattle.wire.specs.Tests.{firstMet}
 use Rattle.section.specs.declared.Refusal.{Refusal}
 use Rattle.section.specs.declared.Header.{Header}
 use Rattle.section.specs.Answer.{refused, onChecked}
@@ -29,7 +30,7 @@ use Rattle.applications.specs.declared.ExtensionAnswer.{ExtensionAnswer}
 use Rattle.applications.specs.declared.ExtensionAnswer.the-variants as extension
 use Rattle.applications.specs.declared.Resolved.{Resolved}
 use Rattle.applications.specs.declared.Resolved.the-variants as resolved
-use Rattle.applications.specs.Acceptance.{judgedOf}
+use Rattle.applications.specs.Acceptance.{applicationTests, judgedOf}
 use Rattle.applications.specs.Places.{commonAt, loopAt, ownAt, applicationAt, descriptorAt, repeatedAt, extensionAt, countAt}
 use Rattle.applications.specs.Records.{applicationOf, describedOf, itemOf, extensionOf}
 use Rattle.applications.specs.Labels.{labelAt, resolvedIn}
@@ -81,6 +82,41 @@ unfoldable pub resolveAnswer : List ℕ → ℕ → ℕ → Resolved
 resolveAnswer s i k =
     onLocated (locatedOf s (labelAt i k s)) (λ r. resolved.Refused r) (λ a n.
     resolvedIn (byteAt (take n (drop a s)) 0) (partAt (ownAt i s) s) (partAt (commonAt s) s ∷ []))
+
+-- "For an answer that is an enum, a definition provides this paper's number and values for each of the enum's cases." Refused has its number; 0 is no refusal.
+abbrev pub numberOfRead : ReadAnswer → ℕ
+numberOfRead (read.Refused r) = r .number
+numberOfRead (read.Accepted t) = 0
+
+abbrev pub numberOfApplication : ApplicationAnswer → ℕ
+numberOfApplication (application.Refused r) = r .number
+numberOfApplication (application.Found x) = 0
+
+abbrev pub numberOfDescriptor : DescriptorAnswer → ℕ
+numberOfDescriptor (descriptor.Refused r) = r .number
+numberOfDescriptor (descriptor.Found x) = 0
+
+abbrev pub numberOfItem : ItemAnswer → ℕ
+numberOfItem (item.Refused r) = r .number
+numberOfItem (item.Found x) = 0
+
+abbrev pub numberOfExtension : ExtensionAnswer → ℕ
+numberOfExtension (extension.Refused r) = r .number
+numberOfExtension (extension.Found x) = 0
+
+abbrev pub numberOfResolved : Resolved → ℕ
+numberOfResolved (resolved.Refused r) = r .number
+numberOfResolved (resolved.Own j) = 0
+numberOfResolved (resolved.Common n j) = 0
+numberOfResolved resolved.Unresolved = 0
+
+-- the number of `read`: the section's own refusal, the lowest of 2 to 7 and 18 that applies
+unfoldable pub readNumber : List ℕ → ℕ
+readNumber s = firstMet (applicationTests s)
+
+-- the number of a call by place: "the section's own refusals (2 to 7, 18), then 19"
+unfoldable pub placeNumber : List ℕ → Place → ℕ
+placeNumber s p = firstMet (applicationTests s ++ (19, onPlace p true (λ a n. false)) ∷ [])
 
 -- the bytes that a span names, none where it runs past the end
 unfoldable pub partOf : List ℕ → ℕ → ℕ → List ℕ

@@ -16,11 +16,12 @@ ghost use mathlib.Core.Path.{_≡_};
 ghost use mathlib.Core.List.{[], _∷_};
 ghost use Rattle.wire.specs.Places.{partAt, Inside};
 ghost use Rattle.applications.specs.Labels.{firstTo, resolvedIn, labelAt};
-ghost use Rattle.applications.specs.Answers.{resolveAnswer};
+ghost use Rattle.applications.specs.Answers.{resolveAnswer, numberOfResolved, placeNumber};
 
 // Label k of the application at place i: where its 0x02 descriptor stands.
 pub fn resolve(s: &[u8], i: usize, k: usize) -> Resolved
-    ensures { λ r. ⌜ r ≡ resolveAnswer (now (s .entry)) i k ⌝ }
+    ensures { λ r. ⌜ (r ≡ resolveAnswer (now (s .entry)) i k)
+        × (numberOfResolved r ≡ placeNumber (now (s .entry)) (labelAt i k (now (s .entry)))) ⌝ }
 {
     match locate(s, label_place(s, i, k)) {
         Located::Refused(r) => Resolved::Refused(r),

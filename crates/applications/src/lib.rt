@@ -28,12 +28,20 @@ use section::Checked;
 use section::Refusal;
 use steps::count_within;
 ghost use mathlib.Core.Path.{_≡_};
+ghost use Rattle.applications.specs.Places.{applicationAt, descriptorAt, repeatedAt, extensionAt};
 ghost use Rattle.applications.specs.Answers.{
   readAnswer,
   applicationAnswer,
   descriptorAnswer,
   itemAnswer,
   extensionAnswer,
+  numberOfRead,
+  numberOfApplication,
+  numberOfDescriptor,
+  numberOfItem,
+  numberOfExtension,
+  readNumber,
+  placeNumber,
   partOf,
 };
 pub use classes::class_of;
@@ -221,7 +229,7 @@ pub enum Located {
 
 // The header's fields, and how many common descriptors and applications there are.
 pub fn read(s: &[u8]) -> ReadAnswer
-    ensures { λ r. ⌜ r ≡ readAnswer (now (s .entry)) ⌝ }
+    ensures { λ r. ⌜ (r ≡ readAnswer (now (s .entry))) × (numberOfRead r ≡ readNumber (now (s .entry))) ⌝ }
 {
     match judge(s) {
         Checked::Refused(r) => ReadAnswer::Refused(r),
@@ -239,7 +247,8 @@ pub fn read(s: &[u8]) -> ReadAnswer
 
 // The application at place i.
 pub fn application_at(s: &[u8], i: usize) -> ApplicationAnswer
-    ensures { λ r. ⌜ r ≡ applicationAnswer (now (s .entry)) i ⌝ }
+    ensures { λ r. ⌜ (r ≡ applicationAnswer (now (s .entry)) i)
+        × (numberOfApplication r ≡ placeNumber (now (s .entry)) (applicationAt i (now (s .entry)))) ⌝ }
 {
     match locate(s, application_place(s, i)) {
         Located::Refused(r) => ApplicationAnswer::Refused(r),
@@ -252,7 +261,8 @@ pub fn application_at(s: &[u8], i: usize) -> ApplicationAnswer
 
 // The descriptor at place j of a scope.
 pub fn descriptor_at(s: &[u8], scope: Scope, j: usize) -> DescriptorAnswer
-    ensures { λ r. ⌜ r ≡ descriptorAnswer (now (s .entry)) scope j ⌝ }
+    ensures { λ r. ⌜ (r ≡ descriptorAnswer (now (s .entry)) scope j)
+        × (numberOfDescriptor r ≡ placeNumber (now (s .entry)) (descriptorAt scope j (now (s .entry)))) ⌝ }
 {
     match locate(s, descriptor_place(s, scope, j)) {
         Located::Refused(r) => DescriptorAnswer::Refused(r),
@@ -265,7 +275,8 @@ pub fn descriptor_at(s: &[u8], scope: Scope, j: usize) -> DescriptorAnswer
 
 // The item at place k of those that repeat in the descriptor at place j of a scope.
 pub fn item_at(s: &[u8], scope: Scope, j: usize, what: Repeated, k: usize) -> ItemAnswer
-    ensures { λ r. ⌜ r ≡ itemAnswer (now (s .entry)) scope j what k ⌝ }
+    ensures { λ r. ⌜ (r ≡ itemAnswer (now (s .entry)) scope j what k)
+        × (numberOfItem r ≡ placeNumber (now (s .entry)) (repeatedAt scope j what k (now (s .entry)))) ⌝ }
 {
     match locate(s, repeated_place(s, scope, j, what, k)) {
         Located::Refused(r) => ItemAnswer::Refused(r),
@@ -278,7 +289,8 @@ pub fn item_at(s: &[u8], scope: Scope, j: usize, what: Repeated, k: usize) -> It
 
 // The extension at place m of the base at place k.
 pub fn extension_at(s: &[u8], scope: Scope, j: usize, k: usize, m: usize) -> ExtensionAnswer
-    ensures { λ r. ⌜ r ≡ extensionAnswer (now (s .entry)) scope j k m ⌝ }
+    ensures { λ r. ⌜ (r ≡ extensionAnswer (now (s .entry)) scope j k m)
+        × (numberOfExtension r ≡ placeNumber (now (s .entry)) (extensionAt scope j k m (now (s .entry)))) ⌝ }
 {
     match locate(s, extension_place(s, scope, j, k, m)) {
         Located::Refused(r) => ExtensionAnswer::Refused(r),

@@ -34,7 +34,7 @@ use Rattle.applications.specs.Answers.{locatedOf, tableOf, readAnswer, a
 use Rattle.applications.proofs.Laws.Acceptance.{judged-refused, judged-bad, judged-good, judged-has}
 
 module _ (s : List ℕ) where
-  rising : RisingFrom 0 (applicationTests s)
+  pub rising : RisingFrom 0 (applicationTests s)
   rising = (lit< tt, (lit< tt, (lit< tt, (lit< tt, (lit< tt, (lit< tt, (lit< tt, tt)))))))
 
   joined : firstMet (applicationTests s) ≡ cond (eqb (refusalOf Application s) 0) (bodyRefusal (bodyOf s)) (refusalOf Application s)
@@ -54,6 +54,14 @@ module _ (s : List ℕ) where
       go : (t : Bool) → eqb (refusalOf Application s) 0 ≡ t → numberOf (judgedOf s) ≡ cond t (bodyRefusal (bodyOf s)) (refusalOf Application s)
       go true e = inner (eqb-true _ _ e) (eqb (bodyRefusal (bodyOf s)) 0) refl
       go false e = ap numberOf (sym (judged-refused s (refused (refusalOf Application s)) (section.refused-with Application s (eqb-false _ _ e))))
+
+  -- where none applies, the section is accepted
+  pub none-applies : firstMet (applicationTests s) ≡ 0 → judgedOf s ≡ Accepted (headerOf s)
+  none-applies z = go (eqb (refusalOf Application s) 0) refl (sym joined ∙ z)
+    where
+      go : (t : Bool) → eqb (refusalOf Application s) 0 ≡ t → cond t (bodyRefusal (bodyOf s)) (refusalOf Application s) ≡ 0 → judgedOf s ≡ Accepted (headerOf s)
+      go true e b = sym (judged-good s (headerOf s) (section.accepted-with Application s (eqb-true _ _ e)) b)
+      go false e b = absurd (eqb-false _ _ e b)
 
   -- THE NUMBER IS n EXACTLY WHEN TEST n HOLDS AND NO LOWER ONE DOES
   pub refused-exactly : (n : ℕ) → 0 < n

@@ -4,13 +4,15 @@ use mathlib.Core.Path.{_≡_, sym, ap, _∙_}
 use Prim.Native.Nat.{ℕ, _<_}
 use mathlib.Core.List.{List}
 use lib.ListN.{take, drop}
+use Rattle.applications.specs.declared.ApplicationAnswer.{ApplicationAnswer}
 use Rattle.applications.specs.declared.Located.the-variants as located
 use Rattle.applications.specs.declared.ApplicationAnswer.the-variants as application
 use Rattle.applications.specs.Places.{applicationAt}
 use Rattle.applications.specs.Records.{applicationOf}
-use Rattle.applications.specs.Answers.{locatedOf, partOf, applicationAnswer}
+use Rattle.applications.specs.Answers.{locatedOf, partOf, applicationAnswer, numberOfApplication, placeNumber}
 use Rattle.applications.proofs.Laws.Acceptance.{told, cut}
 use Rattle.applications.proofs.Laws.Places.{sound-application}
+use Rattle.applications.proofs.Laws.Numbers.{application-number}
 use borrow.Author.Needs.{needs}
 use Rattle.applications.proofs.application_at.Statement.{statement}
 use Rattle.applications.proofs.application_at.Tie as tie
@@ -40,15 +42,19 @@ found c = told _ _ (applicationAt (c .before .before .before .before .before .be
 there : (c : tie.After-known-told2) → (partOf (c .before .before .before .before .before .before .args .s .now) (c .before .start .given .0 .0) (c .before .start .given .0 .1 .0) ≡ take (c .before .start .given .0 .1 .0) (drop (c .before .start .given .0 .0) (c .before .before .before .before .before .before .args .s .now))) × (c .before .start .given .0 .0 < 65536)
 there c = cut _ (applicationAt (c .before .before .before .before .before .before .args .i) (c .before .before .before .before .before .before .args .s .now)) (sound-application (c .before .before .before .before .before .before .args .i) (c .before .before .before .before .before .before .args .s .now)) _ _ (found c)
 
+-- an answer, with its number
+numbered : (s : List ℕ) (i : ℕ) (r : ApplicationAnswer) → r ≡ applicationAnswer s i → (r ≡ applicationAnswer s i) × (numberOfApplication r ≡ placeNumber s (applicationAt i s))
+numbered s i r e = (e, ap numberOfApplication e ∙ application-number s i)
+
 returns : tie.Need-returns
 unfolding applicationAnswer
-returns c = rw (told _ _ (applicationAt (c .before .before .before .before .before .before .args .i) (c .before .before .before .before .before .before .args .s .now)) _ _ (c .before .before .before .before .application-place .ensures) (c .before .before .before .locate .ensures) (c .before .r .given .1))
+returns c = numbered (c .before .before .before .before .before .before .args .s .now) (c .before .before .before .before .before .before .args .i) _ (rw (told _ _ (applicationAt (c .before .before .before .before .before .before .args .i) (c .before .before .before .before .before .before .args .s .now)) _ _ (c .before .before .before .before .application-place .ensures) (c .before .before .before .locate .ensures) (c .before .r .given .1)))
 
 returns-2 : tie.Need-returns-2
 unfolding applicationAnswer
 returns-2 c =
     let x = there (c .before .before) in
-    rw (found (c .before .before)) (ap application.Found (c .application-of .ensures ∙ ap (applicationOf) (c .before .part .ensures ∙ x .0)))
+    numbered (c .before .before .before .before .before .before .before .before .args .s .now) (c .before .before .before .before .before .before .before .before .args .i) _ (rw (found (c .before .before)) (ap application.Found (c .application-of .ensures ∙ ap (applicationOf) (c .before .part .ensures ∙ x .0))))
 
 pub application-at-spec : {M : Type 1} → statement M
 application-at-spec =

@@ -4,13 +4,16 @@ use mathlib.Core.Path.{_≡_, sym, ap, _∙_}
 use Prim.Native.Nat.{ℕ, _<_}
 use mathlib.Core.List.{List}
 use lib.ListN.{take, drop}
+use Rattle.applications.specs.declared.Scope.{Scope}
+use Rattle.applications.specs.declared.DescriptorAnswer.{DescriptorAnswer}
 use Rattle.applications.specs.declared.Located.the-variants as located
 use Rattle.applications.specs.declared.DescriptorAnswer.the-variants as descriptor
 use Rattle.applications.specs.Places.{descriptorAt}
 use Rattle.applications.specs.Records.{describedOf}
-use Rattle.applications.specs.Answers.{locatedOf, partOf, descriptorAnswer}
+use Rattle.applications.specs.Answers.{locatedOf, partOf, descriptorAnswer, numberOfDescriptor, placeNumber}
 use Rattle.applications.proofs.Laws.Acceptance.{told, cut}
 use Rattle.applications.proofs.Laws.Places.{sound-descriptor}
+use Rattle.applications.proofs.Laws.Numbers.{descriptor-number}
 use borrow.Author.Needs.{needs}
 use Rattle.applications.proofs.descriptor_at.Statement.{statement}
 use Rattle.applications.proofs.descriptor_at.Tie as tie
@@ -40,15 +43,19 @@ part-requires c κs = search needs
 describe-requires : tie.Need-describe-requires
 describe-requires c κs = there (c .before) .1
 
+-- an answer, with its number
+numbered : (s : List ℕ) (o : Scope) (j : ℕ) (r : DescriptorAnswer) → r ≡ descriptorAnswer s o j → (r ≡ descriptorAnswer s o j) × (numberOfDescriptor r ≡ placeNumber s (descriptorAt o j s))
+numbered s o j r e = (e, ap numberOfDescriptor e ∙ descriptor-number s o j)
+
 returns : tie.Need-returns
 unfolding descriptorAnswer
-returns c = rw (told _ _ (descriptorAt (c .before .before .before .before .before .before .args .scope) (c .before .before .before .before .before .before .args .j) (c .before .before .before .before .before .before .args .s .now)) _ _ (c .before .before .before .before .descriptor-place .ensures) (c .before .before .before .locate .ensures) (c .before .r .given .1))
+returns c = numbered (c .before .before .before .before .before .before .args .s .now) (c .before .before .before .before .before .before .args .scope) (c .before .before .before .before .before .before .args .j) _ (rw (told _ _ (descriptorAt (c .before .before .before .before .before .before .args .scope) (c .before .before .before .before .before .before .args .j) (c .before .before .before .before .before .before .args .s .now)) _ _ (c .before .before .before .before .descriptor-place .ensures) (c .before .before .before .locate .ensures) (c .before .r .given .1)))
 
 returns-2 : tie.Need-returns-2
 unfolding descriptorAnswer
 returns-2 c =
     let x = there (c .before .before) in
-    rw (found (c .before .before)) (ap descriptor.Found (c .describe .ensures ∙ ap (λ (l : List ℕ). describedOf l (c .before .before .before .start .given .0 .0)) (c .before .part .ensures ∙ x .0)))
+    numbered (c .before .before .before .before .before .before .before .before .args .s .now) (c .before .before .before .before .before .before .before .before .args .scope) (c .before .before .before .before .before .before .before .before .args .j) _ (rw (found (c .before .before)) (ap descriptor.Found (c .describe .ensures ∙ ap (λ (l : List ℕ). describedOf l (c .before .before .before .start .given .0 .0)) (c .before .part .ensures ∙ x .0))))
 
 pub descriptor-at-spec : {M : Type 1} → statement M
 descriptor-at-spec =

@@ -4,13 +4,16 @@ use mathlib.Core.Path.{_≡_, sym, ap, _∙_}
 use Prim.Native.Nat.{ℕ, _<_}
 use mathlib.Core.List.{List}
 use lib.ListN.{take, drop}
+use Rattle.applications.specs.declared.Scope.{Scope}
+use Rattle.applications.specs.declared.ExtensionAnswer.{ExtensionAnswer}
 use Rattle.applications.specs.declared.Located.the-variants as located
 use Rattle.applications.specs.declared.ExtensionAnswer.the-variants as extension
 use Rattle.applications.specs.Places.{extensionAt}
 use Rattle.applications.specs.Records.{extensionOf}
-use Rattle.applications.specs.Answers.{locatedOf, partOf, extensionAnswer}
+use Rattle.applications.specs.Answers.{locatedOf, partOf, extensionAnswer, numberOfExtension, placeNumber}
 use Rattle.applications.proofs.Laws.Acceptance.{told, cut}
 use Rattle.applications.proofs.Laws.Places.{sound-extension}
+use Rattle.applications.proofs.Laws.Numbers.{extension-number}
 use borrow.Author.Needs.{needs}
 use Rattle.applications.proofs.extension_at.Statement.{statement}
 use Rattle.applications.proofs.extension_at.Tie as tie
@@ -40,15 +43,19 @@ part-requires c κs = search needs
 extension-of-requires : tie.Need-extension-of-requires
 extension-of-requires c κs = there (c .before) .1
 
+-- an answer, with its number
+numbered : (s : List ℕ) (o : Scope) (j k m : ℕ) (r : ExtensionAnswer) → r ≡ extensionAnswer s o j k m → (r ≡ extensionAnswer s o j k m) × (numberOfExtension r ≡ placeNumber s (extensionAt o j k m s))
+numbered s o j k m r e = (e, ap numberOfExtension e ∙ extension-number s o j k m)
+
 returns : tie.Need-returns
 unfolding extensionAnswer
-returns c = rw (told _ _ (extensionAt (c .before .before .before .before .before .before .args .scope) (c .before .before .before .before .before .before .args .j) (c .before .before .before .before .before .before .args .k) (c .before .before .before .before .before .before .args .m) (c .before .before .before .before .before .before .args .s .now)) _ _ (c .before .before .before .before .extension-place .ensures) (c .before .before .before .locate .ensures) (c .before .r .given .1))
+returns c = numbered (c .before .before .before .before .before .before .args .s .now) (c .before .before .before .before .before .before .args .scope) (c .before .before .before .before .before .before .args .j) (c .before .before .before .before .before .before .args .k) (c .before .before .before .before .before .before .args .m) _ (rw (told _ _ (extensionAt (c .before .before .before .before .before .before .args .scope) (c .before .before .before .before .before .before .args .j) (c .before .before .before .before .before .before .args .k) (c .before .before .before .before .before .before .args .m) (c .before .before .before .before .before .before .args .s .now)) _ _ (c .before .before .before .before .extension-place .ensures) (c .before .before .before .locate .ensures) (c .before .r .given .1)))
 
 returns-2 : tie.Need-returns-2
 unfolding extensionAnswer
 returns-2 c =
     let x = there (c .before .before) in
-    rw (found (c .before .before)) (ap extension.Found (c .extension-of .ensures ∙ ap (λ (l : List ℕ). extensionOf l (c .before .before .before .start .given .0 .0)) (c .before .part .ensures ∙ x .0)))
+    numbered (c .before .before .before .before .before .before .before .before .args .s .now) (c .before .before .before .before .before .before .before .before .args .scope) (c .before .before .before .before .before .before .before .before .args .j) (c .before .before .before .before .before .before .before .before .args .k) (c .before .before .before .before .before .before .before .before .args .m) _ (rw (found (c .before .before)) (ap extension.Found (c .extension-of .ensures ∙ ap (λ (l : List ℕ). extensionOf l (c .before .before .before .start .given .0 .0)) (c .before .part .ensures ∙ x .0))))
 
 pub extension-at-spec : {M : Type 1} → statement M
 extension-at-spec =

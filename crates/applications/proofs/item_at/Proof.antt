@@ -4,13 +4,17 @@ use mathlib.Core.Path.{_≡_, sym, ap, _∙_}
 use Prim.Native.Nat.{ℕ, _<_}
 use mathlib.Core.List.{List}
 use lib.ListN.{take, drop}
+use Rattle.applications.specs.declared.Scope.{Scope}
+use Rattle.applications.specs.declared.Repeated.{Repeated}
+use Rattle.applications.specs.declared.ItemAnswer.{ItemAnswer}
 use Rattle.applications.specs.declared.Located.the-variants as located
 use Rattle.applications.specs.declared.ItemAnswer.the-variants as item
 use Rattle.applications.specs.Places.{repeatedAt}
 use Rattle.applications.specs.Records.{itemOf}
-use Rattle.applications.specs.Answers.{locatedOf, partOf, itemAnswer}
+use Rattle.applications.specs.Answers.{locatedOf, partOf, itemAnswer, numberOfItem, placeNumber}
 use Rattle.applications.proofs.Laws.Acceptance.{told, cut}
 use Rattle.applications.proofs.Laws.Places.{sound-repeated}
+use Rattle.applications.proofs.Laws.Numbers.{item-number}
 use borrow.Author.Needs.{needs}
 use Rattle.applications.proofs.item_at.Statement.{statement}
 use Rattle.applications.proofs.item_at.Tie as tie
@@ -40,15 +44,19 @@ part-requires c κs = search needs
 item-of-requires : tie.Need-item-of-requires
 item-of-requires c κs = there (c .before) .1
 
+-- an answer, with its number
+numbered : (s : List ℕ) (o : Scope) (j : ℕ) (what : Repeated) (k : ℕ) (r : ItemAnswer) → r ≡ itemAnswer s o j what k → (r ≡ itemAnswer s o j what k) × (numberOfItem r ≡ placeNumber s (repeatedAt o j what k s))
+numbered s o j what k r e = (e, ap numberOfItem e ∙ item-number s o j what k)
+
 returns : tie.Need-returns
 unfolding itemAnswer
-returns c = rw (told _ _ (repeatedAt (c .before .before .before .before .before .before .args .scope) (c .before .before .before .before .before .before .args .j) (c .before .before .before .before .before .before .args .what) (c .before .before .before .before .before .before .args .k) (c .before .before .before .before .before .before .args .s .now)) _ _ (c .before .before .before .before .repeated-place .ensures) (c .before .before .before .locate .ensures) (c .before .r .given .1))
+returns c = numbered (c .before .before .before .before .before .before .args .s .now) (c .before .before .before .before .before .before .args .scope) (c .before .before .before .before .before .before .args .j) (c .before .before .before .before .before .before .args .what) (c .before .before .before .before .before .before .args .k) _ (rw (told _ _ (repeatedAt (c .before .before .before .before .before .before .args .scope) (c .before .before .before .before .before .before .args .j) (c .before .before .before .before .before .before .args .what) (c .before .before .before .before .before .before .args .k) (c .before .before .before .before .before .before .args .s .now)) _ _ (c .before .before .before .before .repeated-place .ensures) (c .before .before .before .locate .ensures) (c .before .r .given .1)))
 
 returns-2 : tie.Need-returns-2
 unfolding itemAnswer
 returns-2 c =
     let x = there (c .before .before) in
-    rw (found (c .before .before)) (ap item.Found (c .item-of .ensures ∙ ap (λ (l : List ℕ). itemOf (c .before .before .before .before .before .before .before .before .args .what) l (c .before .before .before .start .given .0 .0)) (c .before .part .ensures ∙ x .0)))
+    numbered (c .before .before .before .before .before .before .before .before .args .s .now) (c .before .before .before .before .before .before .before .before .args .scope) (c .before .before .before .before .before .before .before .before .args .j) (c .before .before .before .before .before .before .before .before .args .what) (c .before .before .before .before .before .before .before .before .args .k) _ (rw (found (c .before .before)) (ap item.Found (c .item-of .ensures ∙ ap (λ (l : List ℕ). itemOf (c .before .before .before .before .before .before .before .before .args .what) l (c .before .before .before .start .given .0 .0)) (c .before .part .ensures ∙ x .0))))
 
 pub item-at-spec : {M : Type 1} → statement M
 item-at-spec =

@@ -17,11 +17,11 @@ enum-told c = search needs
 
 returns : tie.Need-returns
 unfolding readFate
-returns c = rw (sym (c .before .before .before .read .ensures) ∙ c .before .r .given .1)
+returns c = rw (sym (c .before .before .before .read .ensures .0) ∙ c .before .r .given .1)
 
 returns-2 : tie.Need-returns-2
 unfolding readFate
-returns-2 c = rw (sym (c .before .before .read .ensures) ∙ c .enum-told .given .1)
+returns-2 c = rw (sym (c .before .before .read .ensures .0) ∙ c .enum-told .given .1)
 
 pub table-fate-spec : {M : Type 1} → statement M
 table-fate-spec = tie.close (tie.spec read-requires enum-known-r enum-told returns returns-2)

@@ -5,13 +5,15 @@ use Prim.Native.Nat.{ℕ}
 use mathlib.Core.List.{List}
 use lib.ListN.{take, drop}
 use Rattle.wire.specs.Fields.{byteAt}
+use Rattle.applications.specs.declared.Resolved.{Resolved}
 use Rattle.applications.specs.declared.Located.the-variants as located
 use Rattle.applications.specs.Places.{commonAt, ownAt}
 use Rattle.applications.specs.Labels.{labelAt}
-use Rattle.applications.specs.Answers.{locatedOf, resolveAnswer}
+use Rattle.applications.specs.Answers.{locatedOf, resolveAnswer, numberOfResolved, placeNumber}
 use Rattle.applications.proofs.Laws.Acceptance.{told, cut}
 use Rattle.applications.proofs.Laws.Places.{inside-of, sound-common, sound-own}
 use Rattle.applications.proofs.Laws.Labels.{sound-label}
+use Rattle.applications.proofs.Laws.Numbers.{resolve-number}
 use borrow.Author.Needs.{needs}
 use Rattle.applications.proofs.labels.resolve.Statement.{statement}
 use Rattle.applications.proofs.labels.resolve.Tie as tie
@@ -47,9 +49,13 @@ resolve-in-requires c κs = (inside-of (ownAt _) (sound-own _) _ (c .before .bef
 found : (c : tie.After-known-told2) → locatedOf (c .before .before .before .before .before .before .args .s .now) (labelAt (c .before .before .before .before .before .before .args .i) (c .before .before .before .before .before .before .args .k) (c .before .before .before .before .before .before .args .s .now)) ≡ located.At (c .before .start .given .0 .0) (c .before .start .given .0 .1 .0)
 found c = told _ _ (labelAt (c .before .before .before .before .before .before .args .i) (c .before .before .before .before .before .before .args .k) (c .before .before .before .before .before .before .args .s .now)) _ _ (c .before .before .before .before .label-place .ensures) (c .before .before .before .locate .ensures) (c .before .start .given .1)
 
+-- an answer, with its number
+numbered : (s : List ℕ) (i k : ℕ) (r : Resolved) → r ≡ resolveAnswer s i k → (r ≡ resolveAnswer s i k) × (numberOfResolved r ≡ placeNumber s (labelAt i k s))
+numbered s i k r e = (e, ap numberOfResolved e ∙ resolve-number s i k)
+
 returns : tie.Need-returns
 unfolding resolveAnswer
-returns c = rw (told _ _ (labelAt (c .before .before .before .before .before .before .args .i) (c .before .before .before .before .before .before .args .k) (c .before .before .before .before .before .before .args .s .now)) _ _ (c .before .before .before .before .label-place .ensures) (c .before .before .before .locate .ensures) (c .before .r .given .1))
+returns c = numbered (c .before .before .before .before .before .before .args .s .now) (c .before .before .before .before .before .before .args .i) (c .before .before .before .before .before .before .args .k) _ (rw (told _ _ (labelAt (c .before .before .before .before .before .before .args .i) (c .before .before .before .before .before .before .args .k) (c .before .before .before .before .before .before .args .s .now)) _ _ (c .before .before .before .before .label-place .ensures) (c .before .before .before .locate .ensures) (c .before .r .given .1)))
 
 returns-2 : tie.Need-returns-2
 unfolding resolveAnswer
@@ -59,7 +65,7 @@ returns-2 c =
     let b : c .before .before .before .byte-at .result ≡ byteAt (take (k .1 .0) (drop (k .0) s)) 0 = c .before .before .before .byte-at .ensures .0 ∙ ap (λ (l : List ℕ). byteAt l 0) (c .before .before .before .before .part .ensures ∙ cut s _ (sound-label (c .before .before .before .before .before .before .before .before .before .before .before .args .i) (c .before .before .before .before .before .before .before .before .before .before .before .args .k) s) _ _ (found (c .before .before .before .before .before)) .0) in
     let o : c .before .before .own-place .result ≡ ownAt (c .before .before .before .before .before .before .before .before .before .before .before .args .i) s = c .before .before .own-place .ensures in
     let m : c .before .common-place .result ≡ commonAt s = c .before .common-place .ensures in
-    rw (found (c .before .before .before .before .before)) (c .resolve-in .ensures ∙ rw (b, o, m))
+    numbered s (c .before .before .before .before .before .before .before .before .before .before .before .args .i) (c .before .before .before .before .before .before .before .before .before .before .before .args .k) _ (rw (found (c .before .before .before .before .before)) (c .resolve-in .ensures ∙ rw (b, o, m)))
 
 pub resolve-spec : {M : Type 1} → statement M
 resolve-spec =
