@@ -14,7 +14,7 @@ use Rattle.messages.specs.Limits.{twice11}
 use Rattle.messages.specs.Heard.{Announced, Arrived, Heard, refusal, announced, arrived}
 use Rattle.carousel.specs.Record.{numbersOf, moduleAt, placeOf, bytesOf, blockCount, blockLength}
 use Rattle.carousel.specs.Step.{meets12, meets13, meets14, meets15, meets16, blockRefusal}
-use Rattle.carousel.proofs.Views.{blockMatches, heardMatches, Matching}
+use Rattle.carousel.proofs.Views.{blockFor, heardFor, blockMatches, heardMatches, Matching}
 use Rattle.carousel.proofs.Laws.Places.{place-is}
 use Rattle.carousel.proofs.View.{fits}
 
@@ -67,3 +67,15 @@ unfolding heardMatches
 matching-means a k n i b u (refusal m) = ((λ e. absurd (clash _ e refl)), (λ p. cc (p .1)))
 matching-means a k n i b u (announced c) = ((λ e. absurd (clash _ e refl)), (λ p. cc (p .1)))
 matching-means a k n i b u (arrived d) = ((λ e. (d, refl, means a k n i b u d e)), (λ p. rw (same-block d (p .0) (p .1)) (meant a k n i b u (p .0) (p .2))))
+
+-- what is matching for a block of a module is for that module
+block-for : (a : Announced) (i : ℕ) (d : Arrived) (n b : ℕ) → 0 < length (a .modules) → Matching a n i b d → blockFor a i d ≡ true
+unfolding blockFor meets12
+block-for a i d n b some m =
+    rw (ne-eqb (length (a .modules)) 0 (λ z. omega arith), eq-eqb (a .download) (d .download) (sym (m .sameDownload)), eq-eqb (d .number) (moduleAt a i .number) (m .itsNumber))
+
+pub matching-for : (a : Announced) → twice11 (numbersOf (a .modules)) ≡ false → (n i b : ℕ) → i < length (a .modules) → (h : Heard) → heardMatches a n i b h ≡ true → heardFor a i h ≡ true
+unfolding heardFor
+matching-for a k n i b u h e =
+    let q = matching-means a k n i b u h .0 e in
+    rw (q .1) (block-for a i (q .0) n b (omega arith) (q .2))

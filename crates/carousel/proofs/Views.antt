@@ -2,7 +2,7 @@
 -- Assumes nothing.
 use Prim.Native.Nat.{ℕ, _≤_, _<_}
 use mathlib.Core.Path.{_≡_}
-use mathlib.Core.Bool.{Bool, true, false, cond, _&&_}
+use mathlib.Core.Bool.{Bool, true, false, not, cond, _&&_}
 use mathlib.Core.List.{List, []}
 use lib.Dec.{eqb}
 use lib.ListN.{length, take, drop}
@@ -11,7 +11,7 @@ use Rattle.messages.specs.Heard.{Announced, Arrived, Heard, refusal, announced,
 use Rattle.carousel.specs.declared.Answer.{Answer}
 use Rattle.carousel.specs.declared.Answer.the-variants as answer
 use Rattle.carousel.specs.Record.{Record, moduleAt, bytesOf, blockCount, blockLength, received, blockAt, sameNumbers}
-use Rattle.carousel.specs.Step.{Outcome, refusing, new, same, repeated, stored, blockRefusal, recordAfter, imageAfter}
+use Rattle.carousel.specs.Step.{Outcome, refusing, new, same, repeated, stored, meets12, blockRefusal, recordAfter, imageAfter}
 
 -- one record, by what it says, and one image, carried from call to call; and both after a section that came to o
 pub record Held : Type 0 where
@@ -35,6 +35,15 @@ hit ds v = cond (v .marked) v (record { marked = true; bytes = ds })
 
 unfoldable pub reply : Slot → List ℕ → Answer
 reply v ds = cond (v .marked) (cond (sameNumbers (v .bytes) ds) answer.Repeated (answer.Refused (refused 17))) answer.Stored
+
+-- "A data section is for a module when none of refusals 2 to 12 meets it and it bears that module's number." Here: for the module at place i; 2 to 11 are the hearing's.
+unfoldable pub blockFor : Announced → (i : ℕ) → Arrived → Bool
+blockFor a i d = not (meets12 a d) && eqb (d .number) (moduleAt a i .number)
+
+unfoldable pub heardFor : Announced → (i : ℕ) → Heard → Bool
+heardFor a i (refusal m) = false
+heardFor a i (announced c) = false
+heardFor a i (arrived d) = blockFor a i d
 
 -- "It is matching when 13 to 16 don't meet it either." Here: for block b of the module at place i, the image being of length n.
 unfoldable pub blockMatches : Announced → (n i b : ℕ) → Arrived → Bool

@@ -64,7 +64,7 @@ givenOf c s image = cond (eqb (byteAt s 0) applicationTable)
 unfoldable pub imageGiven : Carousel → (s image : List ℕ) → List ℕ
 imageGiven c s image = cond (eqb (byteAt s 0) applicationTable) image (imageOf c s image)
 
--- the paper's number and kind of a fate: "A refused section's kind is "none"."
+-- the paper's number of a fate. Its kind is the case's own name; "A refused section's kind is "none"."
 abbrev pub numberOf : Fate → ℕ
 numberOf (fate.Refused r) = r .number
 numberOf fate.Table = 0
