@@ -1,0 +1,44 @@
+// Text in lent bytes: a piece, or a number in decimal digits, put at a place. What there is no room
+// for is left out. Nothing here is of DVB.
+//
+// The bytes are defined in specs/Text.antt.
+ghost use mathlib.Core.Path.{_≡_};
+ghost use mathlib.Core.List.{_∷_, []};
+ghost use lib.ListN.{length, set};
+ghost use lib.Seq.{sets};
+ghost use Rattle.text.specs.Text.{reached, decimal};
+
+// Puts a piece of text at a place, and answers the place after it.
+pub fn put(out: &mut [u8], at: usize, piece: &[u8]) -> usize
+    ensures { λ r. ⌜ (now (out .exit) ≡ sets (now (out .entry)) at (now (piece .entry)))
+        × (r ≡ reached at (length (now (piece .entry))) (length (now (out .entry)))) ⌝ }
+{
+    let mut end = at;
+    let mut i: usize = 0;
+    while i < piece.len() {
+        end = put_byte(out, end, piece[i]);
+        i += 1;
+    }
+    end
+}
+
+// Puts a number's decimal digits at a place, and answers the place after them.
+pub fn put_decimal(out: &mut [u8], at: usize, n: u64) -> usize
+    ensures { λ r. ⌜ (now (out .exit) ≡ sets (now (out .entry)) at (decimal n)) × (r ≡ reached at (length (decimal n)) (length (now (out .entry)))) ⌝ }
+{
+    if n < 10 {
+        return put_byte(out, at, 48 + n as u8);
+    }
+    let next = put_decimal(out, at, n / 10);
+    put_byte(out, next, 48 + (n % 10) as u8)
+}
+
+fn put_byte(out: &mut [u8], at: usize, byte: u8) -> usize
+    ensures { λ r. ⌜ (now (out .exit) ≡ set (now (out .entry)) at byte) × (r ≡ reached at 1 (length (now (out .entry)))) ⌝ }
+{
+    if at < out.len() {
+        out[at] = byte;
+        return at + 1;
+    }
+    at
+}
