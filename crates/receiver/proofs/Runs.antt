@@ -1,6 +1,6 @@
 -- What a run is: the one-section calls over the sections that it took; budgets that add up; and that it takes no more than its budget and passes no more than its stretch.
 -- Assumes nothing.
-use Prim.Native.Nat.{ℕ, zero, suc, _+_, _≤_}
+use Prim.Native.Nat.{ℕ, zero, suc, _+_, _*_, _≤_}
 use mathlib.Core.Path.{_≡_, refl, sym, ap, _∙_}
 use mathlib.Core.Bool.{Bool, true, false, cond}
 use mathlib.Core.List.{List, [], _∷_}
@@ -17,12 +17,12 @@ use Rattle.carousel.specs.Record.{ruledOf}
 use Rattle.carousel.specs.Step.{steppedOf}
 use Rattle.carousel.proofs.Simulation.{step-rule}
 use Rattle.receiver.specs.declared.Given.{Given}
+use Rattle.receiver.specs.declared.Fate.{Fate}
 use Rattle.receiver.specs.declared.Took.{Took}
 use Rattle.receiver.specs.declared.Stop.{Stop}
 use Rattle.receiver.specs.declared.Stop.the-variants as stop
-use Rattle.receiver.specs.declared.What.the-variants as what
-use Rattle.receiver.specs.Run.{wholeAt, stopAt, tableFate, carouselFate, givenOf, imageGiven, tookOf, imageTook, Outcome, halted, after, runs, runOf, sectionsOf, Held, walk}
-use Rattle.receiver.proofs.Laws.Places.{whole-fits}
+use Rattle.receiver.specs.Run.{wholeAt, stopAt, tableFate, carouselFate, givenOf, imageGiven, tookOf, imageTook, Outcome, halted, after, runs, runOf, sectionsOf, fatesOf, Held, walk}
+use Rattle.receiver.proofs.Laws.Places.{whole-fits, whole-three}
 use Rattle.receiver.proofs.Laws.Runs.{took-one, ahead, same-counts, ahead-none, runs-stop, runs-next, run-state, run-ruled}
 
 -- what a run leaves, as a record and an image
@@ -54,6 +54,22 @@ run-walks (suc budget) c s image = go (eqb (wholeAt s) 0) (run-walks budget (giv
         let l = length-append (take (wholeAt s) s) (joined rest) in
         (h .0, ap suc (h .1), omega (arith, h .2))
 
+-- and as many fates as sections
+pub fates-counted : (budget : ℕ) (c : Carousel) (s image : List ℕ) → length (fatesOf budget c s image) ≡ runs budget c s image .taken
+unfolding runs fatesOf
+fates-counted zero c s image = refl
+fates-counted (suc budget) c s image = go (eqb (wholeAt s) 0) (fates-counted budget (givenOf c (take (wholeAt s) s) image .state) (drop (wholeAt s) s) (imageGiven c (take (wholeAt s) s) image))
+  where
+    next : Outcome
+    next = runs budget (givenOf c (take (wholeAt s) s) image .state) (drop (wholeAt s) s) (imageGiven c (take (wholeAt s) s) image)
+
+    rest : List Fate
+    rest = fatesOf budget (givenOf c (take (wholeAt s) s) image .state) (drop (wholeAt s) s) (imageGiven c (take (wholeAt s) s) image)
+
+    go : (t : Bool) → length rest ≡ next .taken → length (cond t [] (givenOf c (take (wholeAt s) s) image .fate ∷ rest)) ≡ cond t (halted c image (stopAt s)) (after (wholeAt s) next) .taken
+    go true h = refl
+    go false h = ap suc h
+
 -- "One that invents the taken number fails the run's definition": it takes no more than its budget, and passes no more than its stretch
 pub taken-most : (budget : ℕ) (c : Carousel) (s image : List ℕ) → runs budget c s image .taken ≤ budget
 unfolding runs
@@ -74,6 +90,23 @@ passed-most (suc budget) c s image = go (eqb (wholeAt s) 0) (passed-most budget 
         → cond t (halted c image (stopAt s)) (after (wholeAt s) (runs budget (givenOf c (take (wholeAt s) s) image .state) (drop (wholeAt s) s) (imageGiven c (take (wholeAt s) s) image))) .passed ≤ length s
     go true h = omega arith
     go false h = let f = whole-fits s in let l = length-drop (wholeAt s) s in omega arith
+
+-- and as each section has at least three bytes, no more than a third of the stretch's are taken
+pub taken-third : (budget : ℕ) (c : Carousel) (s image : List ℕ) → 3 * runs budget c s image .taken ≤ length s
+unfolding runs
+taken-third zero c s image = omega arith
+taken-third (suc budget) c s image = go (eqb (wholeAt s) 0) refl (taken-third budget (givenOf c (take (wholeAt s) s) image .state) (drop (wholeAt s) s) (imageGiven c (take (wholeAt s) s) image))
+  where
+    next : Outcome
+    next = runs budget (givenOf c (take (wholeAt s) s) image .state) (drop (wholeAt s) s) (imageGiven c (take (wholeAt s) s) image)
+
+    go : (t : Bool) → eqb (wholeAt s) 0 ≡ t → 3 * next .taken ≤ length (drop (wholeAt s) s) → 3 * cond t (halted c image (stopAt s)) (after (wholeAt s) next) .taken ≤ length s
+    go true e h = omega arith
+    go false e h =
+        let f = whole-fits s in
+        let w = whole-three s (eqb-false (wholeAt s) 0 e) in
+        let l = length-drop (wholeAt s) s in
+        omega arith
 
 -- the rule is kept by every section, and by a run
 pub given-rule : (c : Carousel) (s image : List ℕ) → ruledOf c ≡ true → ruledOf (givenOf c s image .state) ≡ true

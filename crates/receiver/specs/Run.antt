@@ -6,19 +6,21 @@ use mathlib.Core.List.{List, [], _∷_}
 use lib.Dec.{eqb, ltb}
 use lib.ListN.{length, take, drop}
 use Rattle.wire.specs.Fields.{byteAt}
+use Rattle.wire.specs.Tests.{firstMet}
 use Rattle.section.specs.Header.{lengthOf, applicationTable}
 use Rattle.applications.specs.declared.ReadAnswer.{ReadAnswer}
 use Rattle.applications.specs.declared.ReadAnswer.the-variants as reading
-use Rattle.applications.specs.Answers.{readAnswer}
+use Rattle.applications.specs.Answers.{readAnswer, readNumber}
 use Rattle.carousel.specs.declared.Carousel.{Carousel}
 use Rattle.carousel.specs.declared.Answer.{Answer}
 use Rattle.carousel.specs.declared.Answer.the-variants as answer
 use Rattle.carousel.specs.Record.{ruledOf}
-use Rattle.carousel.specs.Step.{steppedOf, imageOf}
+use Rattle.carousel.specs.Step.{steppedOf, imageOf, stepTests}
 use Rattle.receiver.specs.declared.Stop.{Stop}
 use Rattle.receiver.specs.declared.Stop.the-variants as stop
 use Rattle.receiver.specs.declared.Fate.{Fate}
 use Rattle.receiver.specs.declared.Fate.the-variants as fate
+use Rattle.receiver.specs.declared.What.{What}
 use Rattle.receiver.specs.declared.What.the-variants as what
 use Rattle.receiver.specs.declared.Took.{Took}
 use Rattle.receiver.specs.declared.Given.{Given}
@@ -64,7 +66,7 @@ givenOf c s image = cond (eqb (byteAt s 0) applicationTable)
 unfoldable pub imageGiven : Carousel → (s image : List ℕ) → List ℕ
 imageGiven c s image = cond (eqb (byteAt s 0) applicationTable) image (imageOf c s image)
 
--- the paper's number of a fate. Its kind is the case's own name; "A refused section's kind is "none"."
+-- the paper's number of a fate. The name of its kind is in crate report, `kindOf`.
 abbrev pub numberOf : Fate → ℕ
 numberOf (fate.Refused r) = r .number
 numberOf fate.Table = 0
@@ -72,6 +74,10 @@ numberOf fate.New = 0
 numberOf fate.Same = 0
 numberOf fate.Stored = 0
 numberOf fate.Repeated = 0
+
+-- and by the paper's numbered cases, in their order, of the application section or of the carousel's step
+abbrev pub givenNumber : Carousel → (s image : List ℕ) → ℕ
+givenNumber c s image = cond (eqb (byteAt s 0) applicationTable) (readNumber s) (firstMet (stepTests c s image))
 
 -- "At each place": "state" before all, then the stops in their order, "else take one section, accepted or refused"
 abbrev pub stoppedBy : Carousel → Stop → Took
@@ -89,6 +95,14 @@ tookOf c s image budget = cond (ruledOf c)
 
 unfoldable pub imageTook : Carousel → (s image : List ℕ) → (budget : ℕ) → List ℕ
 imageTook c s image budget = cond (ruledOf c) (cond (eqb (wholeAt s) 0 || eqb budget 0) image (imageGiven c (take (wholeAt s) s) image)) image
+
+-- the number of what was taken; a stop has none, and counts as 0
+abbrev pub numberTook : What → ℕ
+numberTook (what.Taken x) = numberOf (x .fate)
+numberTook (what.Stopped x) = 0
+
+unfoldable pub tookNumber : Carousel → (s image : List ℕ) → (budget : ℕ) → ℕ
+tookNumber c s image budget = cond (ruledOf c) (cond (eqb (wholeAt s) 0 || eqb budget 0) 0 (givenNumber c (take (wholeAt s) s) image)) 0
 
 -- THE RUN, of a record that keeps its rule: what it leaves, and the image beside it. Sections taken is the count here.
 pub record Outcome : Type 0 where
@@ -117,7 +131,7 @@ runOf c s image budget = cond (ruledOf c) (runs budget c s image) (halted c imag
 
 abbrev pub ranOf : Carousel → (s image : List ℕ) → (budget : ℕ) → Ran
 ranOf c s image budget =
-    record { state = runOf c s image budget .state; taken = runOf c s image budget .taken; passed = runOf c s image budget .passed; stop = runOf c s image budget .stop }
+    record { passage = record { taken = runOf c s image budget .taken; passed = runOf c s image budget .passed; stop = runOf c s image budget .stop }; state = runOf c s image budget .state }
 
 abbrev pub imageRan : Carousel → (s image : List ℕ) → (budget : ℕ) → List ℕ
 imageRan c s image budget = runOf c s image budget .image
@@ -126,6 +140,13 @@ imageRan c s image budget = runOf c s image budget .image
 unfoldable pub sectionsOf : (budget : ℕ) → List ℕ → List (List ℕ)
 sectionsOf zero s = []
 sectionsOf (suc budget) s = cond (eqb (wholeAt s) 0) [] (take (wholeAt s) s ∷ sectionsOf budget (drop (wholeAt s) s))
+
+-- and what becomes of each
+unfoldable pub fatesOf : (budget : ℕ) → Carousel → (s image : List ℕ) → List Fate
+fatesOf zero c s image = []
+fatesOf (suc budget) c s image = cond (eqb (wholeAt s) 0)
+    []
+    (givenOf c (take (wholeAt s) s) image .fate ∷ fatesOf budget (givenOf c (take (wholeAt s) s) image .state) (drop (wholeAt s) s) (imageGiven c (take (wholeAt s) s) image))
 
 -- a record and an image, carried from call to call over one section after another
 pub record Held : Type 0 where

@@ -13,7 +13,7 @@ ghost use mathlib.Core.Bool.{true};
 ghost use Prim.Native.Nat.{_≤_};
 ghost use lib.ListN.{length};
 ghost use Rattle.carousel.specs.Record.{ruledOf};
-ghost use Rattle.receiver.specs.Run.{stoppedBy, wholeAt, stopAt, givenOf, imageGiven, tookOf, imageTook, ranOf, imageRan, tableFate, carouselFate};
+ghost use Rattle.receiver.specs.Run.{stoppedBy, wholeAt, stopAt, givenOf, imageGiven, tookOf, imageTook, numberTook, tookNumber, ranOf, imageRan, tableFate, carouselFate};
 
 // The byte that fills a stretch after its last section.
 const STUFFING: u8 = 0xFF;
@@ -60,18 +60,24 @@ pub struct Given {
     pub state: Carousel,
 }
 
-// A run: the record after it, the sections taken, the bytes passed, and why it stopped.
-pub struct Ran {
-    pub state: Carousel,
+// How far a run came: the sections taken, the bytes passed, and why it stopped.
+pub struct Passage {
     pub taken: usize,
     pub passed: usize,
     pub stop: Stop,
 }
 
+// A run by value: its passage, beside the record after it.
+pub struct Ran {
+    pub passage: Passage,
+    pub state: Carousel,
+}
+
 // What stands at the head of a stretch: a stop, or one section, taken.
 pub fn take(c: Carousel, stretch: &[u8], image: &mut [u8], budget: usize) -> Took
     ensures { λ r. ⌜ (r ≡ tookOf c (now (stretch .entry)) (now (image .entry)) budget)
-        × (now (image .exit) ≡ imageTook c (now (stretch .entry)) (now (image .entry)) budget) ⌝ }
+        × (now (image .exit) ≡ imageTook c (now (stretch .entry)) (now (image .entry)) budget)
+        × (numberTook (r .what) ≡ tookNumber c (now (stretch .entry)) (now (image .entry)) budget) ⌝ }
 {
     if !carousel::is_ruled(c) {
         return stopped(c, Stop::State);
@@ -102,12 +108,7 @@ pub fn run(c: Carousel, stretch: &[u8], image: &mut [u8], budget: usize) -> Ran
         × (now (image .exit) ≡ imageRan c (now (stretch .entry)) (now (image .entry)) budget) ⌝ }
 {
     if !carousel::is_ruled(c) {
-        return Ran {
-            state: c,
-            taken: 0,
-            passed: 0,
-            stop: Stop::State,
-        };
+        return ended(c, 0, 0, Stop::State);
     }
     let mut d = c;
     let mut taken: usize = 0;
@@ -126,6 +127,17 @@ pub fn run(c: Carousel, stretch: &[u8], image: &mut [u8], budget: usize) -> Ran
     ended(d, taken, passed, stop_at(&stretch[passed..]))
 }
 
+// The run over a lent record, changed in place. Thin, over the run by value.
+pub fn run_in(c: &mut Carousel, stretch: &[u8], image: &mut [u8], budget: usize) -> Passage
+    ensures { λ r. ⌜ (r ≡ ranOf (now (c .entry)) (now (stretch .entry)) (now (image .entry)) budget .passage)
+        × (now (c .exit) ≡ ranOf (now (c .entry)) (now (stretch .entry)) (now (image .entry)) budget .state)
+        × (now (image .exit) ≡ imageRan (now (c .entry)) (now (stretch .entry)) (now (image .entry)) budget) ⌝ }
+{
+    let ran = run(*c, stretch, image, budget);
+    *c = ran.state;
+    ran.passage
+}
+
 fn stopped(c: Carousel, stop: Stop) -> Took
     ensures { λ r. ⌜ r ≡ stoppedBy c stop ⌝ }
 {
@@ -136,13 +148,16 @@ fn stopped(c: Carousel, stop: Stop) -> Took
 }
 
 fn ended(c: Carousel, taken: usize, passed: usize, stop: Stop) -> Ran
-    ensures { λ r. ⌜ r ≡ record { state = c; taken = taken; passed = passed; stop = stop } ⌝ }
+    ensures { λ r. ⌜ r ≡ record { passage = record { taken = taken; passed = passed; stop = stop }; state = c } ⌝ }
 {
-    Ran {
-        state: c,
+    let passage = Passage {
         taken: taken,
         passed: passed,
         stop: stop,
+    };
+    Ran {
+        passage: passage,
+        state: c,
     }
 }
 

@@ -87,3 +87,12 @@ module _ (s : List ℕ) where
       go true u e = omega arith
       go false true e = omega arith
       go false false e = ltb-false (length s) (saidLength s) (neither (ltb (length s) 3) (ltb (length s) (saidLength s)) e .1)
+
+  -- a section has at least its three bytes
+  pub whole-three : (wholeAt s ≡ 0 → ⊥) → 3 ≤ wholeAt s
+  unfolding wholeAt
+  whole-three n = go (isShort s || eqb (byteAt s 0) 0xFF) n
+    where
+      go : (t : Bool) → (cond t 0 (saidLength s) ≡ 0 → ⊥) → 3 ≤ cond t 0 (saidLength s)
+      go true z = absurd (z refl)
+      go false z = omega arith

@@ -101,9 +101,9 @@ taken-is c s image n w g x e f h = rw (f, e) (sym h)
 
 -- what a run answers, from what it comes to
 pub ran-is : (c : Carousel) (s image : List ℕ) (budget : ℕ) (d : Carousel) (l : List ℕ) (t p : ℕ) (x : Stop) → runOf c s image budget ≡ record { state = d; image = l; taken = t; passed = p; stop = x }
-    → (record { state = d; taken = t; passed = p; stop = x } ≡ ranOf c s image budget) × (l ≡ imageRan c s image budget)
+    → (record { passage = record { taken = t; passed = p; stop = x }; state = d } ≡ ranOf c s image budget) × (l ≡ imageRan c s image budget)
 ran-is c s image budget d l t p x e =
-    (ap (λ (o : Outcome). record { state = o .state; taken = o .taken; passed = o .passed; stop = o .stop }) (sym e), ap (λ (o : Outcome). o .image) (sym e))
+    (ap (λ (o : Outcome). record { passage = record { taken = o .taken; passed = o .passed; stop = o .stop }; state = o .state }) (sym e), ap (λ (o : Outcome). o .image) (sym e))
 
 -- the loop's turn, from what code has in hand
 pub turned : (stretch image : List ℕ) (d : Carousel) (t p budget n : ℕ) (g : Given) (l part : List ℕ) → part ≡ take n (drop p stretch) → g ≡ givenOf d part image → l ≡ imageGiven d part image

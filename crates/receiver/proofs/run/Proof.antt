@@ -29,7 +29,7 @@ ruled : (c : tie.Else1 Inv-loop μ-loop) → ruledOf (c .before .before .before 
 ruled c = sym (c .before .is-ruled .ensures) ∙ not-false _ (c .if1 .left)
 
 abbrev ending : Carousel → ℕ → ℕ → Stop → Ran
-ending c t p x = record { state = c; taken = t; passed = p; stop = x }
+ending c t p x = record { passage = record { taken = t; passed = p; stop = x }; state = c }
 
 -- the place: what is left of the stretch
 rest : (c : tie.At-loop Inv-loop μ-loop) → let s = c .before .before .before .before .before .args .stretch .now in take (length s - c .loop .passed) (drop (c .loop .passed) s) ≡ drop (c .loop .passed) s
@@ -50,10 +50,14 @@ fits c =
 is-ruled-requires : tie.Need-is-ruled-requires Inv-loop μ-loop
 is-ruled-requires c κs = search needs
 
+ended-requires : tie.Need-ended-requires Inv-loop μ-loop
+ended-requires c κs = search needs
+
 returns : tie.Need-returns Inv-loop μ-loop
 returns c =
-    let s = c .before .before .before .before .args in
-    ran-is (s .c) (s .stretch .now) (s .image .now) (s .budget) _ _ _ _ _ (run-state (s .c) (s .stretch .now) (s .image .now) (s .budget) (sym (c .before .is-ruled .ensures) ∙ not-true _ (c .if1 .taken)))
+    let s = c .before .before .before .before .before .args in
+    let p = ran-is (s .c) (s .stretch .now) (s .image .now) (s .budget) _ _ _ _ _ (run-state (s .c) (s .stretch .now) (s .image .now) (s .budget) (sym (c .before .before .is-ruled .ensures) ∙ not-true _ (c .before .if1 .taken))) in
+    (c .ended .ensures ∙ p .0, p .1)
 
 loop-holds : tie.Need-loop-holds Inv-loop μ-loop
 loop-holds c =
@@ -76,8 +80,8 @@ whole-at-requires c κs = search needs
 stop-at-requires : tie.Need-stop-at-requires Inv-loop μ-loop
 stop-at-requires c κs = search needs
 
-ended-requires : tie.Need-ended-requires Inv-loop μ-loop
-ended-requires c κs = search needs
+ended-requires-2 : tie.Need-ended-requires-2 Inv-loop μ-loop
+ended-requires-2 c κs = search needs
 
 same-length : tie.Need-same-length Inv-loop μ-loop
 same-length c = search needs
@@ -89,7 +93,7 @@ returns-2 c =
     let z = sym (whole (c .before .before .before)) ∙ c .before .before .if2 .taken in
     let e = run-ruled (s .c) (s .stretch .now) (s .image .now) (s .budget) (ruled (c .before .before .before .before .before .before .before)) ∙ sym (l .inv .3) ∙ ap (ahead (l .taken) (l .passed)) (runs-stop _ _ _ _ z) ∙ ahead-halted (l .taken) (l .passed) _ _ _ in
     let p = ran-is (s .c) (s .stretch .now) (s .image .now) (s .budget) _ _ _ _ _ e in
-    (c .ended .ensures ∙ ap (ending (l .d) (l .taken) (l .passed)) (c .before .stop-at .ensures ∙ ap stopAt (rest (c .before .before .before .before .before .before))) ∙ p .0, p .1)
+    (c .ended2 .ensures ∙ ap (ending (l .d) (l .taken) (l .passed)) (c .before .stop-at .ensures ∙ ap stopAt (rest (c .before .before .before .before .before .before))) ∙ p .0, p .1)
 
 slice-aggregate-give : tie.Need-slice-aggregate-give Inv-loop μ-loop
 slice-aggregate-give c = sym (length-take-le _ _ (c .before .before .whole-at .ensures .1))
@@ -129,8 +133,8 @@ part-stop-at-end c = search needs
 stop-at-requires-2 : tie.Need-stop-at-requires-2 Inv-loop μ-loop
 stop-at-requires-2 c κs = search needs
 
-ended-requires-2 : tie.Need-ended-requires-2 Inv-loop μ-loop
-ended-requires-2 c κs = search needs
+ended-requires-3 : tie.Need-ended-requires-3 Inv-loop μ-loop
+ended-requires-3 c κs = search needs
 
 same-length-2 : tie.Need-same-length-2 Inv-loop μ-loop
 same-length-2 c = search needs
@@ -141,7 +145,7 @@ returns-3 c =
     let l = c .before .before .before .before .loop in
     let e = run-ruled (s .c) (s .stretch .now) (s .image .now) (s .budget) (ruled (c .before .before .before .before .before)) ∙ sym (l .inv .3) ∙ ap (ahead (l .taken) (l .passed)) (runs-done (s .budget - l .taken) _ _ _ (omega arith)) ∙ ahead-halted (l .taken) (l .passed) _ _ _ in
     let p = ran-is (s .c) (s .stretch .now) (s .image .now) (s .budget) _ _ _ _ _ e in
-    (c .ended2 .ensures ∙ ap (ending (l .d) (l .taken) (l .passed)) (c .before .stop-at2 .ensures ∙ ap stopAt (rest (c .before .before .before .before))) ∙ p .0, p .1)
+    (c .ended3 .ensures ∙ ap (ending (l .d) (l .taken) (l .passed)) (c .before .stop-at2 .ensures ∙ ap stopAt (rest (c .before .before .before .before))) ∙ p .0, p .1)
 
 pub run-spec : {M : Type 1} → statement M
 run-spec =
@@ -150,6 +154,7 @@ run-spec =
     Inv-loop
     μ-loop
     is-ruled-requires
+    ended-requires
     returns
     loop-holds
     sub-rest
@@ -157,7 +162,7 @@ run-spec =
     part-rest-end
     whole-at-requires
     stop-at-requires
-    ended-requires
+    ended-requires-2
     same-length
     returns-2
     slice-aggregate-give
@@ -170,6 +175,6 @@ run-spec =
     part-stop-at-start
     part-stop-at-end
     stop-at-requires-2
-    ended-requires-2
+    ended-requires-3
     same-length-2
     returns-3)

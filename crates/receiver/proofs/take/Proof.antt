@@ -9,6 +9,7 @@ use Rattle.carousel.specs.Record.{ruledOf}
 use Rattle.receiver.specs.Run.{stoppedBy, imageGiven}
 use Rattle.receiver.specs.declared.Stop.{Stop}
 use Rattle.receiver.proofs.Laws.Runs.{took-state, took-stop, took-budget, took-one, taken-is}
+use Rattle.receiver.proofs.Laws.Takes.{took-said}
 use borrow.Author.Needs.{needs}
 use Rattle.receiver.proofs.take.Statement.{statement}
 use Rattle.receiver.proofs.take.Tie as tie
@@ -26,7 +27,7 @@ returns : tie.Need-returns
 returns c =
     let s = c .before .before .before .before .before .args in
     let p = took-state (s .c) (s .stretch .now) (s .image .now) (s .budget) (sym (c .before .before .is-ruled .ensures) ∙ not-true _ (c .before .if1 .taken)) in
-    (c .stopped .ensures ∙ sym (p .0), sym (p .1))
+    took-said (s .c) (s .stretch .now) (s .image .now) (s .budget) _ _ (c .stopped .ensures ∙ sym (p .0), sym (p .1))
 
 whole-at-requires : tie.Need-whole-at-requires
 whole-at-requires c κs = search needs
@@ -41,7 +42,7 @@ returns-2 : tie.Need-returns-2
 returns-2 c =
     let s = c .before .before .before .before .before .before .before .before .args in
     let p = took-stop (s .c) (s .stretch .now) (s .image .now) (s .budget) (ruled (c .before .before .before .before)) (sym (c .before .before .before .whole-at .ensures .0) ∙ c .before .before .if2 .taken) in
-    (c .stopped2 .ensures ∙ ap (λ (x : Stop). stoppedBy (s .c) x) (c .before .stop-at .ensures) ∙ sym (p .0), sym (p .1))
+    took-said (s .c) (s .stretch .now) (s .image .now) (s .budget) _ _ (c .stopped2 .ensures ∙ ap (λ (x : Stop). stoppedBy (s .c) x) (c .before .stop-at .ensures) ∙ sym (p .0), sym (p .1))
 
 stop-at-requires-2 : tie.Need-stop-at-requires-2
 stop-at-requires-2 c κs = search needs
@@ -53,7 +54,7 @@ returns-3 : tie.Need-returns-3
 returns-3 c =
     let s = c .before .before .before .before .before .before .before .before .before .args in
     let p = took-budget (s .c) (s .stretch .now) (s .image .now) (s .budget) (ruled (c .before .before .before .before .before)) (λ z. c .before .before .before .if2 .left (c .before .before .before .before .whole-at .ensures .0 ∙ z)) (c .before .before .if3 .taken) in
-    (c .stopped3 .ensures ∙ ap (λ (x : Stop). stoppedBy (s .c) x) (c .before .stop-at2 .ensures) ∙ sym (p .0), sym (p .1))
+    took-said (s .c) (s .stretch .now) (s .image .now) (s .budget) _ _ (c .stopped3 .ensures ∙ ap (λ (x : Stop). stoppedBy (s .c) x) (c .before .stop-at2 .ensures) ∙ sym (p .0), sym (p .1))
 
 slice-aggregate-give : tie.Need-slice-aggregate-give
 slice-aggregate-give c = sym (length-take-le _ _ (c .before .before .before .whole-at .ensures .1))
@@ -70,7 +71,7 @@ returns-4 c =
     let e = c .before .before .before .before .before .before .before .before .whole-at .ensures .0 in
     let g = c .before .before .before .give .ensures in
     let p = took-one (s .c) (s .stretch .now) (s .image .now) (s .budget) (ruled (c .before .before .before .before .before .before .before .before .before)) (λ z. c .before .before .before .before .before .before .before .if2 .left (e ∙ z)) (c .before .before .before .before .before .before .if3 .left) in
-    (taken-is (s .c) (s .stretch .now) (s .image .now) _ _ _ _ e (g .0) (p .0), g .1 ∙ ap (λ n. imageGiven (s .c) (take n (s .stretch .now)) (s .image .now)) e ∙ sym (p .1))
+    took-said (s .c) (s .stretch .now) (s .image .now) (s .budget) _ _ (taken-is (s .c) (s .stretch .now) (s .image .now) _ _ _ _ e (g .0) (p .0), g .1 ∙ ap (λ n. imageGiven (s .c) (take n (s .stretch .now)) (s .image .now)) e ∙ sym (p .1))
 
 pub take-spec : {M : Type 1} → statement M
 take-spec =
