@@ -1,0 +1,84 @@
+-- THE TEXT IS NEVER CUT: of a stretch of at most 65,536 bytes it has at most 786,464, and a writer who lends so many gets it whole.
+-- Assumes nothing.
+use Prim.Native.Nat.{ℕ, suc, _+_, _*_, _≤_, _<_}
+use mathlib.Core.Path.{_≡_, ap₂, _∙_}
+use mathlib.Core.List.{List, [], _∷_, _++_}
+use native.Mathlib.Omega.{arith}
+use lib.ListN.{length, take, length-append}
+use lib.Seq.{sets}
+use Rattle.text.specs.Text.{codes, reached, decimal}
+use Rattle.text.proofs.Meaning.{decimal-short, decimal-most, whole}
+use Rattle.carousel.specs.Changes.{emptyRecord}
+use Rattle.receiver.specs.declared.Stop.{Stop}
+use Rattle.receiver.specs.declared.Stop.the-variants as stop
+use Rattle.receiver.specs.declared.Fate.{Fate}
+use Rattle.receiver.specs.declared.Fate.the-variants as fate
+use Rattle.receiver.specs.Run.{numberOf, runOf, fatesOf}
+use Rattle.receiver.proofs.Runs.{fates-counted, taken-most, taken-third}
+use Rattle.report.specs.Report.{kindOf, stopName, header, lineOf, linesFrom, lastLine, budget, printed}
+
+-- the longest names are "repeated" and "stuffing"
+kind-most : (f : Fate) → length (kindOf f) ≤ 8
+unfolding kindOf
+kind-most fate.Table = omega arith
+kind-most fate.New = omega arith
+kind-most fate.Same = omega arith
+kind-most fate.Stored = omega arith
+kind-most fate.Repeated = omega arith
+kind-most (fate.Refused r) = omega arith
+
+stop-most : (x : Stop) → length (lastLine x) ≤ 14
+unfolding stopName
+stop-most stop.End = omega arith
+stop-most stop.Stuffing = omega arith
+stop-most stop.Short = omega arith
+stop-most stop.Budget = omega arith
+stop-most stop.State = omega arith
+
+-- a line: at most 5 digits, a comma, 20 digits, a comma, a name, a line feed
+line-most : (i : ℕ) (f : Fate) → i < budget → length (lineOf i f) ≤ 36
+line-most i f h =
+    let a = decimal i in
+    let b = decimal (numberOf f) in
+    let k = kindOf f in
+    let d = decimal-short 4 i (omega arith) in
+    let e = decimal-most (numberOf f) in
+    let m = kind-most f in
+    let p = length-append (a ++ codes "," ++ b ++ codes "," ++ k) (codes "\n") in
+    let q = length-append (a ++ codes "," ++ b ++ codes ",") k in
+    let r = length-append (a ++ codes "," ++ b) (codes ",") in
+    let s = length-append (a ++ codes ",") b in
+    let t = length-append a (codes ",") in
+    omega arith
+
+lines-most : (i : ℕ) (fs : List Fate) → i + length fs ≤ budget → length (linesFrom i fs) ≤ 36 * length fs
+unfolding linesFrom
+lines-most i [] h = omega arith
+lines-most i (f ∷ fs) h =
+    let l = line-most i f (omega arith) in
+    let m = lines-most (suc i) fs (omega arith) in
+    let p = length-append (lineOf i f) (linesFrom (suc i) fs) in
+    omega arith
+
+-- 12 bytes for each of the stretch, and 32 for the first and the last line
+pub text-most : (s image : List ℕ) → length (printed s image) ≤ 12 * length s + 32
+unfolding printed
+text-most s image =
+    let fs = fatesOf budget emptyRecord s image in
+    let last = lastLine (runOf emptyRecord s image budget .stop) in
+    let n = fates-counted budget emptyRecord s image in
+    let m = taken-most budget emptyRecord s image in
+    let t = taken-third budget emptyRecord s image in
+    let l = lines-most 0 fs (omega arith) in
+    let x = stop-most (runOf emptyRecord s image budget .stop) in
+    let p = length-append (header ++ linesFrom 0 fs) last in
+    let q = length-append header (linesFrom 0 fs) in
+    omega arith
+
+-- what `write_report` answers and leaves, by its contract, in a buffer of the program's size
+pub never-cut : (s image out after : List ℕ) (r : ℕ) → length s ≤ 65536 → length out ≡ 786464 → after ≡ sets out 0 (printed s image) → r ≡ reached 0 (length (printed s image)) (length out)
+    → (r ≡ length (printed s image)) × (take r after ≡ printed s image)
+never-cut s image out after r h b e f =
+    let t = text-most s image in
+    let w = whole out (printed s image) (omega arith) in
+    (f ∙ w .0, ap₂ take (f ∙ w .0) e ∙ w .1)

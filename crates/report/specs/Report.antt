@@ -1,0 +1,51 @@
+-- THE PROGRAM'S TEXT. 01, "The run": "It prints the header below, one line for each section taken, index from 0, then the stop."
+-- Assumes nothing.
+use Prim.Native.Nat.{ℕ, suc}
+use mathlib.Core.List.{List, [], _∷_, _++_}
+use Rattle.text.specs.Text.{codes, decimal}
+use Rattle.carousel.specs.Changes.{emptyRecord}
+use Rattle.receiver.specs.declared.Stop.{Stop}
+use Rattle.receiver.specs.declared.Stop.the-variants as stop
+use Rattle.receiver.specs.declared.Fate.{Fate}
+use Rattle.receiver.specs.declared.Fate.the-variants as fate
+use Rattle.receiver.specs.Run.{numberOf, fatesOf, runOf}
+
+-- the kind's name: "kind "table" when accepted", "new", "same", "stored", "repeated"; "A refused section's kind is "none"."
+unfoldable pub kindOf : Fate → List ℕ
+kindOf fate.Table = codes "table"
+kindOf fate.New = codes "new"
+kindOf fate.Same = codes "same"
+kindOf fate.Stored = codes "stored"
+kindOf fate.Repeated = codes "repeated"
+kindOf (fate.Refused r) = codes "none"
+
+-- the stop's name
+unfoldable pub stopName : Stop → List ℕ
+stopName stop.End = codes "end"
+stopName stop.Stuffing = codes "stuffing"
+stopName stop.Short = codes "short"
+stopName stop.Budget = codes "budget"
+stopName stop.State = codes "state"
+
+-- "the header below"
+abbrev pub header : List ℕ
+header = codes "index,answer,kind\n"
+
+-- "one line for each section taken, index from 0"
+abbrev pub lineOf : (index : ℕ) → Fate → List ℕ
+lineOf index f = decimal index ++ codes "," ++ decimal (numberOf f) ++ codes "," ++ kindOf f ++ codes "\n"
+
+unfoldable pub linesFrom : (index : ℕ) → List Fate → List ℕ
+linesFrom index [] = []
+linesFrom index (f ∷ fs) = lineOf index f ++ linesFrom (suc index) fs
+
+-- "then the stop"
+abbrev pub lastLine : Stop → List ℕ
+lastLine x = codes "stop," ++ stopName x ++ codes "\n"
+
+-- "(empty record, .., budget 65,536)"
+abbrev pub budget : ℕ
+budget = 65536
+
+unfoldable pub printed : (stretch image : List ℕ) → List ℕ
+printed s image = header ++ linesFrom 0 (fatesOf budget emptyRecord s image) ++ lastLine (runOf emptyRecord s image budget .stop)

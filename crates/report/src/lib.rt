@@ -1,0 +1,105 @@
+// What the paper's program prints of a stretch: the header, a line for each section taken, and the
+// stop. The text is defined in specs/Report.antt.
+use receiver::Fate;
+use receiver::Stop;
+use receiver::What;
+ghost use mathlib.Core.Path.{_≡_};
+ghost use lib.ListN.{length};
+ghost use lib.Seq.{sets};
+ghost use Rattle.text.specs.Text.{reached};
+ghost use Rattle.carousel.specs.Changes.{emptyRecord};
+ghost use Rattle.receiver.specs.Run.{numberOf, imageRan};
+ghost use Rattle.report.specs.Report.{budget, printed, lineOf, lastLine, kindOf, stopName};
+
+// The sections that the program takes at most.
+const BUDGET: usize = 65_536;
+
+// Bytes enough for the text of any stretch of 65,536: proofs/Whole.antt.
+pub const ROOM: usize = 786_464;
+
+// Runs an empty record over a stretch and puts the text at the start of `out`; answers its length.
+// Where `out` is shorter, the rest of the text is left out.
+pub fn write_report(stretch: &[u8], image: &mut [u8], out: &mut [u8]) -> usize
+    ensures { λ r. ⌜ (now (out .exit) ≡ sets (now (out .entry)) 0 (printed (now (stretch .entry)) (now (image .entry))))
+        × (r ≡ reached 0 (length (printed (now (stretch .entry)) (now (image .entry)))) (length (now (out .entry))))
+        × (now (image .exit) ≡ imageRan emptyRecord (now (stretch .entry)) (now (image .entry)) budget) ⌝ }
+{
+    let mut c = carousel::empty();
+    let mut at = text::put(out, 0, b"index,answer,kind\n");
+    let mut index: usize = 0;
+    let mut passed: usize = 0;
+    loop {
+        let took = receiver::take(c, &stretch[passed..], image, BUDGET - index);
+        let what = took.what;
+        match what {
+            What::Stopped(stop) => {
+                return put_stop(out, at, stop);
+            }
+            What::Taken(section) => {
+                let n = section.length;
+                let fate = section.fate;
+                at = put_line(out, at, index, fate);
+                passed += n;
+            }
+        }
+        c = took.state;
+        index += 1;
+    }
+}
+
+fn put_line(out: &mut [u8], at: usize, index: usize, fate: Fate) -> usize
+    ensures { λ r. ⌜ (now (out .exit) ≡ sets (now (out .entry)) at (lineOf index fate)) × (r ≡ reached at (length (lineOf index fate)) (length (now (out .entry)))) ⌝ }
+{
+    let mut end = text::put_decimal(out, at, index as u64);
+    end = text::put(out, end, b",");
+    end = text::put_decimal(out, end, number(fate) as u64);
+    end = text::put(out, end, b",");
+    end = put_kind(out, end, fate);
+    text::put(out, end, b"\n")
+}
+
+fn put_stop(out: &mut [u8], at: usize, stop: Stop) -> usize
+    ensures { λ r. ⌜ (now (out .exit) ≡ sets (now (out .entry)) at (lastLine stop)) × (r ≡ reached at (length (lastLine stop)) (length (now (out .entry)))) ⌝ }
+{
+    let mut end = text::put(out, at, b"stop,");
+    end = put_name(out, end, stop);
+    text::put(out, end, b"\n")
+}
+
+fn number(fate: Fate) -> u8
+    ensures { λ r. ⌜ r ≡ numberOf fate ⌝ }
+{
+    match fate {
+        Fate::Table => 0,
+        Fate::New => 0,
+        Fate::Same => 0,
+        Fate::Stored => 0,
+        Fate::Repeated => 0,
+        Fate::Refused(r) => r.number,
+    }
+}
+
+fn put_kind(out: &mut [u8], at: usize, fate: Fate) -> usize
+    ensures { λ r. ⌜ (now (out .exit) ≡ sets (now (out .entry)) at (kindOf fate)) × (r ≡ reached at (length (kindOf fate)) (length (now (out .entry)))) ⌝ }
+{
+    match fate {
+        Fate::Table => text::put(out, at, b"table"),
+        Fate::New => text::put(out, at, b"new"),
+        Fate::Same => text::put(out, at, b"same"),
+        Fate::Stored => text::put(out, at, b"stored"),
+        Fate::Repeated => text::put(out, at, b"repeated"),
+        Fate::Refused(_) => text::put(out, at, b"none"),
+    }
+}
+
+fn put_name(out: &mut [u8], at: usize, stop: Stop) -> usize
+    ensures { λ r. ⌜ (now (out .exit) ≡ sets (now (out .entry)) at (stopName stop)) × (r ≡ reached at (length (stopName stop)) (length (now (out .entry)))) ⌝ }
+{
+    match stop {
+        Stop::End => text::put(out, at, b"end"),
+        Stop::Stuffing => text::put(out, at, b"stuffing"),
+        Stop::Short => text::put(out, at, b"short"),
+        Stop::Budget => text::put(out, at, b"budget"),
+        Stop::State => text::put(out, at, b"state"),
+    }
+}
