@@ -279,4 +279,5 @@ def main():
     print("applications_test: %d sections (%d accepted), %d bytes, %d answers: stdin and stdout are the second program's" % (len(every), seen.count(0), len(given), wanted.count("\n")))
 
 
-main()
+if __name__ == "__main__":
+    main()

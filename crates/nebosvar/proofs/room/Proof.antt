@@ -1,0 +1,17 @@
+-- `room` meets its contract.
+-- Assumes nothing.
+use Prim.Native.Nat.{ℕ}
+use mathlib.Core.Path.{_≡_, sym}
+use lib.ListN.{length, replicate, length-replicate}
+use Rattle.nebosvar.proofs.room.Statement.{statement}
+use Rattle.nebosvar.proofs.room.Tie as tie
+
+-- for any number: at this one the prover would count
+filled : (n a : ℕ) → n ≡ length (replicate n a)
+filled n a = sym (length-replicate n a)
+
+returns : tie.Need-returns
+returns c = filled 786464 0
+
+pub room-spec : {M : Type 1} → statement M
+room-spec = tie.close (tie.spec returns)

@@ -1,0 +1,615 @@
+#!/usr/bin/env python3
+"""The paper's program in plain Python, and its tests.
+
+Written from the paper (01, "The run" and the numbered refusals; points R1 to R7), not from the Rattle code: the carousel's rules
+are tests/receiver.py, the application rules tests/applications_test.py. Each input below says what it shows and, where the paper's
+words tell it, what must come out.
+
+    program.py                 check the inputs, and compare crates/nebosvar/stdin and stdout with the paper's printed example
+    program.py sample          the same, but first write the two where they are not there
+    program.py run CMD ARG...  run CMD on every input and compare what it prints, byte for byte; then its ends closed, broken, slow
+    program.py built           the same of target/bin/nebosvar, which 'rt check nebosvar' builds
+"""
+import fcntl
+import os
+import platform
+import random
+import shutil
+import signal
+import subprocess
+import sys
+import tempfile
+import termios
+import time
+from pathlib import Path
+from typing import NamedTuple
+
+import applications_test
+import receiver
+from applications_test import ait, app, d00, desc
+from receiver import IMAGE, Record, ddb, dii
+from second import ROOT, with_crc
+
+READ, BUDGET = 65_536, 65_536
+
+
+# ---- the program
+
+
+def whole(stretch, at):
+    """3 + L, the bytes of the section that begins there."""
+    return 3 + stretch[at + 1] % 16 * 256 + stretch[at + 2]
+
+
+def stop_at(stretch, at, budget):
+    """Why the run stops there; None where it takes a section."""
+    left = len(stretch) - at
+    if left == 0:
+        return "end"
+    if stretch[at] == 0xFF:
+        return "stuffing"
+    if left < 3 or left < whole(stretch, at):
+        return "short"
+    return "budget" if budget == 0 else None
+
+
+def taken(record, image, s):
+    """One section's number, its kind, and the record after it. The image changes in place."""
+    if s[0] != 0x74:
+        return receiver.step(record, image, s)
+    number = applications_test.judged(s)[0]
+    return number, "none" if number else "table", record
+
+
+def run(stretch, budget, record, image):
+    """The number and kind of each section, the stop, and the record after it. The image changes in place."""
+    answers, at = [], 0
+    while not (stop := stop_at(stretch, at, budget - len(answers))):
+        end = at + whole(stretch, at)
+        number, kind, record = taken(record, image, stretch[at:end])
+        answers.append((number, kind))
+        at = end
+    return answers, stop, record
+
+
+def program(stdin):
+    answers, stop, _ = run(stdin[:READ], BUDGET, Record(), bytearray(IMAGE))
+    lines = ["index,answer,kind"] + ["%d,%d,%s" % (i, *a) for i, a in enumerate(answers)] + ["stop,%s" % stop]
+    return "".join(l + "\n" for l in lines).encode()
+
+
+# ---- an input, and the paper's example
+
+
+class Input(NamedTuple):
+    name: str
+    shows: str
+    stdin: bytes
+    wanted: str | None = None  # where the paper's words tell it: each section's kind, or its number if refused; then the stop
+
+
+# A module of 1,000 bytes in blocks of 400 is announced; then block 0, block 0 again, block 0 of another version.
+FIRST = b"drift 0 " * 50
+EXAMPLE = Input(
+    "the paper's example",
+    "The four sections that the paper prints whole.",
+    dii(5, 400, [(1, 1000, 0)]) + ddb(5, 1, 0, 0, FIRST) * 2 + ddb(5, 1, 1, 0, FIRST),
+    "new stored repeated 14 end",
+)
+PRINTED = b"""\
+index,answer,kind
+0,0,new
+1,0,stored
+2,0,repeated
+3,14,none
+stop,end
+"""
+
+
+# ---- the carousel of most inputs. A module: number, size, version
+
+ID, SIZE = 0x0A0B_0C0D, 10
+TIDES, DRIFT = (7, 25, 3), (9, 20, 255)  # three blocks, and two that divide evenly
+
+
+def announcement(modules=(TIDES, DRIFT), **given):
+    return dii(**{"download": ID, "block_size": SIZE, "modules": modules, **given})
+
+
+def contents(module):
+    number, size, _ = module
+    return bytes((16 * number + k) % 256 for k in range(size))
+
+
+def block(module, b, /, **given):
+    """Block b as announced, unless told otherwise."""
+    number, _, version = module
+    right = {"download": ID, "module": number, "version": version, "block": b, "data": contents(module)[SIZE * b : SIZE * b + SIZE]}
+    return ddb(**{**right, **given})
+
+
+def spoiled(s):
+    return s[:-1] + bytes([s[-1] ^ 1])
+
+
+def sized(table, length):
+    """A section of that L: head and CRC are right where there is room, the body is zeros."""
+    s = bytes([table, 0xB0 | length >> 8, length & 255, 0, 0, 0xC1, 0, 0]) + bytes(length)
+    return with_crc(s[: length - 1]) if length >= 9 else s[: 3 + length]
+
+
+# ---- the inputs
+
+
+def beginnings():
+    yield EXAMPLE
+    yield Input("nothing", "No byte at all: the header and the stop are printed nevertheless.", b"", "end")
+    yield Input("stuffing at once", "0xFF is stuffing, whatever follows it.", b"\xff" + announcement(), "stuffing")
+    yield Input("one byte of stuffing", "Stuffing is looked for before short (R1).", b"\xff", "stuffing")
+    yield Input("a block first", "The record is empty at the start.", block(TIDES, 0) + announcement() + block(TIDES, 0), "12 new stored end")
+    yield Input("downloadId 0 first", "The empty record matches no downloadId, 0 neither.", block(TIDES, 0, download=0), "12 end")
+
+
+def endings():
+    good = announcement() + block(TIDES, 0)
+    more = block(TIDES, 1)
+    yield Input("stuffing after sections", "What follows the stuffing is not read.", good + b"\xff" * 9 + more, "new stored stuffing")
+    yield Input("0xFF within a section", "Stuffing is a section's first byte, no other.", good + block(DRIFT, 0, data=b"\xff" * 10), "new stored stored end")
+    for n in (1, 2, 3, 11, len(more) - 1):
+        yield Input("a tail of %d bytes" % n, "Of a section of %d bytes only these are there: short." % len(more), good + more[:n], "new stored short")
+    yield Input("two bytes alone", "Fewer than 3 bytes, and no section before them.", more[:2], "short")
+    yield Input("three bytes that are whole", "L = 0 makes a section of 3 bytes: taken, and refused (R2).", good + b"\x3c\xb0\0", "new stored 4 end")
+    yield Input("a tail that says 4,095", "The largest L, with one byte too few.", good + sized(0x3C, 4095)[:-1], "new stored short")
+    yield Input("a short tail of a table", "Short knows no tables.", good + ait()[:-1], "new stored short")
+
+
+def full(first=4096):
+    """An announcement of so many bytes and 15 blocks of 4,096: with 4,096 it is 65,536 bytes in all."""
+    modules = [(1, 15 * 4066, 0)]
+    pad = first - len(dii(5, 4066, modules))
+    blocks = [ddb(5, 1, 0, b, bytes([b]) * 4066) for b in range(15)]
+    return dii(5, 4066, modules, private=bytes(pad)) + b"".join(blocks)
+
+
+def cuts():
+    again = ddb(5, 1, 0, 0, bytes(4066))
+    every, but_last = "new " + "stored " * 15, "3 new " + "stored " * 14
+    other = sized(0x00, 0)
+    assert [len(full()), len(other)] == [READ, 3]
+    yield Input("65,536 bytes", "The last byte that counts ends the last section.", full(), every + "end")
+    yield Input("65,535 bytes", "One byte less than would be read.", full(4095), every + "end")
+    yield Input("a section beyond", "It begins at byte 65,536 and would be accepted: it is not read.", full() + again, every + "end")
+    yield Input("stuffing beyond", "Byte 65,536 is not looked at.", full() + b"\xff", every + "end")
+    yield Input("stuffing as the last byte", "Byte 65,535 is.", full(4095) + b"\xff" + again, every + "stuffing")
+    yield Input("cut in the last section", "Its last 3 bytes lie beyond.", other + full() + again, but_last + "short")
+    yield Input("cut before the last byte", "Its last byte lies beyond.", other + full(4094), but_last + "short")
+    for n in (1, 2, 3):
+        yield Input("cut after %d bytes of a head" % n, "The rest of the section is there, but beyond.", full(4096 - n) + again, every + "short")
+    yield Input("much beyond", "Twice as many bytes as are read.", full() * 2, every + "end")
+
+
+def tables():
+    good = app(d00())
+    refused = [
+        (4, "section number above last", ait(number=1)),
+        (4, "L = 1,022", ait(apps=good * 71 + app(d00(labels=b"\0")))),
+        (5, "CRC", spoiled(ait())),
+        (6, "not current", ait(byte5=0xC0)),
+        (7, "a descriptor cut off", ait(b"\x15")),
+        (7, "malformed contents", ait(desc(5, b"x"))),
+        (18, "an application without 0x00", ait(apps=app(b""))),
+    ]
+    accepted = [("empty", ait()), ("L = 1,021", ait(apps=good * 72)), ("common descriptors", ait(desc(0x15, b"/drift"), good))]
+    around = [announcement(), block(TIDES, 0), block(TIDES, 0)]
+    for number, why, table in refused:
+        wanted = "new %d stored %d repeated end" % (number, number)
+        yield Input("a table refused: %s" % why, "The carousel around it goes on (R7).", table.join(around), wanted)
+    for what, table in accepted:
+        yield Input("a table taken: %s" % what, "The carousel around it goes on.", table.join(around), "new table stored table repeated end")
+    yield Input("tables alone", "They need no announcement, and an equal one is no repetition.", ait() * 3, "table table table end")
+    yield Input("an announcement as table 0x74", "0x74 goes by the application rules.", announcement(table=0x74), "7 end")
+    others = [with_crc(bytes([number]) + ait()[1:-4]) for number in (0x3B, 0x3C, 0x75)]
+    yield Input("a table as 0x3B, 0x3C and 0x75", "Every other goes by the carousel's.", b"".join(others), "7 7 3 end")
+
+
+ODD_ORDER = announcement() + b"".join(block(m, b) for m, b in ((TIDES, 2), (DRIFT, 1), (TIDES, 0), (DRIFT, 0), (TIDES, 1)))
+
+
+def block_by_block():
+    all_stored = "new stored stored stored stored stored "
+    yield Input("two modules, interleaved", "Their blocks come in odd order; both are complete at the end.", ODD_ORDER, all_stored + "end")
+    late = block(DRIFT, 1, data=bytes(10)) + block(DRIFT, 1)
+    yield Input("a late bad copy", "It is refused, and the good one is still there.", ODD_ORDER + late, all_stored + "17 repeated end")
+    again = announcement() + block(TIDES, 0)
+    yield Input("the same announcement again", "What was stored stays stored.", ODD_ORDER + again, all_stored + "same repeated end")
+    two = block(DRIFT, 0) * 2 + block(DRIFT, 1)
+    yield Input("two copies of block 0", "They do not make two blocks: 1 is still to be stored.", announcement() + two, "new stored repeated stored end")
+    two = block(TIDES, 0, adaptation=b"abc") + block(TIDES, 0)
+    yield Input("adaptation bytes", "They are no data.", announcement() + two, "new stored repeated end")
+
+
+def announcements():
+    one, zero = announcement(), block(TIDES, 0)
+    other, others_zero = announcement(download=6), block(TIDES, 0, download=6)
+    yield Input(
+        "another download in the middle",
+        "The old blocks are refused, and each announcement begins afresh.",
+        one + zero + other + zero + others_zero + other + others_zero + one + zero,
+        "new stored new 12 stored same repeated new stored end",
+    )
+    newer = (7, 25, 4)
+    yield Input(
+        "another version in the middle",
+        "The same download without one module, the other newer.",
+        one + zero + announcement([newer]) + zero + block(DRIFT, 0) + block(newer, 0) + block(newer, 0),
+        "new stored new 14 13 stored repeated end",
+    )
+    yield Input(
+        "refused announcements in the middle",
+        "They change nothing.",
+        one + zero + announcement(block_size=0) + zero + announcement([TIDES, TIDES]) + zero + spoiled(other) + zero,
+        "new stored 10 repeated 11 repeated 5 repeated end",
+    )
+
+
+def soundings():
+    sizes = lambda block_size, *sizes: dii(5, block_size, [(k, z, 0) for k, z in enumerate(sizes)])
+    data = lambda b, n, **given: ddb(5, 0, 0, b, bytes(n), **given)
+    blocks = data(2, 200) + data(1, 400) + data(0, 400)
+    yield Input("size 1,000 in blocks of 400", "400, 400 and 200 bytes.", sizes(400, 1000) + blocks, "new stored stored stored end")
+    far = data(300, 1, number=44)
+    yield Input("block 300 of three", "With section number 44 it passes check 9.", sizes(400, 1000) + far, "new 16 end")
+    yield Input("size 800 in blocks of 400", "No last block of 0 bytes.", sizes(400, 800) + data(2, 0) + data(2, 400), "new 16 16 end")
+    blocks = data(16, 479) + data(16, 481) + data(16, 480) + data(17, 480)
+    yield Input("size 65,536 in blocks of 4,066", "The last of 17 has 480 bytes.", sizes(4066, 65_536) + blocks, "new 16 16 stored 16 end")
+    yield Input("blocks of 1", "256 are taken, 257 not.", sizes(1, 256) + sizes(1, 257), "new 10 end")
+    yield Input("the sizes together", "65,536 fill the image, one more is refused.", sizes(400, 65_535, 1) + sizes(400, 65_536, 1), "new 10 end")
+
+
+# Not among them: 1, since the run begins with the empty record and every step keeps the rule; 2, since only whole sections are
+# taken (R2); 15, since limit 10 holds the sizes to 65,536 together, as many as the image has; 19 and 20, which no section gets.
+FAULTS = {
+    3: announcement(table=0x3D),
+    4: announcement(number=2, last=1),
+    5: spoiled(announcement()),
+    6: announcement(byte5=0xC0),
+    7: announcement(tail=b"\0"),
+    8: announcement(second=4),
+    9: block(TIDES, 0, extension=8),
+    10: announcement(block_size=0),
+    11: announcement([TIDES, TIDES]),
+    12: block(TIDES, 0, download=1),
+    13: block(TIDES, 0, module=8),
+    14: block(TIDES, 0, version=4),
+    16: block(TIDES, 0, data=b"short"),
+    17: block(TIDES, 0, data=bytes(10)),
+    18: ait(apps=app(b"")),
+}
+REACHED = {0, *FAULTS}
+
+
+def numbers():
+    good = announcement() + block(TIDES, 0)
+    stretch = good + b"".join(s + block(TIDES, 0) for s in FAULTS.values())
+    wanted = "new stored " + "".join("%d repeated " % n for n in FAULTS) + "end"
+    yield Input("every number", "Each that a run can show, and after each block 0 is still there.", stretch, wanted)
+
+
+def lengths():
+    every = (0, 1, 8, 9, 1021, 1022, 4093, 4094, 4095)
+    of = lambda table: b"".join(sized(table, n) for n in every)
+    yield Input("lengths of 0x3B", "3 to 4,098 bytes: L under 9 or over 4,093 gives 4.", of(0x3B), "4 4 4 7 8 8 8 4 4 end")
+    yield Input("lengths of 0x3C", "The same.", of(0x3C), "4 4 4 7 8 8 8 4 4 end")
+    yield Input("lengths of 0x74", "L under 9 or over 1,021 gives 4.", of(0x74), "4 4 4 7 7 4 4 4 4 end")
+    yield Input("lengths of another table", "3 comes before 4.", of(0x00), "3 " * 9 + "end")
+
+
+THREES = Input(
+    "21,845 sections of three bytes",
+    "As many as can be; so the budget, 65,536, is never used up.",
+    sized(0x3C, 0) * 21_845,
+    "4 " * 21_845 + "end",
+)
+
+
+def many():
+    yield THREES
+    yield Input("65,536 zeros", "The same of table 0, and a byte is left.", bytes(65_536), "3 " * 21_845 + "short")
+    modules = [(k, 4096, k) for k in range(16)]
+    threes = (sized(0x3C, 0) + sized(0x74, 0)) * 10_500
+    yield Input("three bytes each, a full record", "It has 16 modules all the while.", dii(1, 16, modules) + threes, "new " + "4 " * 21_000 + "end")
+    modules = [(k, 256, 0) for k in range(8)]
+    blocks = [ddb(1, k, 0, 97 * b % 256, bytes([b])) for b in range(256) for k in range(8)]
+    yield Input("2,048 blocks of one byte", "Eight modules, every block once.", dii(1, 1, modules) + b"".join(blocks), "new " + "stored " * 2048 + "end")
+    every = b"".join(sized(table, 0) for table in range(256))
+    wanted = ["4" if table in (0x3B, 0x3C, 0x74) else "3" for table in range(255)]
+    yield Input("every table number", "All but 0xFF are taken.", every, " ".join(wanted) + " stuffing")
+
+
+# ---- at random; what must come out is only what the program above says
+
+LISTS = [[(3, 20, 0), (4, 13, 1)], [(3, 20, 0), (4, 13, 1)], [(4, 13, 1), (259, 8, 0), (3, 20, 1)]]
+DESCRIPTORS = [desc(*d) for d in ((1, b"eng\x04tide"), (2, b"\0\1\7\0\1"), (2, b"\0\3\7\1a\0"), (5, bytes(7)), (0x15, b"/x"), (0x33, b"raw"))]
+
+
+def random_table(rnd):
+    some = lambda: b"".join(rnd.choice(DESCRIPTORS) for _ in range(rnd.randrange(3)))
+    mostly_one = lambda: rnd.choice([1] * 9 + [0, 2])
+    return ait(some(), b"".join(app(some() + d00(labels=some()[:3]) * mostly_one()) for _ in range(rnd.randrange(3))))
+
+
+def random_block(rnd):
+    number, size, version = rnd.choice(rnd.choice(LISTS))
+    b = rnd.randrange(-(-size // 8) + (rnd.random() < 0.1))
+    data = bytes(number % 256 + b for _ in range(min(8, max(0, size - 8 * b)) + (rnd.random() < 0.05)))
+    return ddb(rnd.choice([1] * 9 + [2]), number, version, b, data if rnd.random() < 0.95 else data[:-1] + b"!")
+
+
+def damaged(rnd, s):
+    """A byte or two changed, but not the length; the CRC is mended, mostly."""
+    s = bytearray(s)
+    for _ in range(rnd.choice([1, 1, 2])):
+        s[rnd.choice([0, 5, 6, 7] + [rnd.randrange(3, len(s) - 4)] * 12)] = rnd.choice([0, 1, 3, 8, 0x3B, 0x3C, 0x74, rnd.randrange(255)])
+    return with_crc(bytes(s[:-4])) if rnd.random() < 0.9 else spoiled(bytes(s))
+
+
+def random_section(rnd):
+    roll = rnd.random()
+    if roll < 0.08:
+        s = dii(rnd.choice([1, 1, 1, 2]), 8, rnd.choice(LISTS * 4 + [LISTS[0] * 2]), info=bytes(rnd.randrange(3)), private=bytes(rnd.randrange(3)))
+    else:
+        s = random_table(rnd) if roll < 0.18 else random_block(rnd)
+    return damaged(rnd, s) if rnd.random() < 0.3 else s
+
+
+def at_random():
+    for seed in range(1, 9):
+        yield Input("bytes at random, %d" % seed, "Whatever is heard, each place has its one answer.", random.Random(seed).randbytes(66_000))
+    for seed in range(11, 15):
+        few = random.Random(seed).choices([0x00, 0x3B, 0x3C, 0x74, 0xB0, 0xC1, 0x11, 0x03], k=66_000)
+        yield Input("bytes of few values at random, %d" % seed, "Heads that look right.", bytes(few))
+    for seed in range(21, 27):
+        rnd = random.Random(seed)
+        stretch = b"".join(random_section(rnd) for _ in range(2000))
+        yield Input("sections at random, %d" % seed, "A byte or two damaged, the CRC mended; more than 1,000 sections are taken.", stretch)
+
+
+TOPICS = (beginnings, endings, cuts, tables, block_by_block, announcements, soundings, numbers, lengths, many, at_random)
+
+
+# ---- what is known of the inputs without the built program
+
+
+def told(output):
+    """An output as an input's `wanted` has it: each section's kind, or its number if refused; then the stop."""
+    *sections, stop = [line.split(",") for line in output.decode().splitlines()[1:]]
+    return [kind if answer == "0" else answer for _, answer, kind in sections] + stop[1:]
+
+
+def check_order_of_stops():
+    """R1, where the program's budget cannot show it."""
+    for stretch, wanted in ((b"", "end"), (b"\xff", "stuffing"), (b"\x3c\xb0", "short"), (b"\x3c\xb0\0", "budget")):
+        assert stop_at(stretch, 0, 0) == wanted
+
+
+def check_both_complete():
+    image = bytearray(IMAGE)
+    _, _, record = run(ODD_ORDER, BUDGET, Record(), image)
+    for module in (TIDES, DRIFT):
+        assert receiver.handout(record, image, module[0]) == (0, contents(module))
+
+
+def check_words(cases):
+    """Each output is what the paper's words tell, and together they show each number, kind and stop that can be."""
+    met = set()
+    for i, output in cases:
+        words = told(output)
+        assert i.wanted is None or words == i.wanted.split(), (i.name, words)
+        assert not i.name.startswith("sections at random") or len(words) > 1001, i.name
+        met.update(words)
+    kinds, stops = {"new", "same", "stored", "repeated", "table"}, {"end", "stuffing", "short"}
+    assert met == kinds | stops | {str(n) for n in REACHED - {0}}, met
+
+
+def checked_cases():
+    """Each input with its output."""
+    assert program(EXAMPLE.stdin) == PRINTED
+    check_order_of_stops()
+    check_both_complete()
+    cases = [(i, program(i.stdin)) for topic in TOPICS for i in topic()]
+    assert len({i.name for i, _ in cases}) == len(cases), "two inputs of one name"
+    check_words(cases)
+    return cases
+
+
+# ---- the built program
+
+LIMIT = 20  # seconds
+
+
+def differs(name, how):
+    sys.exit("program.py: %s: %s" % (name, how))
+
+
+def check_same(name, got, wanted):
+    if got == wanted:
+        return
+    pairs = zip(got.splitlines(True) + [b"(nothing)"], wanted.splitlines(True) + [b"(nothing)"])
+    n, (a, b) = next((n, p) for n, p in enumerate(pairs, 1) if p[0] != p[1])
+    differs(name, "line %d is %r, not %r" % (n, a, b))
+
+
+def check_ended(name, status, stderr, unheard=False):
+    """With status 0 and a quiet standard error. Where no one hears it, any status will do, and SIGPIPE, but no other signal."""
+    if stderr:
+        differs(name, "standard error has %r" % stderr[:200])
+    if status != 0 and not (unheard and (status > 0 or status == -signal.SIGPIPE)):
+        differs(name, "ended with status %d" % status)
+
+
+def run_it(command, name, stdin, stdout=subprocess.PIPE, unheard=False, **how):
+    """What it printed."""
+    try:
+        done = subprocess.run(command, stdin=stdin, stdout=stdout, stderr=subprocess.PIPE, timeout=LIMIT, **how)
+    except subprocess.TimeoutExpired:
+        differs(name, "has not ended after %d s" % LIMIT)
+    check_ended(name, done.returncode, done.stderr, unheard)
+    return done.stdout
+
+
+def file_of(data):
+    f = tempfile.TemporaryFile(buffering=0)
+    f.write(data)
+    f.seek(0)
+    return f
+
+
+def from_file(command, i, **how):
+    """What it printed. The file's place after it tells how much was read: nothing beyond the first 65,536 bytes."""
+    with file_of(i.stdin) as f:
+        out = run_it(command, i.name, f, **how)
+        if f.tell() > READ:
+            differs(i.name, "%d bytes were read" % f.tell())
+    return out
+
+
+def unread(pipe):
+    return int.from_bytes(fcntl.ioctl(pipe, termios.FIONREAD, bytes(4)), sys.byteorder)
+
+
+def feed(process, data, size):
+    """Each piece goes into the pipe once the last has been read."""
+    give_up = time.monotonic() + LIMIT
+    for at in range(0, len(data), size):
+        process.stdin.write(data[at : at + size])
+        while unread(process.stdin):
+            if process.poll() is not None or time.monotonic() > give_up:
+                return
+            time.sleep(0)
+
+
+def fed(command, stdin, size, out, err):
+    """The status; None where it did not end."""
+    process = subprocess.Popen(command, stdin=subprocess.PIPE, stdout=out, stderr=err, bufsize=0)
+    try:
+        feed(process, stdin, size)
+    except BrokenPipeError:
+        pass  # it has read what it wants
+    process.stdin.close()
+    try:
+        return process.wait(LIMIT)
+    except subprocess.TimeoutExpired:
+        process.kill()
+
+
+def in_pieces(command, i, size):
+    """What it printed, its input coming through a pipe in pieces of that size."""
+    with file_of(b"") as out, file_of(b"") as err:
+        status = fed(command, i.stdin, size, out, err)
+        out.seek(0)
+        err.seek(0)
+        if status is None:
+            differs(i.name, "has not ended after %d s" % LIMIT)
+        check_ended(i.name, status, err.read())
+        return out.read()
+
+
+def check_unheard(command):
+    """Standard output closed, or a pipe that no one reads, with SIGPIPE and without, or a full disk: it ends, and quietly."""
+    for i in (EXAMPLE, THREES):
+        named = lambda how: i._replace(name="%s, standard output %s" % (i.name, how))
+        from_file(command, named("closed"), stdout=None, unheard=True, preexec_fn=lambda: os.close(1))
+        for restore in (True, False):
+            reader, writer = os.pipe()
+            os.close(reader)
+            from_file(command, named("a broken pipe"), stdout=writer, unheard=True, restore_signals=restore)
+            os.close(writer)
+        with open("/dev/full", "wb") as disk:
+            from_file(command, named("a full disk"), stdout=disk, unheard=True)
+
+
+def check_unread(command):
+    """Standard input closed, or one that cannot be read: as if there were none."""
+    directory = os.open("/", os.O_RDONLY)
+    for name, stdin, before in (("standard input closed", None, lambda: os.close(0)), ("standard input a directory", directory, None)):
+        check_same(name, run_it(command, name, stdin, preexec_fn=before), program(b""))
+    os.close(directory)
+
+
+def check_pieces(command, cases):
+    """From a pipe in pieces as from a file, also where there is more than is read."""
+    for i, output in cases:
+        if i.name in ("the paper's example", "a tail of 2 bytes", "much beyond", "sections at random, 21"):
+            for size in (1, 7, 4096) if len(i.stdin) < 5000 else (7, 4096):
+                name = "%s, in pieces of %d" % (i.name, size)
+                check_same(name, in_pieces(command, i._replace(name=name), size), output)
+
+
+def check_beyond(command, cases):
+    """Bytes beyond the first 65,536 do not change the output."""
+    for i, output in cases:
+        for tail in (b"", b"\xff" * 5000, announcement()) if len(i.stdin) >= READ else ():
+            other = i._replace(name=i.name + ", another tail", stdin=i.stdin[:READ] + tail)
+            check_same(other.name, from_file(command, other), output)
+
+
+def check_time(command):
+    times = []
+    for _ in range(3):
+        begun = time.monotonic()
+        from_file(command, THREES)
+        times.append(time.monotonic() - begun)
+    print("program.py: %s: %.3f s, best of three" % (THREES.name, min(times)))
+    if min(times) >= 1:
+        differs(THREES.name, "not under a second")
+
+
+def built():
+    """The command that runs the built program as rt does: under the kit's loader, and its emulator where the machine is no x86-64."""
+    tools = Path(shutil.which("rt")).resolve().parents[1] / "on" / platform.machine() / "toolchain"
+    emulator = tools / "bin" / "qemu-x86_64"
+    return [emulator] * emulator.exists() + [tools / "lib" / "ld-linux-x86-64.so.2", "--library-path", tools / "lib", ROOT / "target" / "bin" / "nebosvar"]
+
+
+def check_built(command, cases):
+    for i, output in cases:
+        check_same(i.name, from_file(command, i), output)
+    check_time(command)
+    check_beyond(command, cases)
+    check_pieces(command, cases)
+    check_unread(command)
+    check_unheard(command)
+
+
+# ---- the sample
+
+
+def settle_sample(write):
+    """The crate's stored files are the paper's example."""
+    for name, made in (("stdin", EXAMPLE.stdin), ("stdout", PRINTED)):
+        path = ROOT / "crates" / "nebosvar" / name
+        if write and not path.exists():
+            path.parent.mkdir(exist_ok=True)
+            path.write_bytes(made)
+        if not path.exists() or path.read_bytes() != made:
+            sys.exit("%s is not what tests/program.py makes: remove it, run 'program.py sample' and look at the change" % path)
+
+
+def main():
+    arguments = sys.argv[1:]
+    if arguments == ["built"]:
+        arguments = ["run", *built()]
+    if arguments not in ([], ["sample"]) and (len(arguments) < 2 or arguments[0] != "run"):
+        sys.exit(__doc__)
+    cases = checked_cases()
+    counts = "program.py: %d inputs, %d lines" % (len(cases), sum(output.count(b"\n") for _, output in cases))
+    if arguments[1:]:
+        check_built(arguments[1:], cases)
+        print(counts + " compared")
+    else:
+        settle_sample(arguments == ["sample"])
+        print(counts + ", as the paper's words tell; the sample is the paper's example")
+
+
+if __name__ == "__main__":
+    main()
