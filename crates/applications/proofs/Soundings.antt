@@ -27,7 +27,7 @@ use Rattle.applications.specs.Records.{classOf, controlOf}
 use Rattle.applications.proofs.Laws.Exact.{accepted-exactly}
 
 -- an application of the least length, 14 bytes: organisation 1, application 0x4000, AUTOSTART, and a 0x00 descriptor without profiles and labels
-abbrev least : List ℕ
+abbrev pub least : List ℕ
 least = 0x00 ∷ 0x00 ∷ 0x00 ∷ 0x01 ∷ 0x40 ∷ 0x00 ∷ 0x01 ∷ 0xF0 ∷ 0x05 ∷ 0x00 ∷ 0x03 ∷ 0x00 ∷ 0xFF ∷ 0x01 ∷ []
 
 -- n of them
@@ -36,18 +36,18 @@ leasts zero = []
 leasts (suc n) = least ++ leasts n
 
 -- a section without common descriptors: header and body, and then their CRC
-abbrev front : (h l : ℕ) (p : ℕ) (m : ℕ) (loop : List ℕ) → List ℕ
+abbrev pub front : (h l : ℕ) (p : ℕ) (m : ℕ) (loop : List ℕ) → List ℕ
 front h l p m loop = 0x74 ∷ h ∷ l ∷ 0x00 ∷ 0x01 ∷ 0xC1 ∷ 0x00 ∷ 0x00 ∷ 0xF0 ∷ 0x00 ∷ p ∷ m ∷ loop
 
-abbrev whole : List ℕ → List ℕ
+abbrev pub whole : List ℕ → List ℕ
 whole f = f ++ spelled 4 (crcOf f)
 
 -- "An empty AIT has L = 13."
-abbrev emptyFront : List ℕ
+abbrev pub emptyFront : List ℕ
 emptyFront = front 0xB0 0x0D 0xF0 0x00 []
 
 -- "72 applications of the least length, 14 bytes, without common descriptors give L = 1,021."
-abbrev fullFront : List ℕ
+abbrev pub fullFront : List ℕ
 fullFront = front 0xB3 0xFD 0xF3 0xF0 (leasts 72)
 
 length-whole : (f : List ℕ) → length (whole f) ≡ length f + 4

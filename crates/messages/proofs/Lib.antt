@@ -2,3 +2,4 @@ pub mod Laws
 pub mod Exact
 pub mod Soundings
 pub mod Unique
+pub mod Good

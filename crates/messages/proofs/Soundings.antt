@@ -25,11 +25,11 @@ unfolding beyond10 someBad total
 sizes = (refl, refl, refl, refl, refl, refl)
 
 -- the header of a section of module 7, with this section number
-abbrev headed : ℕ → Header
+abbrev pub headed : ℕ → Header
 headed n = record { table = 0x3C; extension = 7; version = 1; section = n; last = 255 }
 
 -- a block of module 7 in download 5: two adaptation bytes, then block 300, of one byte
-abbrev block300 : List ℕ
+abbrev pub block300 : List ℕ
 block300 =
     0x11 ∷ 0x03 ∷ 0x10 ∷ 0x03 ∷ 0 ∷ 0 ∷ 0 ∷ 5 ∷ 0xFF ∷ 2 ∷ 0 ∷ 9 ∷ 0xAA ∷ 0xAA ∷ 0 ∷ 7 ∷ 1 ∷ 0xFF ∷ 1 ∷ 44 ∷ 0x55 ∷ []
 

@@ -4,3 +4,4 @@ pub mod Limits
 pub mod Refusals
 pub mod Judged
 pub mod Heard
+pub mod Good
