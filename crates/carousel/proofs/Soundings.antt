@@ -25,17 +25,17 @@ use Rattle.carousel.specs.Calls.{reportOn}
 use Rattle.carousel.proofs.Simulation.{outcome-ruled, empty-ruled}
 
 -- download 5 of one module 7, version 1, of this size in blocks of this size; two modules; and a block of module 7
-abbrev one : (blockSize size : ℕ) → Announced
+abbrev pub one : (blockSize size : ℕ) → Announced
 one bs z = record { download = 5; blockSize = bs; modules = record { number = 7; size = z; version = 1 } ∷ [] }
 
-abbrev two : (blockSize size other : ℕ) → Announced
+abbrev pub two : (blockSize size other : ℕ) → Announced
 two bs z y = record { download = 5; blockSize = bs; modules = record { number = 7; size = z; version = 1 } ∷ record { number = 8; size = y; version = 1 } ∷ [] }
 
-abbrev block : ℕ → List ℕ → Arrived
+abbrev pub block : ℕ → List ℕ → Arrived
 block b bytes = record { download = 5; number = 7; version = 1; block = b; bytes = bytes }
 
 -- the record after an announcement, with its first word of marks given
-abbrev marked : Announced → ℕ → Record
+abbrev pub marked : Announced → ℕ → Record
 marked a w = record { announced = a; starts = 0 ∷ []; marks = w ∷ replicate 127 0 }
 
 pub soundings :

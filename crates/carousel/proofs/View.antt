@@ -20,7 +20,8 @@ use Rattle.carousel.specs.Record.{Record, sizesOf, moduleAt, placeOf, by
 use Rattle.carousel.specs.Changes.{marking, overwrite}
 use Rattle.carousel.specs.Step.{meets12, meets13, meets14, meets15, meets16, blockTests, blockRefusal, bytesDiffer, sameAnnounced}
 use Rattle.carousel.specs.Step.{refusing, new, same, repeated, stored, matched, onArrived, onAnnounced, onHeard, answerOf}
-use Rattle.carousel.proofs.Views.{Held, after, Slot, slot, hit, reply, blockMatches, heardMatches, heardBytes, isNew}
+use Rattle.carousel.specs.Matching.{blockMatches, heardMatches, heardBytes}
+use Rattle.carousel.proofs.Views.{Held, after, Slot, slot, hit, reply, isNew}
 use Rattle.carousel.proofs.Laws.Tests.{alike}
 use Rattle.carousel.proofs.Laws.Marks.{mark-same, mark-other}
 use Rattle.carousel.proofs.Laws.Blocks.{ends, apart}

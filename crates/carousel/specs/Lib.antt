@@ -4,3 +4,4 @@ pub mod Record
 pub mod Changes
 pub mod Step
 pub mod Calls
+pub mod Matching
