@@ -153,6 +153,10 @@ pub record Held : Type 0 where
   pub state : Carousel
   pub image : List ℕ
 
+-- one call on one section; and one after another
+abbrev pub given : Held → List ℕ → Held
+given x s = record { state = givenOf (x .state) s (x .image) .state; image = imageGiven (x .state) s (x .image) }
+
 unfoldable pub walk : Held → List (List ℕ) → Held
 walk x [] = x
-walk x (s ∷ ss) = walk (record { state = givenOf (x .state) s (x .image) .state; image = imageGiven (x .state) s (x .image) }) ss
+walk x (s ∷ ss) = walk (given x s) ss

@@ -1,0 +1,12 @@
+pub mod Accepted
+pub mod Two
+pub mod Given
+pub mod Lists
+pub mod Alike
+pub mod Walks
+pub mod After
+pub mod Calls
+pub mod Three
+pub mod Soundings
+pub mod One
+pub mod Bearings

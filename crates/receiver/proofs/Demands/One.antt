@@ -1,0 +1,139 @@
+-- DEMAND 1, as 00 says it:
+--
+--   "Any bytes may come off the air, and any state record or image buffer may be lent. Each call ends with its one stated answer. Nothing is left to the caller to check first.
+--   A refusal has a number from the paper, given in exactly the stated case, and changes neither record nor image."
+--
+-- Each call ends, and does nothing undefined: that is part of what the prover asks of every function, for every input. Nothing is left to the caller: no public call has a
+-- `requires` (tests/contracts.py). One stated answer: in each crate `proofs/Unique.antt` shows, over the prover's own reading of each public contract, that any two answers,
+-- records and images that meet it coincide; docs/PROMISES.md lists every public call, and tests/calls.py holds that list to the source and to these files.
+-- The stated case of each number is demand 2's (Two.antt). Here: a number is one of the paper's, a refusal is nothing but its number, and it changes nothing.
+-- Assumes nothing.
+use Prim.Native.Nat.{ℕ, _≤_}
+use mathlib.Core.Path.{_≡_, refl, ap}
+use mathlib.Core.Bool.{Bool, true, false, cond}
+use mathlib.Core.List.{List, [], _∷_, _++_}
+use native.Mathlib.Omega.{arith}
+use lib.Dec.{eqb, lit≤}
+use Rattle.wire.specs.Fields.{byteAt}
+use Rattle.wire.specs.Tests.{Tests, firstMet}
+use Rattle.section.specs.declared.Refusal.{Refusal}
+use Rattle.section.specs.declared.Rules.{Rules}
+use Rattle.section.specs.declared.Rules.the-variants.{Application}
+use Rattle.section.specs.declared.Rules.the-variants.{Carousel as Carousels}
+use Rattle.section.specs.declared.Header.{Header}
+use Rattle.section.specs.Header.{applicationTable, headerOf, bodyOf}
+use Rattle.section.specs.Refusals.{sectionTests}
+use Rattle.section.specs.Answer.{refused}
+use Rattle.descriptors.specs.Body.{bodyTests}
+use Rattle.applications.specs.Acceptance.{applicationTests}
+use Rattle.applications.specs.Answers.{readAnswer, readNumber, numberOfRead}
+use Rattle.applications.proofs.Laws.Numbers.{read-number}
+use Rattle.messages.specs.declared.Table.{Table}
+use Rattle.messages.specs.declared.Table.the-variants.{Announcements, Blocks}
+use Rattle.messages.specs.Refusals.{messageTests}
+use Rattle.messages.specs.Judged.{tableIn, carouselTests}
+use Rattle.messages.specs.Heard.{Heard, refusal, announced, arrived, heardOf}
+use Rattle.carousel.specs.declared.Carousel.{Carousel}
+use Rattle.carousel.specs.declared.Answer.{Answer}
+use Rattle.carousel.specs.declared.Answer.the-variants as answer
+use Rattle.carousel.specs.Record.{Record, recordOf, ruledOf}
+use Rattle.carousel.specs.Step.{heardTests, stepTests, numberOf, steppedOf, imageOf}
+use Rattle.carousel.proofs.Exact.{step-number}
+use Rattle.carousel.proofs.Steps.{refusal-changes-nothing}
+use Rattle.receiver.specs.declared.Fate.the-variants as fate
+use Rattle.receiver.specs.declared.Given.{Given}
+use Rattle.receiver.specs.declared.Stop.the-variants as stop
+use Rattle.receiver.specs.Run.{tableFate, carouselFate, givenOf, imageGiven, runOf, halted}
+use Rattle.receiver.specs.Run.{numberOf as receiverNumber}
+use Rattle.receiver.proofs.Laws.Runs.{run-state}
+use Rattle.receiver.proofs.Laws.Takes.{given-number}
+
+-- "Every one returns no value besides its number": a refusal is its number
+pub refusal-is-its-number : (r : Refusal) → r ≡ refused (r .number)
+refusal-is-its-number r = refl
+
+-- "A refusal has a number from the paper": the tables have no others
+abbrev Most : ℕ → Tests → Type 0
+Most b [] = Unit
+Most b (t ∷ ts) = (t .0 ≤ b) × Most b ts
+
+met-most : (b : ℕ) (ts : Tests) → Most b ts → firstMet ts ≤ b
+unfolding firstMet
+met-most b [] m = omega arith
+met-most b (t ∷ ts) m = go (t .1) (met-most b ts (m .1))
+  where
+    go : (u : Bool) → firstMet ts ≤ b → cond u (t .0) (firstMet ts) ≤ b
+    go true h = m .0
+    go false h = h
+
+most-both : (b : ℕ) (ts us : Tests) → Most b ts → Most b us → Most b (ts ++ us)
+most-both b [] us m n = n
+most-both b (t ∷ ts) us m n = (m .0, most-both b ts us (m .1) n)
+
+message-most : (t : Table) (h : Header) (b : List ℕ) → Most 17 (messageTests t h b)
+message-most Announcements h b = (lit≤ tt, (lit≤ tt, (lit≤ tt, (lit≤ tt, (lit≤ tt, tt)))))
+message-most Blocks h b = (lit≤ tt, (lit≤ tt, (lit≤ tt, (lit≤ tt, tt))))
+
+heard-most : (r : Record) (image : List ℕ) (h : Heard) → Most 17 (heardTests r image h)
+heard-most r image (refusal n) = tt
+heard-most r image (announced a) = tt
+heard-most r image (arrived d) = (lit≤ tt, (lit≤ tt, (lit≤ tt, (lit≤ tt, (lit≤ tt, (lit≤ tt, tt))))))
+
+section-most : (b : ℕ) → 6 ≤ b → (rules : Rules) (s : List ℕ) → Most b (sectionTests rules s)
+section-most b l rules s = (omega arith, (omega arith, (omega arith, (omega arith, (omega arith, tt)))))
+
+-- of the step one of 1 to 17, of a table one of 2 to 18, of the receiver one of 1 to 18; 0 is no refusal
+pub step-known : (c : Carousel) (s image : List ℕ) → numberOf (steppedOf c s image .answer) ≤ 17
+step-known c s image =
+    let m = most-both 17 (carouselTests s) (heardTests (recordOf c) image (heardOf s))
+    (most-both 17 (sectionTests Carousels s) (messageTests (tableIn s) (headerOf s) (bodyOf s)) (section-most 17 (lit≤ tt) Carousels s) (message-most (tableIn s) (headerOf s) (bodyOf s)))
+    (heard-most (recordOf c) image (heardOf s)) in
+    rw (step-number c s image) (met-most 17 (stepTests c s image) (lit≤ tt, m))
+
+pub table-known : (s : List ℕ) → numberOfRead (readAnswer s) ≤ 18
+unfolding readNumber
+table-known s =
+    rw (read-number s) (met-most 18 (applicationTests s) (most-both 18 (sectionTests Application s) (bodyTests (bodyOf s)) (section-most 18 (lit≤ tt) Application s) (lit≤ tt, (lit≤ tt, tt))))
+
+pub take-known : (c : Carousel) (s image : List ℕ) → receiverNumber (givenOf c s image .fate) ≤ 18
+take-known c s image = rw (given-number c s image) (go (eqb (byteAt s 0) applicationTable))
+  where
+    go : (t : Bool) → cond t (readNumber s) (firstMet (stepTests c s image)) ≤ 18
+    go true = rw (← read-number s) (table-known s)
+    go false = let k : firstMet (stepTests c s image) ≤ 17 = rw (← step-number c s image) (step-known c s image) in omega arith
+
+-- what the carousel's answer was, where a fate came of it
+refused-by : (a : Answer) (r : Refusal) → carouselFate a ≡ fate.Refused r → a ≡ answer.Refused r
+unfolding carouselFate
+refused-by answer.New r e = let z : _≡_ {A = ℕ} 0 1 = cc in absurd (omega arith)
+refused-by answer.Same r e = let z : _≡_ {A = ℕ} 0 1 = cc in absurd (omega arith)
+refused-by answer.Stored r e = let z : _≡_ {A = ℕ} 0 1 = cc in absurd (omega arith)
+refused-by answer.Repeated r e = let z : _≡_ {A = ℕ} 0 1 = cc in absurd (omega arith)
+refused-by (answer.Refused n) r e = ap answer.Refused (same e)
+  where
+    same : fate.Refused n ≡ fate.Refused r → n ≡ r
+    same e = cc
+
+module _ (c : Carousel) (s image : List ℕ) where
+  -- A REFUSAL CHANGES NEITHER RECORD NOR IMAGE, of any record and image: the step's, and the receiver's
+  pub step-refused : (r : Refusal) → steppedOf c s image .answer ≡ answer.Refused r → (steppedOf c s image .state ≡ c) × (imageOf c s image ≡ image)
+  step-refused r e = refusal-changes-nothing c s image r e
+
+  pub take-refused : (r : Refusal) → givenOf c s image .fate ≡ fate.Refused r → (givenOf c s image .state ≡ c) × (imageGiven c s image ≡ image)
+  unfolding givenOf imageGiven
+  take-refused r = go (eqb (byteAt s 0) applicationTable)
+    where
+      go : (t : Bool) → cond {A = Given} t (record { fate = tableFate s; state = c }) (record { fate = carouselFate (steppedOf c s image .answer); state = steppedOf c s image .state }) .fate ≡ fate.Refused r
+          → (cond {A = Given} t (record { fate = tableFate s; state = c }) (record { fate = carouselFate (steppedOf c s image .answer); state = steppedOf c s image .state }) .state ≡ c)
+          × (cond t image (imageOf c s image) ≡ image)
+      go true e = (refl, refl)
+      go false e = step-refused r (refused-by (steppedOf c s image .answer) r e)
+
+  -- so does a table, accepted or not
+  pub table-changes-nothing : byteAt s 0 ≡ applicationTable → (givenOf c s image .state ≡ c) × (imageGiven c s image ≡ image)
+  unfolding givenOf imageGiven
+  table-changes-nothing e = rw e (refl, refl)
+
+  -- and a broken record stops a run before it takes anything
+  pub run-broken : (budget : ℕ) → ruledOf c ≡ false → runOf c s image budget ≡ halted c image stop.State
+  run-broken budget r = run-state c s image budget r
