@@ -15,10 +15,10 @@ ghost use Rattle.report.specs.Report.{budget, printed, lineOf, lastLine,
 const BUDGET: usize = 65_536;
 
 // Bytes enough for the text of any stretch of 65,536: proofs/Whole.antt.
-pub const ROOM: usize = 786_464;
+pub const ROOM: usize = 393_248;
 
-// Runs an empty record over a stretch and puts the text at the start of `out`; answers its length.
-// Where `out` is shorter, the rest of the text is left out.
+// Runs an empty record over a stretch and puts the text at the start of `out`; answers the bytes
+// put. Where `out` is shorter than the text, the rest of it is left out.
 pub fn write_report(stretch: &[u8], image: &mut [u8], out: &mut [u8]) -> usize
     ensures { λ r. ⌜ (now (out .exit) ≡ sets (now (out .entry)) 0 (printed (now (stretch .entry)) (now (image .entry))))
         × (r ≡ reached 0 (length (printed (now (stretch .entry)) (now (image .entry)))) (length (now (out .entry))))

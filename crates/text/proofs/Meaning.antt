@@ -2,7 +2,7 @@
 -- Assumes nothing.
 use Prim.Native.Nat.{ℕ, zero, suc, _+_, _-_, _*_, _/_, _%_, _^_, _≤_, _<_}
 use mathlib.Core.Path.{_≡_, refl, ap, _∙_}
-use mathlib.Core.Bool.{Bool, true, false, cond}
+use mathlib.Core.Bool.{Bool, true, false}
 use mathlib.Core.List.{List, [], _∷_, _++_}
 use native.Mathlib.Omega.{arith}
 use lib.Dec.{ltb}
@@ -49,19 +49,6 @@ digits-short (suc m) (suc k) n h = go (ltb n 10) refl (digits-short m k (n / 10)
 
 pub decimal-short : (k n : ℕ) → n < 10 ^ suc k → length (decimal n) ≤ suc k
 decimal-short k n h = digits-short 20 k n h
-
--- and never in more than 20
-digits-most : (m n : ℕ) → length (digitsIn m n) ≤ m
-unfolding digitsIn
-digits-most zero n = omega arith
-digits-most (suc m) n = go (ltb n 10) (digits-most m (n / 10))
-  where
-    go : (t : Bool) → length (digitsIn m (n / 10)) ≤ m → length (cond t (digit n ∷ []) (digitsIn m (n / 10) ++ digit (n % 10) ∷ [])) ≤ suc m
-    go true r = omega arith
-    go false r = let l = length-append (digitsIn m (n / 10)) (digit (n % 10) ∷ []) in omega arith
-
-pub decimal-most : (n : ℕ) → length (decimal n) ≤ 20
-decimal-most n = digits-most 20 n
 
 -- A TEXT FOR WHICH THERE IS ROOM IS THERE WHOLE
 pub whole : (out text : List ℕ) → length text ≤ length out → (reached 0 (length text) (length out) ≡ length text) × (take (length text) (sets out 0 text) ≡ text)
