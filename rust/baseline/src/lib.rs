@@ -1,0 +1,32 @@
+//! A receiver for application tables (AIT) and DSM-CC data carousels, in plain Rust.
+//!
+//! It is written from the paper `01-scope.md` ("the paper" below) and serves as an independent second
+//! implementation and as a baseline for speed. Nothing is allocated except by [`read_all`], whose answer
+//! is a tree of owned values.
+//!
+//! * [`Record::step`] takes one carousel section ("The messages", "The carousel record").
+//! * [`Record::take`] and [`Record::run`] walk over a stretch of sections ("The run").
+//! * [`Record::handout`] and [`Record::missing`] answer about one module.
+//! * [`read`] and [`read_all`] read one application section ("The application section").
+//!
+//! Every refusal is a number of the paper's table "Numbers a call may answer", and changes neither the
+//! record nor the image.
+
+#![forbid(unsafe_code)]
+#![warn(missing_docs)]
+
+mod ait;
+mod checksum;
+mod message;
+mod reader;
+mod record;
+mod refusal;
+mod run;
+mod section;
+pub mod table;
+
+pub use ait::{read, Table};
+pub use checksum::crc;
+pub use record::{Answer, Missing, Module, Record};
+pub use run::{Fate, Passage, Stop, Taken};
+pub use table::read_all;

@@ -1,0 +1,40 @@
+//! The paper's "Numbers a call may answer", by name.
+
+/// Record breaks its rule.
+pub const RECORD: u8 = 1;
+/// Under 3 bytes, or not 3 + L.
+pub const SIZE: u8 = 2;
+/// Wrong table number.
+pub const TABLE: u8 = 3;
+/// L out of its limits, syntax indicator 0, or section number above last.
+pub const HEADER: u8 = 4;
+/// CRC.
+pub const CRC: u8 = 5;
+/// current_next 0.
+pub const NOT_CURRENT: u8 = 6;
+/// A length or fixed field does not fit, bytes are left over, or known contents are malformed.
+pub const MALFORMED: u8 = 7;
+/// First two message bytes or message number not as stated.
+pub const MESSAGE: u8 = 8;
+/// Extension is not the module number, or section number is not block number mod 256.
+pub const BLOCK_HEADER: u8 = 9;
+/// Announcement out of its limits.
+pub const LIMITS: u8 = 10;
+/// Module number twice.
+pub const TWICE: u8 = 11;
+/// No announcement, or downloadId differs.
+pub const DOWNLOAD: u8 = 12;
+/// Module not announced.
+pub const UNKNOWN_MODULE: u8 = 13;
+/// Version differs.
+pub const VERSION: u8 = 14;
+/// Image shorter than the record's sizes together.
+pub const IMAGE: u8 = 15;
+/// Block number or block length wrong.
+pub const BLOCK: u8 = 16;
+/// Block marked, bytes differ.
+pub const DIFFERS: u8 = 17;
+/// An application without exactly one 0x00 descriptor.
+pub const DESCRIPTION: u8 = 18;
+/// Module not complete.
+pub const INCOMPLETE: u8 = 20;

@@ -1,0 +1,227 @@
+//! A slow second reading of the carousel's rules, straight from the paper's table: every number is judged by a
+//! clause of its own over a section read into loose values, and the lowest that applies is given.
+
+use baseline::{Answer, Module, Record};
+
+fn number(bytes: &[u8]) -> u64 {
+    bytes
+        .iter()
+        .fold(0, |number, &byte| number << 8 | u64::from(byte))
+}
+
+/// Whether the record's rule holds, mark by mark.
+pub fn is_ruled(record: &Record) -> bool {
+    let count = usize::from(record.count);
+    let zero = |module: &Module| {
+        module.number == 0 && module.size == 0 && module.version == 0 && module.start == 0
+    };
+    if count == 0 {
+        return record.download == 0
+            && record.block_size == 0
+            && record.modules.iter().all(zero)
+            && record.marks.iter().all(|&word| word == 0);
+    }
+    if count > 16 {
+        return false;
+    }
+    let size = u64::from(record.block_size);
+    let sizes: Vec<u64> = record.modules.iter().map(|m| u64::from(m.size)).collect();
+    let in_limits = (1..=4_066).contains(&size)
+        && sizes[..count].iter().all(|&z| z > 0 && z <= 256 * size)
+        && sizes[..count].iter().sum::<u64>() <= 65_536;
+    if !in_limits {
+        return false;
+    }
+    for i in 0..16 {
+        let module = &record.modules[i];
+        if i >= count && !zero(module) {
+            return false;
+        }
+        if i < count {
+            if u64::from(module.start) != sizes[..i].iter().sum::<u64>() {
+                return false;
+            }
+            if (0..i).any(|j| record.modules[j].number == module.number) {
+                return false;
+            }
+        }
+        for b in 0..256u64 {
+            let has_block = i < count && b * size < sizes[i];
+            if !has_block && is_marked(record, i, b as usize) {
+                return false;
+            }
+        }
+    }
+    true
+}
+
+pub fn is_marked(record: &Record, place: usize, block: usize) -> bool {
+    let mark = 256 * place + block;
+    record.marks[mark / 32] >> (mark % 32) & 1 == 1
+}
+
+/// The step, by value.
+pub fn step(record: &Record, section: &[u8], image: &[u8]) -> (Answer, Record, Vec<u8>) {
+    let refused = |number| (Answer::Refused(number), *record, image.to_vec());
+    if !is_ruled(record) {
+        return refused(1);
+    }
+    if section.len() < 3 || section.len() as u64 != 3 + number(&section[1..3]) % 4_096 {
+        return refused(2);
+    }
+    if section[0] != 0x3B && section[0] != 0x3C {
+        return refused(3);
+    }
+    let length = section.len() - 3;
+    if !(9..=4_093).contains(&length) || section[1] < 0x80 || section[6] > section[7] {
+        return refused(4);
+    }
+    if crate::make::slow_crc(section) != 0 {
+        return refused(5);
+    }
+    if section[5] & 1 == 0 {
+        return refused(6);
+    }
+    let body = &section[8..section.len() - 4];
+    if body.len() < 12 {
+        return refused(7);
+    }
+    let wanted = if section[0] == 0x3B {
+        0x1103_1002
+    } else {
+        0x1103_1003
+    };
+    if number(&body[..4]) != wanted {
+        return refused(8);
+    }
+    let content = 12 + usize::from(body[9]);
+    if number(&body[10..12]) as usize != body.len() - 12 || content > body.len() {
+        return refused(7);
+    }
+    let content = &body[content..];
+    if section[0] == 0x3B {
+        announce(record, content, image)
+    } else {
+        store(record, section, number(&body[4..8]), content, image)
+    }
+}
+
+/// The modules of an announcement, when it is framed to its end.
+fn framed(content: &[u8]) -> Option<Vec<Module>> {
+    let compatibility = number(content.get(16..18)?) as usize;
+    let mut at = 18 + compatibility;
+    let count = number(content.get(at..at + 2)?);
+    at += 2;
+    let mut modules = vec![];
+    for _ in 0..count {
+        let fields = content.get(at..at + 8)?;
+        modules.push(Module {
+            number: number(&fields[..2]) as u16,
+            size: number(&fields[2..6]) as u32,
+            version: fields[6],
+            start: 0,
+        });
+        at += 8 + usize::from(fields[7]);
+    }
+    let private = number(content.get(at..at + 2)?) as usize;
+    (at + 2 + private == content.len()).then_some(modules)
+}
+
+fn announce(record: &Record, content: &[u8], image: &[u8]) -> (Answer, Record, Vec<u8>) {
+    let refused = |number| (Answer::Refused(number), *record, image.to_vec());
+    let Some(modules) = framed(content) else {
+        return refused(7);
+    };
+    let download = number(&content[..4]) as u32;
+    let block_size = number(&content[4..6]);
+    let sizes = || modules.iter().map(|module| u64::from(module.size));
+    if block_size == 0
+        || block_size > 4_066
+        || modules.is_empty()
+        || modules.len() > 16
+        || sizes().any(|size| size == 0 || size > 256 * block_size)
+        || sizes().sum::<u64>() > 65_536
+    {
+        return refused(10);
+    }
+    for (i, module) in modules.iter().enumerate() {
+        if modules[i + 1..].iter().any(|m| m.number == module.number) {
+            return refused(11);
+        }
+    }
+    let mut fresh = Record::empty();
+    fresh.download = download;
+    fresh.block_size = block_size as u16;
+    fresh.count = modules.len() as u16;
+    for (i, module) in modules.iter().enumerate() {
+        fresh.modules[i] = *module;
+        fresh.modules[i].start = sizes().take(i).sum::<u64>() as u32;
+    }
+    let same = record.download == download
+        && u64::from(record.block_size) == block_size
+        && usize::from(record.count) == modules.len()
+        && modules.iter().zip(&record.modules).all(|(new, old)| {
+            (new.number, new.size, new.version) == (old.number, old.size, old.version)
+        });
+    if same {
+        (Answer::Same, *record, image.to_vec())
+    } else {
+        (Answer::New, fresh, image.to_vec())
+    }
+}
+
+fn store(
+    record: &Record,
+    section: &[u8],
+    download: u64,
+    content: &[u8],
+    image: &[u8],
+) -> (Answer, Record, Vec<u8>) {
+    let refused = |number| (Answer::Refused(number), *record, image.to_vec());
+    if content.len() < 6 {
+        return refused(7);
+    }
+    let (module, block) = (number(&content[..2]), number(&content[4..6]));
+    let data = &content[6..];
+    if number(&section[3..5]) != module || u64::from(section[6]) != block % 256 {
+        return refused(9);
+    }
+    if record.count == 0 || u64::from(record.download) != download {
+        return refused(12);
+    }
+    let count = usize::from(record.count);
+    let Some(place) = (0..count).find(|&i| u64::from(record.modules[i].number) == module) else {
+        return refused(13);
+    };
+    let entry = &record.modules[place];
+    if entry.version != content[2] {
+        return refused(14);
+    }
+    let together: u64 = record.modules.iter().map(|m| u64::from(m.size)).sum();
+    if (image.len() as u64) < together {
+        return refused(15);
+    }
+    let (size, block_size) = (u64::from(entry.size), u64::from(record.block_size));
+    let blocks = size / block_size + u64::from(size % block_size != 0);
+    let right = if block + 1 == blocks {
+        size - block * block_size
+    } else {
+        block_size
+    };
+    if block >= blocks || data.len() as u64 != right {
+        return refused(16);
+    }
+    let begin = (u64::from(entry.start) + block * block_size) as usize;
+    if is_marked(record, place, block as usize) {
+        return if image[begin..begin + data.len()] == *data {
+            (Answer::Repeated, *record, image.to_vec())
+        } else {
+            refused(17)
+        };
+    }
+    let (mut record, mut image) = (*record, image.to_vec());
+    let mark = 256 * place + block as usize;
+    record.marks[mark / 32] |= 1 << (mark % 32);
+    image[begin..begin + data.len()].copy_from_slice(data);
+    (Answer::Stored, record, image)
+}
