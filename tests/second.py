@@ -85,4 +85,4 @@ def settle(crate, given, wanted):
         if "--write" in sys.argv:
             path.write_bytes(made)
         elif path.read_bytes() != made:
-            sys.exit("%s is not what tests/%s.py makes: run it with --write and look at the change" % (path, crate))
+            sys.exit("%s is not what tests/%s makes: run it with --write and look at the change" % (path, Path(sys.argv[0]).name))

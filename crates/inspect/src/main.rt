@@ -1,7 +1,7 @@
 // For a radio fitter: reads the first 65,536 bytes of standard input as `nebosvar` does, and prints
 // all that was read of each section and, at the end, of the record: a comma-separated line each.
-// The lines are listed in tests/inspect.py, an independent second program, which makes an input and
-// says what must come out.
+// The lines are listed in tests/inspect_test.py, an independent second program, which makes an input
+// and says what must come out.
 mod items;
 mod loops;
 mod page;

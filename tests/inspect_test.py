@@ -39,9 +39,9 @@ After the last section the stop, and what is announced, if anything is:
     record,DOWNLOAD,BLOCKSIZE,MODULES
     module,PLACE,NUMBER,SIZE,VERSION,START,HANDOUT,MISSING,LOWEST,CRC
 
-    inspect.py          compare crates/inspect/stdin and stdout with what this program makes
-    inspect.py --write  write both
-    inspect.py built    run target/bin/inspect, which 'rt check inspect' builds, on every input and compare what it prints
+    inspect_test.py          compare crates/inspect/stdin and stdout with what this program makes
+    inspect_test.py --write  write both
+    inspect_test.py built    run target/bin/inspect, which 'rt check inspect' builds, on every input and compare what it prints
 """
 import random
 import sys
@@ -366,7 +366,7 @@ def check_built(command, cases):
         begun = time.monotonic()
         program.check_same(i.name, program.from_file(command, i), output)
         longest = max(longest, (time.monotonic() - begun, i.name))
-    print("inspect.py: longest run %.2f s: %s" % longest)
+    print("inspect_test.py: longest run %.2f s: %s" % longest)
     program.check_beyond(command, cases)
     program.check_pieces(command, cases)
     program.check_unheard(command)
@@ -380,12 +380,12 @@ def main():
     stdout = printed(stdin)
     check_sample(stdout)
     settle("inspect", stdin, stdout)
-    print("inspect.py: the sample has %d bytes and %d lines: stdin and stdout are the second program's" % (len(stdin), stdout.count(b"\n")))
+    print("inspect_test.py: the sample has %d bytes and %d lines: stdin and stdout are the second program's" % (len(stdin), stdout.count(b"\n")))
     if arguments == ["built"]:
         cases = [(i, printed(i.stdin)) for i in inputs()]
         command = [*program.built()[:-1], ROOT / "target" / "bin" / "inspect"]
         check_built(command, cases)
-        print("inspect.py: %d inputs, %d lines compared" % (len(cases), sum(output.count(b"\n") for _, output in cases)))
+        print("inspect_test.py: %d inputs, %d lines compared" % (len(cases), sum(output.count(b"\n") for _, output in cases)))
 
 
 if __name__ == "__main__":
