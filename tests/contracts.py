@@ -25,6 +25,9 @@ def faults():
                     yield where + " promises nothing"
                 if (source == root or name in named) and re.search(r"^ *requires", head, re.M):
                     yield where + " is public and asks something of its caller"
+        for source in [] if root.exists() else sorted(crate.glob("src/**/*.rt")):
+            for name in re.findall(r"^ *pub fn (\w+)", source.read_text(), re.M):
+                yield "%s: %s is public in a program, which nobody can call" % (source.relative_to(ROOT), name)
         for proof in sorted(crate.glob("**/*.antt")):
             if re.search(r"^ *(axiom|postulate)\b", proof.read_text(), re.M):
                 yield "%s assumes something" % proof.relative_to(ROOT)

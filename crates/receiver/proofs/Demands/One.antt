@@ -9,11 +9,13 @@
 -- The stated case of each number is demand 2's (Two.antt). Here: a number is one of the paper's, a refusal is nothing but its number, and it changes nothing.
 -- Assumes nothing.
 use Prim.Native.Nat.{ℕ, _≤_}
-use mathlib.Core.Path.{_≡_, refl, ap}
+use mathlib.Core.Path.{_≡_, refl, sym, ap, _∙_}
 use mathlib.Core.Bool.{Bool, true, false, cond}
 use mathlib.Core.List.{List, [], _∷_, _++_}
 use native.Mathlib.Omega.{arith}
 use lib.Dec.{eqb, lit≤}
+use lib.ListN.{length}
+use borrow.Author.Tests.{eqb-false}
 use Rattle.wire.specs.Fields.{byteAt}
 use Rattle.wire.specs.Tests.{Tests, firstMet}
 use Rattle.section.specs.declared.Refusal.{Refusal}
@@ -31,13 +33,16 @@ use Rattle.applications.proofs.Laws.Numbers.{read-number}
 use Rattle.messages.specs.declared.Table.{Table}
 use Rattle.messages.specs.declared.Table.the-variants.{Announcements, Blocks}
 use Rattle.messages.specs.Refusals.{messageTests}
-use Rattle.messages.specs.Judged.{tableIn, carouselTests}
-use Rattle.messages.specs.Heard.{Heard, refusal, announced, arrived, heardOf}
+use Rattle.messages.specs.declared.Judged.{Judged}
+use Rattle.messages.specs.declared.Judged.the-variants as judged
+use Rattle.messages.specs.Judged.{readOf, judgedOf, numberOfJudged, tableIn, carouselTests}
+use Rattle.messages.proofs.Exact.{taken-exactly}
+use Rattle.messages.specs.Heard.{Announced, Arrived, Heard, refusal, announced, arrived, heardIn, heardOf}
 use Rattle.carousel.specs.declared.Carousel.{Carousel}
 use Rattle.carousel.specs.declared.Answer.{Answer}
 use Rattle.carousel.specs.declared.Answer.the-variants as answer
-use Rattle.carousel.specs.Record.{Record, recordOf, ruledOf}
-use Rattle.carousel.specs.Step.{heardTests, stepTests, numberOf, steppedOf, imageOf}
+use Rattle.carousel.specs.Record.{Record, recordOf, placeOf, received, ruledOf}
+use Rattle.carousel.specs.Step.{blockRefusal, bytesDiffer, sameAnnounced, Outcome, refusing, new, same, repeated, stored, matched, onArrived, onAnnounced, onHeard, outcomeOf, answerOf, heardTests, stepTests, numberOf, steppedOf, imageOf}
 use Rattle.carousel.proofs.Exact.{step-number}
 use Rattle.carousel.proofs.Steps.{refusal-changes-nothing}
 use Rattle.receiver.specs.declared.Fate.the-variants as fate
@@ -82,7 +87,7 @@ heard-most r image (arrived d) = (lit≤ tt, (lit≤ tt, (lit≤ tt, (lit≤ tt,
 section-most : (b : ℕ) → 6 ≤ b → (rules : Rules) (s : List ℕ) → Most b (sectionTests rules s)
 section-most b l rules s = (omega arith, (omega arith, (omega arith, (omega arith, (omega arith, tt)))))
 
--- of the step one of 1 to 17, of a table one of 2 to 18, of the receiver one of 1 to 18; 0 is no refusal
+-- at most 17 of the step, 18 of a table and of the receiver
 pub step-known : (c : Carousel) (s image : List ℕ) → numberOf (steppedOf c s image .answer) ≤ 17
 step-known c s image =
     let m = most-both 17 (carouselTests s) (heardTests (recordOf c) image (heardOf s))
@@ -101,6 +106,56 @@ take-known c s image = rw (given-number c s image) (go (eqb (byteAt s 0) applica
     go : (t : Bool) → cond t (readNumber s) (firstMet (stepTests c s image)) ≤ 18
     go true = rw (← read-number s) (table-known s)
     go false = let k : firstMet (stepTests c s image) ≤ 17 = rw (← step-number c s image) (step-known c s image) in omega arith
+
+-- and none is 0, which is no refusal: not the judgement's, and not the step's
+read-no-refusal : (t : Table) (b : List ℕ) (r : Refusal) → readOf t b ≡ judged.Refused r → ⊥
+unfolding readOf
+read-no-refusal Announcements b r e = let z : _≡_ {A = ℕ} 0 1 = cc in omega arith
+read-no-refusal Blocks b r e = let z : _≡_ {A = ℕ} 0 1 = cc in omega arith
+
+judged-some : (s : List ℕ) (r : Refusal) → judgedOf s ≡ judged.Refused r → r .number ≡ 0 → ⊥
+judged-some s r e z = read-no-refusal (tableIn s) (bodyOf s) r (sym (taken-exactly s .0 (ap numberOfJudged e ∙ z)) ∙ e)
+
+heard-some : (s : List ℕ) (r : Refusal) → heardOf s ≡ refusal r → r .number ≡ 0 → ⊥
+unfolding heardOf heardIn
+heard-some s r e z = go (judgedOf s) refl e
+  where
+    go : (j : Judged) → judgedOf s ≡ j → heardIn s j ≡ refusal r → ⊥
+    go (judged.Refused n) f e = let q : n ≡ r = cc in judged-some s n f (ap (λ (x : Refusal). x .number) q ∙ z)
+    go (judged.Announced a) f e = let w : _≡_ {A = ℕ} 0 1 = cc in omega arith
+    go (judged.Carried b) f e = let w : _≡_ {A = ℕ} 0 1 = cc in omega arith
+
+arrived-some : (c : Record) (image : List ℕ) (d : Arrived) (r : Refusal) → onArrived c image d ≡ refusing r → r .number ≡ 0 → ⊥
+unfolding onArrived matched
+arrived-some c image d r e z = go (eqb (blockRefusal (c .announced) (length image) d) 0) refl (received c (placeOf (c .announced) (d .number)) (d .block)) (bytesDiffer c image (placeOf (c .announced) (d .number)) d) _ _ e
+  where
+    go : (t : Bool) → eqb (blockRefusal (c .announced) (length image) d) 0 ≡ t → (u w : Bool) (k at : ℕ)
+        → cond t (cond u (cond w (refusing (refused 17)) repeated) (stored k at (d .bytes))) (refusing (refused (blockRefusal (c .announced) (length image) d))) ≡ refusing r → ⊥
+    go true f true true k at e = let q : refused 17 ≡ r = cc in let n = ap (λ (x : Refusal). x .number) q in omega arith
+    go true f true false k at e = let w : _≡_ {A = ℕ} 0 1 = cc in omega arith
+    go true f false w k at e = let v : _≡_ {A = ℕ} 0 1 = cc in omega arith
+    go false f u w k at e = let q : refused (blockRefusal (c .announced) (length image) d) ≡ r = cc in eqb-false _ _ f (ap (λ (x : Refusal). x .number) q ∙ z)
+
+pub step-some : (c : Carousel) (s image : List ℕ) (r : Refusal) → steppedOf c s image .answer ≡ answer.Refused r → r .number ≡ 0 → ⊥
+unfolding steppedOf outcomeOf onHeard onAnnounced
+step-some c s image r e z = go (ruledOf c) (heardOf s) refl e
+  where
+    by : (o : Outcome) → answerOf o ≡ answer.Refused r → o ≡ refusing r
+    by (refusing n) e = let q : n ≡ r = cc in ap refusing q
+    by (new a) e = let w : _≡_ {A = ℕ} 0 1 = cc in absurd (omega arith)
+    by same e = let w : _≡_ {A = ℕ} 0 1 = cc in absurd (omega arith)
+    by repeated e = let w : _≡_ {A = ℕ} 0 1 = cc in absurd (omega arith)
+    by (stored k at bytes) e = let w : _≡_ {A = ℕ} 0 1 = cc in absurd (omega arith)
+
+    told : (t : Bool) (a : Announced) → cond t same (new a) ≡ refusing r → ⊥
+    told true a e = let w : _≡_ {A = ℕ} 0 1 = cc in omega arith
+    told false a e = let w : _≡_ {A = ℕ} 0 1 = cc in omega arith
+
+    go : (t : Bool) (h : Heard) → heardOf s ≡ h → answerOf (cond t (onHeard (recordOf c) image h) (refusing (refused 1))) ≡ answer.Refused r → ⊥
+    go false h f e = let q : refused 1 ≡ r = cc in let n = ap (λ (x : Refusal). x .number) q in omega arith
+    go true (refusal n) f e = let q : n ≡ r = cc in heard-some s n f (ap (λ (x : Refusal). x .number) q ∙ z)
+    go true (announced a) f e = told (sameAnnounced (recordOf c .announced) a) a (by (cond (sameAnnounced (recordOf c .announced) a) same (new a)) e)
+    go true (arrived d) f e = arrived-some (recordOf c) image d r (by (onArrived (recordOf c) image d) e) z
 
 -- what the carousel's answer was, where a fate came of it
 refused-by : (a : Answer) (r : Refusal) → carouselFate a ≡ fate.Refused r → a ≡ answer.Refused r

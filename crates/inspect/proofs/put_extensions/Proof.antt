@@ -1,26 +1,26 @@
--- `put_items` ends.
+-- `put_extensions` ends.
 -- Assumes nothing.
 use borrow.Author.Needs.{needs}
 use Prim.Native.Nat.{_≤_, _-_}
 use mathlib.Core.Path.{_≡_}
 use lib.ListN.{length}
-use Rattle.inspect.proofs.items.put_items.Statement.{statement}
-use Rattle.inspect.proofs.items.put_items.Tie as tie
+use Rattle.inspect.proofs.put_extensions.Statement.{statement}
+use Rattle.inspect.proofs.put_extensions.Tie as tie
 
 abbrev Inv-loop : tie.InvT-loop
-Inv-loop out₀ at s holder what count end₀ k₀ out end k = (k ≤ count) × (length out ≡ length out₀)
+Inv-loop out₀ at s holder k count end₀ m₀ out end m = (m ≤ count) × (length out ≡ length out₀)
 
 abbrev μ-loop : tie.MeasureT-loop
-μ-loop out₀ at s holder what count end₀ k₀ out end k = count - k
+μ-loop out₀ at s holder k count end₀ m₀ out end m = count - m
 
 loop-holds : tie.Need-loop-holds Inv-loop μ-loop
 loop-holds c = search needs
 
-put-item-at-requires : tie.Need-put-item-at-requires Inv-loop μ-loop
-put-item-at-requires c κs = search needs
+put-extension-requires : tie.Need-put-extension-requires Inv-loop μ-loop
+put-extension-requires c κs = search needs
 
-add-k : tie.Need-add-k Inv-loop μ-loop
-add-k c = search needs
+add-m : tie.Need-add-m Inv-loop μ-loop
+add-m c = search needs
 
 loop-less : tie.Need-loop-less Inv-loop μ-loop
 loop-less c = search needs
@@ -34,15 +34,15 @@ same-length c = search needs
 returns : tie.Need-returns Inv-loop μ-loop
 returns c = search needs
 
-pub put-items-spec : {M : Type 1} → statement M
-put-items-spec =
+pub put-extensions-spec : {M : Type 1} → statement M
+put-extensions-spec =
     tie.close
     (tie.spec
     Inv-loop
     μ-loop
     loop-holds
-    put-item-at-requires
-    add-k
+    put-extension-requires
+    add-m
     loop-less
     loop-again
     same-length

@@ -1,26 +1,26 @@
--- `put_extensions` ends.
+-- `put_descriptors` ends.
 -- Assumes nothing.
 use borrow.Author.Needs.{needs}
 use Prim.Native.Nat.{_≤_, _-_}
 use mathlib.Core.Path.{_≡_}
 use lib.ListN.{length}
-use Rattle.inspect.proofs.items.put_extensions.Statement.{statement}
-use Rattle.inspect.proofs.items.put_extensions.Tie as tie
+use Rattle.inspect.proofs.put_descriptors.Statement.{statement}
+use Rattle.inspect.proofs.put_descriptors.Tie as tie
 
 abbrev Inv-loop : tie.InvT-loop
-Inv-loop out₀ at s holder k count end₀ m₀ out end m = (m ≤ count) × (length out ≡ length out₀)
+Inv-loop out₀ at s scope count end₀ j₀ out end j = (j ≤ count) × (length out ≡ length out₀)
 
 abbrev μ-loop : tie.MeasureT-loop
-μ-loop out₀ at s holder k count end₀ m₀ out end m = count - m
+μ-loop out₀ at s scope count end₀ j₀ out end j = count - j
 
 loop-holds : tie.Need-loop-holds Inv-loop μ-loop
 loop-holds c = search needs
 
-put-extension-requires : tie.Need-put-extension-requires Inv-loop μ-loop
-put-extension-requires c κs = search needs
+put-descriptor-requires : tie.Need-put-descriptor-requires Inv-loop μ-loop
+put-descriptor-requires c κs = search needs
 
-add-m : tie.Need-add-m Inv-loop μ-loop
-add-m c = search needs
+add-j : tie.Need-add-j Inv-loop μ-loop
+add-j c = search needs
 
 loop-less : tie.Need-loop-less Inv-loop μ-loop
 loop-less c = search needs
@@ -34,15 +34,15 @@ same-length c = search needs
 returns : tie.Need-returns Inv-loop μ-loop
 returns c = search needs
 
-pub put-extensions-spec : {M : Type 1} → statement M
-put-extensions-spec =
+pub put-descriptors-spec : {M : Type 1} → statement M
+put-descriptors-spec =
     tie.close
     (tie.spec
     Inv-loop
     μ-loop
     loop-holds
-    put-extension-requires
-    add-m
+    put-descriptor-requires
+    add-j
     loop-less
     loop-again
     same-length

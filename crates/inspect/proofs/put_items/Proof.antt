@@ -1,26 +1,26 @@
--- `put_applications` ends.
+-- `put_items` ends.
 -- Assumes nothing.
 use borrow.Author.Needs.{needs}
 use Prim.Native.Nat.{_≤_, _-_}
 use mathlib.Core.Path.{_≡_}
 use lib.ListN.{length}
-use Rattle.inspect.proofs.tables.put_applications.Statement.{statement}
-use Rattle.inspect.proofs.tables.put_applications.Tie as tie
+use Rattle.inspect.proofs.put_items.Statement.{statement}
+use Rattle.inspect.proofs.put_items.Tie as tie
 
 abbrev Inv-loop : tie.InvT-loop
-Inv-loop out₀ at s count end₀ i₀ out end i = (i ≤ count) × (length out ≡ length out₀)
+Inv-loop out₀ at s holder what count end₀ k₀ out end k = (k ≤ count) × (length out ≡ length out₀)
 
 abbrev μ-loop : tie.MeasureT-loop
-μ-loop out₀ at s count end₀ i₀ out end i = count - i
+μ-loop out₀ at s holder what count end₀ k₀ out end k = count - k
 
 loop-holds : tie.Need-loop-holds Inv-loop μ-loop
 loop-holds c = search needs
 
-put-application-requires : tie.Need-put-application-requires Inv-loop μ-loop
-put-application-requires c κs = search needs
+put-item-at-requires : tie.Need-put-item-at-requires Inv-loop μ-loop
+put-item-at-requires c κs = search needs
 
-add-i : tie.Need-add-i Inv-loop μ-loop
-add-i c = search needs
+add-k : tie.Need-add-k Inv-loop μ-loop
+add-k c = search needs
 
 loop-less : tie.Need-loop-less Inv-loop μ-loop
 loop-less c = search needs
@@ -34,15 +34,15 @@ same-length c = search needs
 returns : tie.Need-returns Inv-loop μ-loop
 returns c = search needs
 
-pub put-applications-spec : {M : Type 1} → statement M
-put-applications-spec =
+pub put-items-spec : {M : Type 1} → statement M
+put-items-spec =
     tie.close
     (tie.spec
     Inv-loop
     μ-loop
     loop-holds
-    put-application-requires
-    add-i
+    put-item-at-requires
+    add-k
     loop-less
     loop-again
     same-length

@@ -1,26 +1,26 @@
--- `put_descriptors` ends.
+-- `put_applications` ends.
 -- Assumes nothing.
 use borrow.Author.Needs.{needs}
 use Prim.Native.Nat.{_≤_, _-_}
 use mathlib.Core.Path.{_≡_}
 use lib.ListN.{length}
-use Rattle.inspect.proofs.loops.put_descriptors.Statement.{statement}
-use Rattle.inspect.proofs.loops.put_descriptors.Tie as tie
+use Rattle.inspect.proofs.put_applications.Statement.{statement}
+use Rattle.inspect.proofs.put_applications.Tie as tie
 
 abbrev Inv-loop : tie.InvT-loop
-Inv-loop out₀ at s scope count end₀ j₀ out end j = (j ≤ count) × (length out ≡ length out₀)
+Inv-loop out₀ at s count end₀ i₀ out end i = (i ≤ count) × (length out ≡ length out₀)
 
 abbrev μ-loop : tie.MeasureT-loop
-μ-loop out₀ at s scope count end₀ j₀ out end j = count - j
+μ-loop out₀ at s count end₀ i₀ out end i = count - i
 
 loop-holds : tie.Need-loop-holds Inv-loop μ-loop
 loop-holds c = search needs
 
-put-descriptor-requires : tie.Need-put-descriptor-requires Inv-loop μ-loop
-put-descriptor-requires c κs = search needs
+put-application-requires : tie.Need-put-application-requires Inv-loop μ-loop
+put-application-requires c κs = search needs
 
-add-j : tie.Need-add-j Inv-loop μ-loop
-add-j c = search needs
+add-i : tie.Need-add-i Inv-loop μ-loop
+add-i c = search needs
 
 loop-less : tie.Need-loop-less Inv-loop μ-loop
 loop-less c = search needs
@@ -34,15 +34,15 @@ same-length c = search needs
 returns : tie.Need-returns Inv-loop μ-loop
 returns c = search needs
 
-pub put-descriptors-spec : {M : Type 1} → statement M
-put-descriptors-spec =
+pub put-applications-spec : {M : Type 1} → statement M
+put-applications-spec =
     tie.close
     (tie.spec
     Inv-loop
     μ-loop
     loop-holds
-    put-descriptor-requires
-    add-j
+    put-application-requires
+    add-i
     loop-less
     loop-again
     same-length

@@ -4,8 +4,8 @@ use borrow.Author.Needs.{needs}
 use Prim.Native.Nat.{_≤_, _-_}
 use mathlib.Core.Path.{_≡_}
 use lib.ListN.{length}
-use Rattle.inspect.proofs.page.put_fields.Statement.{statement}
-use Rattle.inspect.proofs.page.put_fields.Tie as tie
+use Rattle.inspect.proofs.put_fields.Statement.{statement}
+use Rattle.inspect.proofs.put_fields.Tie as tie
 
 abbrev Inv-loop : tie.InvT-loop
 Inv-loop out₀ at numbers end₀ i₀ out end i = (i ≤ length numbers) × (length out ≡ length out₀)
