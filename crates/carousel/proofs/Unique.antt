@@ -20,6 +20,8 @@ use Rattle.carousel.proofs.step.Kinds as step-kinds
 use Rattle.carousel.proofs.step.Reads as step-reads
 use Rattle.carousel.proofs.handout_number.Kinds as handout-number-kinds
 use Rattle.carousel.proofs.handout_number.Reads as handout-number-reads
+use Rattle.carousel.proofs.handout_place.Kinds as handout-place-kinds
+use Rattle.carousel.proofs.handout_place.Reads as handout-place-reads
 use Rattle.carousel.proofs.handout.Kinds as handout-kinds
 use Rattle.carousel.proofs.handout.Reads as handout-reads
 use Rattle.carousel.proofs.missing.Kinds as missing-kinds
@@ -33,6 +35,9 @@ empty κs a x y s t p q = p ∙ sym q
 
 handout-number : OneAnswer 1 handout-number-kinds.ps handout-number-kinds.r handout-number-reads.Post
 handout-number κs a x y s t p q = p ∙ sym q
+
+handout-place : OneAnswer 1 handout-place-kinds.ps handout-place-kinds.r handout-place-reads.Post
+handout-place κs a x y s t p q = p .0 ∙ sym (q .0)
 
 missing : OneAnswer 0 missing-kinds.ps missing-kinds.r missing-reads.Post
 missing κs a x y s t p q = p .0 ∙ sym (q .0)

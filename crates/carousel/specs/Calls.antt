@@ -4,14 +4,15 @@ use Prim.Native.Nat.{ℕ, suc, _+_}
 use mathlib.Core.Bool.{Bool, true, false, not, cond}
 use mathlib.Core.List.{List, [], _∷_}
 use lib.Dec.{eqb}
-use lib.ListN.{length}
+use lib.ListN.{length, getD}
 use Rattle.wire.specs.Tests.{Tests, firstMet}
 use Rattle.section.specs.Answer.{refused}
 use Rattle.carousel.specs.declared.Carousel.{Carousel}
+use Rattle.carousel.specs.declared.Handed.{Handed}
 use Rattle.carousel.specs.declared.Report.{Report}
 use Rattle.carousel.specs.declared.Report.the-variants as report
 use Rattle.carousel.specs.declared.Lack.{Lack}
-use Rattle.carousel.specs.Record.{recordOf, announcedBy, placeOf, completeOf, missingOf, partOf, ruledOf}
+use Rattle.carousel.specs.Record.{recordOf, announcedBy, startsBy, moduleAt, placeOf, completeOf, missingOf, partOf, ruledOf}
 use Rattle.carousel.specs.Step.{meets13, meets15}
 
 -- "Hand-out can answer 1, 13, 15, 20": 20 "module not complete"
@@ -22,6 +23,12 @@ handoutTests c image number =
 
 unfoldable pub handoutNumber : Carousel → List ℕ → (number : ℕ) → ℕ
 handoutNumber c image number = firstMet (handoutTests c image number)
+
+-- where in the image that part lies: its start in the record, and its size; nothing, at 0, on a refusal
+unfoldable pub handoutPlace : Carousel → List ℕ → (number : ℕ) → Handed
+handoutPlace c image number = cond (eqb (handoutNumber c image number) 0)
+    (record { number = 0; start = getD (startsBy c) (placeOf (announcedBy c) number) 0; size = moduleAt (announcedBy c) (placeOf (announcedBy c) number) .size })
+    (record { number = handoutNumber c image number; start = 0; size = 0 })
 
 -- "A complete module is handed out as its part of the image. .. where that is a refusal, the part is empty"
 unfoldable pub handedOut : Carousel → List ℕ → (number : ℕ) → List ℕ

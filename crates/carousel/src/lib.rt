@@ -24,14 +24,16 @@ use store::refuse;
 use store::take_block;
 ghost use mathlib.Core.Path.{_≡_};
 ghost use mathlib.Core.Bool.{true};
-ghost use Prim.Native.Nat.{_<_};
+ghost use Prim.Native.Nat.{_+_, _<_, _≤_};
+ghost use lib.ListN.{length, take, drop};
 ghost use Rattle.carousel.specs.Record.{announcedBy, recordOf, placeOf, missingOf, ruledOf};
 ghost use Rattle.carousel.specs.Changes.{emptyRecord};
 ghost use Rattle.wire.specs.Tests.{firstMet};
 ghost use Rattle.carousel.specs.Step.{steppedOf, imageOf, numberOf, stepTests};
-ghost use Rattle.carousel.specs.Calls.{lackOf, handoutNumber, handedOut, missingNumber, reportOf, numberOfReport};
+ghost use Rattle.carousel.specs.Calls.{lackOf, handoutNumber, handoutPlace, handedOut, missingNumber, reportOf, numberOfReport};
 
-// An announced module, and where it starts in the image.
+// An announced module, and where it starts in the image. This and the record have C's layout: programs in C hold them.
+#[repr(C)]
 pub struct Module {
     pub number: u16,
     pub size: u32,
@@ -39,6 +41,7 @@ pub struct Module {
     pub start: u32,
 }
 
+#[repr(C)]
 pub struct Carousel {
     pub download: u32,
     pub block_size: u16,
@@ -59,6 +62,13 @@ pub enum Answer {
 pub struct Stepped {
     pub answer: Answer,
     pub state: Carousel,
+}
+
+// The hand-out's number, and where in the image the module lies.
+pub struct Handed {
+    pub number: u8,
+    pub start: usize,
+    pub size: usize,
 }
 
 // How many blocks are missing, and the lowest of them.
@@ -154,18 +164,37 @@ pub fn handout_number(c: Carousel, image: &[u8], number: u16) -> u8
     0
 }
 
-// The module's part of the image where it is handed out, else an empty one.
-pub fn handout<'a>(c: Carousel, image: &'a [u8], number: u16) -> &'a [u8]
-    ensures { λ r. ⌜ now r ≡ handedOut c (now (image .entry)) number ⌝ }
+// The same number, and where in the image the module lies; nothing, at 0, on a refusal.
+pub fn handout_place(c: Carousel, image: &[u8], number: u16) -> Handed
+    ensures { λ r. ⌜ (r ≡ handoutPlace c (now (image .entry)) number)
+        × (r .start + r .size ≤ length (now (image .entry)))
+        × (take (r .size) (drop (r .start) (now (image .entry))) ≡ handedOut c (now (image .entry)) number) ⌝ }
 {
-    if handout_number(c, image, number) != 0 {
-        return &image[..0];
+    let refusal = handout_number(c, image, number);
+    if refusal != 0 {
+        return Handed {
+            number: refusal,
+            start: 0,
+            size: 0,
+        };
     }
     let ms = c.modules;
     let i = place_from(ms, c.count as usize, 0, number);
     let m = ms[i];
-    let at = m.start as usize;
-    let e = at + m.size as usize;
+    Handed {
+        number: 0,
+        start: m.start as usize,
+        size: m.size as usize,
+    }
+}
+
+// The module's part of the image where it is handed out, else an empty one.
+pub fn handout<'a>(c: Carousel, image: &'a [u8], number: u16) -> &'a [u8]
+    ensures { λ r. ⌜ now r ≡ handedOut c (now (image .entry)) number ⌝ }
+{
+    let h = handout_place(c, image, number);
+    let at = h.start;
+    let e = at + h.size;
     &image[at..e]
 }
 

@@ -6,16 +6,17 @@ use mathlib.Core.Bool.{Bool, true, false, cond}
 use mathlib.Core.List.{List, [], _∷_}
 use native.Mathlib.Omega.{arith}
 use lib.Dec.{eqb}
-use lib.ListN.{length}
+use lib.ListN.{length, getD}
 use borrow.Author.Tests.{eq-eqb, ne-eqb, eqb-true, lt-ltb, le-ltb, ltb-true, ltb-false, not-false}
 use Rattle.wire.specs.Tests.{firstMet}
 use Rattle.wire.proofs.Laws.Order.{none-exactly}
 use Rattle.section.specs.Answer.{refused}
 use Rattle.carousel.specs.declared.Carousel.{Carousel}
+use Rattle.carousel.specs.declared.Handed.{Handed}
 use Rattle.carousel.specs.declared.Report.the-variants as report
-use Rattle.carousel.specs.Record.{announcedBy, recordOf, placeOf, bytesOf, missingOf, partOf, ruledOf}
+use Rattle.carousel.specs.Record.{announcedBy, recordOf, startsBy, moduleAt, placeOf, bytesOf, missingOf, partOf, ruledOf}
 use Rattle.carousel.specs.Step.{meets13, meets15}
-use Rattle.carousel.specs.Calls.{handoutTests, handoutNumber, handedOut, missingNumber, lackOf, reportOn, reportOf, numberOfReport}
+use Rattle.carousel.specs.Calls.{handoutTests, handoutNumber, handoutPlace, handedOut, missingNumber, lackOf, reportOn, reportOf, numberOfReport}
 
 -- how many, and none
 pub lack-count : (bs : List ℕ) → lackOf bs .count ≡ length bs
@@ -118,3 +119,12 @@ module _ (c : Carousel) (number : ℕ) where
     pub out-part : handoutNumber c image number ≡ 0 → handedOut c image number ≡ partOf (recordOf c) image place
     unfolding handedOut
     out-part e = rw (eq-eqb (handoutNumber c image number) 0 e)
+
+    -- where it lies
+    pub place-none : (handoutNumber c image number ≡ 0 → ⊥) → handoutPlace c image number ≡ record { number = handoutNumber c image number; start = 0; size = 0 }
+    unfolding handoutPlace
+    place-none n = rw (ne-eqb (handoutNumber c image number) 0 n)
+
+    pub place-part : handoutNumber c image number ≡ 0 → handoutPlace c image number ≡ record { number = 0; start = getD (startsBy c) place 0; size = moduleAt (announcedBy c) place .size }
+    unfolding handoutPlace
+    place-part e = rw (eq-eqb (handoutNumber c image number) 0 e)

@@ -1,94 +1,14 @@
--- `carousel::handout` meets its contract: what is handed out lies in the image, at its start.
+-- `carousel::handout` meets its contract: the part that `handout_place` names.
 -- Assumes nothing.
-use Prim.Native.Nat.{_+_, _-_, _≤_, _<_}
-use mathlib.Core.Path.{_≡_, sym, ap, _∙_}
-use mathlib.Core.Bool.{true}
+use Prim.Native.Nat.{_+_, _-_}
+use mathlib.Core.Path.{_≡_}
 use native.Mathlib.Omega.{arith}
-use lib.ListN.{length, getD, length-map}
-use Rattle.messages.specs.declared.Listed.{Listed}
-use Rattle.carousel.specs.declared.Module.{Module}
-use Rattle.carousel.specs.Record.{announcedBy, recordOf, startsBy, moduleAt, placeOf, bytesOf, partOf, unused, ruledOf}
-use Rattle.carousel.proofs.Laws.Rule.{kept, ruled-says, ruled-count}
-use Rattle.carousel.proofs.Laws.Says.{says-count, says-module, says-start}
-use Rattle.carousel.proofs.Laws.Calls.{given-out, out-none, out-part}
-use Rattle.carousel.proofs.View.{modules-inside}
 use borrow.Author.Needs.{needs}
 use Rattle.carousel.proofs.handout.Statement.{statement}
 use Rattle.carousel.proofs.handout.Tie as tie
 
-sixteen : (s : tie.Start) → length (s .args .c .modules) ≡ 16
-sixteen s = sym (length-map (s .args .c .modules) _) ∙ s .good .0 .1 .1 .1 .1 .1 .0 .1 .0 .1
-
-given : (c : tie.Else1) → let s = c .before .before .before in
-    (ruledOf (s .args .c) ≡ true) × (placeOf (announcedBy (s .args .c)) (s .args .number) < length (announcedBy (s .args .c) .modules)) × (bytesOf (announcedBy (s .args .c)) ≤ length (s .args .image .now))
-given c = let s = c .before .before .before in given-out (s .args .c) (s .args .number) (s .args .image .now) (sym (c .before .handout-number .ensures) ∙ c .if1 .left)
-
-few : (c : tie.Else1) → c .before .before .before .args .c .count ≤ 16
-few c = ruled-count (c .before .before .before .args .c) (given c .0)
-
-place : (c : tie.After-place-from) → c .place-from .result ≡ placeOf (announcedBy (c .before .before .before .before .before .before .args .c)) (c .before .before .before .before .before .before .args .number)
-unfolding announcedBy
-place c = let e = c .place-from .ensures .0 in omega arith
-
-found : (c : tie.After-place-from) → c .place-from .result < c .before .before .before .before .before .before .args .c .count
-found c =
-    let s = c .before .before .before .before .before .before in
-    let p = place c in
-    let n = says-count (s .args .c) (sixteen s) (few (c .before .before .before)) in
-    omega (arith, given (c .before .before .before) .1)
-
--- the entry that was found
-abbrev entry : tie.After-place-from → Module
-entry c = getD (c .before .before .before .before .before .before .args .c .modules) (c .place-from .result) unused
-
-size-of : (c : tie.After-place-from) → moduleAt (announcedBy (c .before .before .before .before .before .before .args .c)) (placeOf (announcedBy (c .before .before .before .before .before .before .args .c)) (c .before .before .before .before .before .before .args .number)) .size ≡ entry c .size
-size-of c =
-    let s = c .before .before .before .before .before .before in
-    ap (λ i. moduleAt (announcedBy (s .args .c)) i .size) (sym (place c)) ∙ ap (λ (m : Listed). m .size) (says-module (s .args .c) (sixteen s) (few (c .before .before .before)) (c .place-from .result) (found c))
-
-start-of : (c : tie.After-place-from) → getD (startsBy (c .before .before .before .before .before .before .args .c)) (placeOf (announcedBy (c .before .before .before .before .before .before .args .c)) (c .before .before .before .before .before .before .args .number)) 0 ≡ entry c .start
-start-of c =
-    let s = c .before .before .before .before .before .before in
-    ap (λ i. getD (startsBy (s .args .c)) i 0) (sym (place c)) ∙ says-start (s .args .c) (sixteen s) (few (c .before .before .before)) (c .place-from .result) (found c)
-
-inside : (c : tie.After-place-from) → entry c .start + entry c .size ≤ length (c .before .before .before .before .before .before .args .image .now)
-inside c =
-    let s = c .before .before .before .before .before .before in
-    let g = given (c .before .before .before) in
-    let u = g .1 in
-    let r = g .2 in
-    let k = kept (recordOf (s .args .c)) (omega arith) (ruled-says (s .args .c) (g .0)) in
-    let i = modules-inside (recordOf (s .args .c)) k _ u in
-    let z = size-of c in
-    let a = start-of c in
-    omega arith
-
-handout-number-requires : tie.Need-handout-number-requires
-handout-number-requires c κs = search needs
-
-slice-aggregate-result : tie.Need-slice-aggregate-result
-slice-aggregate-result c = search needs
-
-returns : tie.Need-returns
-returns c = let s = c .before .before .before .before in sym (out-none (s .args .c) (s .args .number) (s .args .image .now) (λ e. c .before .if1 .taken (c .before .before .handout-number .ensures ∙ e)))
-
-cast-place-from : tie.Need-cast-place-from
-cast-place-from c = search needs
-
-place-from-requires : tie.Need-place-from-requires
-place-from-requires c κs = (few (c .before .before), omega arith)
-
-mul-m : tie.Need-mul-m
-mul-m c = search needs
-
-array-copy-out-m : tie.Need-array-copy-out-m
-array-copy-out-m c = let n = few (c .before .before .before) in let f = found c in omega arith
-
-cast-at : tie.Need-cast-at
-cast-at c = search needs
-
-cast-e : tie.Need-cast-e
-cast-e c = search needs
+handout-place-requires : tie.Need-handout-place-requires
+handout-place-requires c κs = search needs
 
 add-e : tie.Need-add-e
 add-e c = search needs
@@ -100,32 +20,15 @@ part-result-start : tie.Need-part-result-start
 part-result-start c = search needs
 
 part-result-end : tie.Need-part-result-end
-part-result-end c = let i = inside (c .before .before .before) in omega arith
+part-result-end c = search needs
 
-returns-2 : tie.Need-returns-2
-unfolding partOf
-returns-2 c =
-    let s = c .before .before .before .before .before .before .before .before .before .before in
-    let p = c .before .before .before .before in
-    let n : entry p .start + entry p .size - entry p .start ≡ entry p .size = omega arith in
-    let o = out-part (s .args .c) (s .args .number) (s .args .image .now) (sym (c .before .before .before .before .before .before .before .before .handout-number .ensures) ∙ c .before .before .before .before .before .before .before .if1 .left) in
-    rw (o, size-of p, start-of p, n)
+returns : tie.Need-returns
+returns c =
+    let h = c .before .before .handout-place in
+    let n : h .result .start + h .result .size - h .result .start ≡ h .result .size = omega arith in
+    rw n (h .ensures .2)
 
 pub handout-spec : {M : Type 1} → statement M
 handout-spec =
     tie.close
-    (tie.spec
-    handout-number-requires
-    slice-aggregate-result
-    returns
-    cast-place-from
-    place-from-requires
-    mul-m
-    array-copy-out-m
-    cast-at
-    cast-e
-    add-e
-    sub-result
-    part-result-start
-    part-result-end
-    returns-2)
+    (tie.spec handout-place-requires add-e sub-result part-result-start part-result-end returns)
