@@ -13,6 +13,8 @@ use Rattle.receiver.specs.declared.Ran.{Ran}
 use Rattle.receiver.specs.Run.{ranOf, imageRan}
 use Rattle.receiver.proofs.take.Kinds as take-kinds
 use Rattle.receiver.proofs.take.Reads as take-reads
+use Rattle.receiver.proofs.carousel_fate.Kinds as carousel-fate-kinds
+use Rattle.receiver.proofs.carousel_fate.Reads as carousel-fate-reads
 use Rattle.receiver.proofs.run.Kinds as run-kinds
 use Rattle.receiver.proofs.run.Reads as run-reads
 
@@ -22,6 +24,9 @@ take κs a x y s t p q = p .0 ∙ sym (q .0)
 take-image : (κs : Lfts 2) (a : Dens κs take-kinds.ps) (x y : resT take-kinds.r κs .Denot) (s t : AtExit (endedOf 2 take-kinds.ps take-kinds.r) κs)
     → take-reads.Post κs a x s → take-reads.Post κs a y t → s .1 .1 .0 .now ≡ t .1 .1 .0 .now
 take-image κs a x y s t p q = p .1 ∙ sym (q .1)
+
+carousel-fate : OneAnswer 0 carousel-fate-kinds.ps carousel-fate-kinds.r carousel-fate-reads.Post
+carousel-fate κs a x y s t p q = p ∙ sym q
 
 run : OneAnswer 2 run-kinds.ps run-kinds.r run-reads.Post
 run κs a x y s t p q = p .0 ∙ sym (q .0)

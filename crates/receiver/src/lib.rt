@@ -102,6 +102,19 @@ pub fn take(c: Carousel, stretch: &[u8], image: &mut [u8], budget: usize) -> Too
     }
 }
 
+// What an answer of the carousel makes of a section.
+pub fn carousel_fate(a: Answer) -> Fate
+    ensures { λ r. ⌜ r ≡ carouselFate a ⌝ }
+{
+    match a {
+        Answer::New => Fate::New,
+        Answer::Same => Fate::Same,
+        Answer::Stored => Fate::Stored,
+        Answer::Repeated => Fate::Repeated,
+        Answer::Refused(r) => Fate::Refused(r),
+    }
+}
+
 // The run: sections are taken until there is a reason to stop.
 pub fn run(c: Carousel, stretch: &[u8], image: &mut [u8], budget: usize) -> Ran
     ensures { λ r. ⌜ (r ≡ ranOf c (now (stretch .entry)) (now (image .entry)) budget)
@@ -220,17 +233,5 @@ fn table_fate(s: &[u8]) -> Fate
     match applications::read(s) {
         ReadAnswer::Refused(r) => Fate::Refused(r),
         ReadAnswer::Accepted(_) => Fate::Table,
-    }
-}
-
-fn carousel_fate(a: Answer) -> Fate
-    ensures { λ r. ⌜ r ≡ carouselFate a ⌝ }
-{
-    match a {
-        Answer::New => Fate::New,
-        Answer::Same => Fate::Same,
-        Answer::Stored => Fate::Stored,
-        Answer::Repeated => Fate::Repeated,
-        Answer::Refused(r) => Fate::Refused(r),
     }
 }

@@ -25,10 +25,15 @@ use Rattle.section.specs.declared.Rules.the-variants.{Carousel as Carousels}
 use Rattle.section.specs.declared.Header.{Header}
 use Rattle.section.specs.Header.{applicationTable, headerOf, bodyOf}
 use Rattle.section.specs.Refusals.{sectionTests}
-use Rattle.section.specs.Answer.{refused}
-use Rattle.descriptors.specs.Body.{bodyTests}
-use Rattle.applications.specs.Acceptance.{applicationTests}
-use Rattle.applications.specs.Answers.{readAnswer, readNumber, numberOfRead}
+use Rattle.section.specs.declared.Checked.{Checked}
+use Rattle.section.specs.declared.Checked.the-variants as checked
+use Rattle.section.specs.Answer.{refused, checkedOf, onChecked}
+use Rattle.section.proofs.Laws.Exact.{refused-has}
+use Rattle.descriptors.specs.Body.{bodyTests, bodyRefusal}
+use Rattle.applications.specs.declared.ReadAnswer.{ReadAnswer}
+use Rattle.applications.specs.declared.ReadAnswer.the-variants as reading
+use Rattle.applications.specs.Acceptance.{applicationTests, judgedOf as tableJudged}
+use Rattle.applications.specs.Answers.{tableOf, readAnswer, readNumber, numberOfRead}
 use Rattle.applications.proofs.Laws.Numbers.{read-number}
 use Rattle.messages.specs.declared.Table.{Table}
 use Rattle.messages.specs.declared.Table.the-variants.{Announcements, Blocks}
@@ -48,7 +53,7 @@ use Rattle.carousel.proofs.Steps.{refusal-changes-nothing}
 use Rattle.receiver.specs.declared.Fate.the-variants as fate
 use Rattle.receiver.specs.declared.Given.{Given}
 use Rattle.receiver.specs.declared.Stop.the-variants as stop
-use Rattle.receiver.specs.Run.{tableFate, carouselFate, givenOf, imageGiven, runOf, halted}
+use Rattle.receiver.specs.Run.{readFate, tableFate, carouselFate, givenOf, imageGiven, runOf, halted}
 use Rattle.receiver.specs.Run.{numberOf as receiverNumber}
 use Rattle.receiver.proofs.Laws.Runs.{run-state}
 use Rattle.receiver.proofs.Laws.Takes.{given-number}
@@ -168,6 +173,39 @@ refused-by (answer.Refused n) r e = ap answer.Refused (same e)
   where
     same : fate.Refused n ≡ fate.Refused r → n ≡ r
     same e = cc
+
+-- of a table
+pub table-some : (s : List ℕ) (r : Refusal) → readAnswer s ≡ reading.Refused r → r .number ≡ 0 → ⊥
+unfolding readAnswer tableJudged
+table-some s r e z = go (checkedOf Application s) refl e
+  where
+    same : (n : Refusal) → reading.Refused n ≡ reading.Refused r → n .number ≡ 0
+    same n e = let q : n ≡ r = cc in ap (λ (x : Refusal). x .number) q ∙ z
+
+    body : (t : Bool) (n : ℕ) (h : Header) → eqb n 0 ≡ t
+        → onChecked (cond t (checked.Accepted h) (checked.Refused (refused n))) (λ x. reading.Refused x) (λ x. reading.Accepted (tableOf x s)) ≡ reading.Refused r → ⊥
+    body true n h f e = let w : _≡_ {A = ℕ} 0 1 = cc in omega arith
+    body false n h f e = eqb-false n 0 f (same (refused n) e)
+
+    go : (k : Checked) → checkedOf Application s ≡ k
+        → onChecked (onChecked k (λ x. checked.Refused x) (λ h. cond (eqb (bodyRefusal (bodyOf s)) 0) (checked.Accepted h) (checked.Refused (refused (bodyRefusal (bodyOf s))))))
+          (λ x. reading.Refused x) (λ x. reading.Accepted (tableOf x s)) ≡ reading.Refused r → ⊥
+    go (checked.Refused n) f e = let b = refused-has Application s n f in let q = same n e in let m = ap (λ (x : Refusal). x .number) (b .0) in omega (arith, b .1)
+    go (checked.Accepted h) f e = body (eqb (bodyRefusal (bodyOf s)) 0) (bodyRefusal (bodyOf s)) h refl e
+
+table-refused : (a : ReadAnswer) (r : Refusal) → readFate a ≡ fate.Refused r → a ≡ reading.Refused r
+unfolding readFate
+table-refused (reading.Refused n) r e = let q : n ≡ r = cc in ap reading.Refused q
+table-refused (reading.Accepted t) r e = let w : _≡_ {A = ℕ} 0 1 = cc in absurd (omega arith)
+
+-- and so of whatever section is taken
+pub take-some : (c : Carousel) (s image : List ℕ) (r : Refusal) → givenOf c s image .fate ≡ fate.Refused r → r .number ≡ 0 → ⊥
+unfolding givenOf
+take-some c s image r e z = go (eqb (byteAt s 0) applicationTable) e
+  where
+    go : (t : Bool) → cond {A = Given} t (record { fate = tableFate s; state = c }) (record { fate = carouselFate (steppedOf c s image .answer); state = steppedOf c s image .state }) .fate ≡ fate.Refused r → ⊥
+    go true e = table-some s r (table-refused (readAnswer s) r e) z
+    go false e = step-some c s image r (refused-by (steppedOf c s image .answer) r e) z
 
 module _ (c : Carousel) (s image : List ℕ) where
   -- A REFUSAL CHANGES NEITHER RECORD NOR IMAGE, of any record and image: the step's, and the receiver's
