@@ -1,6 +1,6 @@
 #!/usr/bin/env python3
 """Demand 1's list: every public call of every library is in docs/PROMISES.md under "Every public call", with two wrong answers, and no other is;
-and each has its theorem in its crate's proofs/Unique.antt, over the prover's reading of its contract, or by its equations where the prover has none (entries in place)."""
+and each has its theorem in its crate's proofs/Unique.antt, over the prover's reading of its contract, or by its equations where the prover has none (entries behind a reference)."""
 import re
 import sys
 from collections import Counter
@@ -11,13 +11,13 @@ PUBLIC = re.compile(r"^pub (?:extern \"C\" )?fn (\w+)(?:<[^>]*>)?\((.*?)\)", re.
 
 
 def public_calls():
-    """crate::name, and whether it takes a record in place. Public are the functions of src/lib.rt, and those that it names by `pub use`."""
+    """crate::name, and whether it takes a record behind a reference. Public are the functions of src/lib.rt, and those that it names by `pub use`."""
     for root in sorted(ROOT.glob("crates/*/src/lib.rt")):
         named = set(re.findall(r"^pub use \w+::(\w+);", root.read_text(), re.M))
         for source in sorted(root.parent.rglob("*.rt")):
             for name, parameters in PUBLIC.findall(source.read_text()):
                 if source == root or name in named:
-                    yield root.parent.parent.name, name, re.search(r"&mut [A-Z]", parameters) is not None
+                    yield root.parent.parent.name, name, re.search(r"&(?:mut )?[A-Z]", parameters) is not None
 
 
 def listed_calls():
@@ -29,7 +29,8 @@ def listed_calls():
 def unproved(calls):
     for crate, name, in_place in calls:
         theorems = (ROOT / "crates" / crate / "proofs" / "Unique.antt").read_text()
-        if not (re.search(r"\.%s\.Reads as " % name, theorems) or in_place and "in-place-by-value" in theorems):
+        stated = re.search(r"^ *pub %s :" % name.replace("_", "-"), theorems, re.M) or "in-place-by-value" in theorems
+        if not (re.search(r"\.%s\.Reads as " % name, theorems) or in_place and stated):
             yield "%s::%s" % (crate, name)
 
 

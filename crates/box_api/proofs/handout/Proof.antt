@@ -1,0 +1,14 @@
+-- `box_api::handout` meets its contract, the place that the carousel names.
+-- Assumes nothing.
+use borrow.Author.Needs.{needs}
+use Rattle.box_api.proofs.handout.Statement.{statement}
+use Rattle.box_api.proofs.handout.Tie as tie
+
+handout-place-requires : tie.Need-handout-place-requires
+handout-place-requires c κs = search needs
+
+returns : tie.Need-returns
+returns c = (rw (c .handout-place .ensures .0), c .handout-place .ensures .2)
+
+pub handout-spec : {M : Type 1} → statement M
+handout-spec = tie.close (tie.spec handout-place-requires returns)

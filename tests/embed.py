@@ -1,0 +1,152 @@
+#!/usr/bin/env python3
+"""The C side: include/nebosvar.h declares what the source exports, field by field, and the C example, compiled with every warning an error, prints what the paper's program in Python prints, and of each module what the Python receiver says.
+
+    embed.py          compare the declarations
+    embed.py run      the same, then compile and run examples/receive.c over target/staticlib/libbox_api.a"""
+import re
+import subprocess
+import sys
+import tempfile
+from pathlib import Path
+
+import program
+import receiver
+from second import ROOT
+
+SOURCES = [ROOT / "crates" / "box_api" / "src" / f for f in ("lib.rt", "reading.rt")]
+HEADER = ROOT / "include" / "nebosvar.h"
+C_TYPES = {"uint8_t": "u8", "uint16_t": "u16", "uint32_t": "u32", "size_t": "usize"}
+
+
+# ---- declarations: a struct is the list of its fields' types, a function those of its parameters and its answer
+
+
+def text_of(path):
+    return re.sub(r"/\*.*?\*/|//[^\n]*", "", path.read_text(), flags=re.S)
+
+
+def rattle():
+    """The exported functions, and the fields of each struct that is laid out as C does."""
+    text = "".join(text_of(p) for p in SOURCES + [ROOT / "crates" / "carousel" / "src" / "lib.rt"])
+    structs = {}
+    for name, body in re.findall(r"#\[repr\(C\)\]\s*pub struct (\w+) \{(.*?)\}", text, re.S):
+        structs[name] = [t for _, t in re.findall(r"pub (\w+): ([^,\n]+),", body)]
+    calls = {}
+    for name, parameters, answer in re.findall(r"#\[no_mangle\]\s*pub extern \"C\" fn (\w+)\((.*?)\) -> (\w+)", text, re.S):
+        calls[name] = [t.strip() for t in re.findall(r"\w+: ([^,]+)", parameters)], answer
+    return calls, structs
+
+
+def flat(types, structs):
+    """What lies one after another in memory."""
+    counts = {"messages::MOST_MODULES": 16, "MOST_MODULES": 16}
+    for t in types:
+        array = re.fullmatch(r"\[(\w+); ([\w:]+)\]", t)
+        if array:
+            n = counts.get(array[2]) or int(array[2])
+            yield from n * list(flat([array[1]], structs))
+        elif t in structs:
+            yield "{"
+            yield from flat(structs[t], structs)
+            yield "}"
+        else:
+            yield t
+
+
+def crossed(types, structs):
+    """Parameters as C has them: a slice is a pointer and a length."""
+    for t in types:
+        slice_of = re.fullmatch(r"&(mut )?\[u8\]", t)
+        behind = re.fullmatch(r"&(mut )?([A-Z]\w*)", t)
+        if slice_of:
+            yield from ("*mut u8" if slice_of[1] else "*const u8", "usize")
+        elif behind:
+            yield ("*mut" if behind[1] else "*const", *flat([behind[2]], structs))
+        else:
+            yield t
+
+
+def header():
+    """The header's functions and structs, in the same words."""
+    text = text_of(HEADER)
+    numbers = {n: int(v) for n, v in re.findall(r"(NEBOSVAR_\w+) = (\d+)", text)}
+    structs = {}
+    for body, name in re.findall(r"typedef struct \{(.*?)\} (\w+);", text, re.S):
+        fields = []
+        for type_, count in re.findall(r"(\w+) \w+(?:\[(\w+)\])?;", body):
+            one = C_TYPES.get(type_, type_)
+            fields += [one] if not count else [one] * (numbers.get(count) or int(count))
+        structs[name] = fields
+    calls = {}
+    for answer, name, parameters in re.findall(r"^(\w+) (nebosvar_\w+)\((.*?)\);", text, re.M | re.S):
+        types = []
+        for p in parameters.split(", "):
+            const, type_, star = re.fullmatch(r"(const )?(\w+)(?: (\*)?\w+)?", p).groups()
+            if type_ == "void":
+                continue
+            pointer = "*const" if const else "*mut"
+            types.append("%s u8" % pointer if star and type_ == "uint8_t" else (pointer, *flat([type_], structs)) if star else C_TYPES[type_])
+        calls[name] = types, tuple(flat([answer], structs))
+    return calls
+
+
+def compare_declarations():
+    calls, structs = rattle()
+    wanted = {n: (list(crossed(ps, structs)), tuple(flat([a], structs))) for n, (ps, a) in calls.items()}
+    declared = header()
+    assert len(wanted) >= 12 and wanted.keys() == declared.keys(), wanted.keys() ^ declared.keys()
+    for name in wanted:
+        assert wanted[name] == declared[name], (name, wanted[name], declared[name])
+    print("embed.py: include/nebosvar.h declares the %d exported functions as the source has them" % len(wanted))
+
+
+def compare_readme():
+    """The examples that README shows are parts of those that the gate runs."""
+    readme = (ROOT / "README.md").read_text().split("## Embed it", 1)[1]
+    for language, path in (("c", "examples/receive.c"), ("rust", "rust/nebosvar/examples/receive.rs")):
+        shown = re.search(r"```%s\n(.*?)```" % language, readme, re.S)[1]
+        assert shown in (ROOT / path).read_text(), "README shows another example than %s" % path
+    print("embed.py: README shows the examples that are run")
+
+
+# ---- the example in C
+
+
+def module_line(record, image, number):
+    refusal, part = receiver.handout(record, image, number)
+    if refusal == 0:
+        return "module,%d,complete,%d bytes at %d" % (number, len(part), record.modules[record.place(number)].start)
+    if refusal == 20:
+        _, blocks = receiver.missing(record, number)
+        return "module,%d,incomplete,%d blocks missing from %d on" % (number, len(blocks), blocks[0])
+    return "module,%d,refused,%d" % (number, refusal)
+
+
+def check_modules(command):
+    """After every input: each announced module, and one that is not."""
+    lines = 0
+    for i, printed in program.checked_cases():
+        image = bytearray(program.IMAGE)
+        _, _, record = program.run(i.stdin[: program.READ], program.BUDGET, program.Record(), image)
+        numbers = [m.number for m in record.used()] + [40_000]
+        wanted = printed.decode() + "".join(module_line(record, image, n) + "\n" for n in numbers)
+        got = subprocess.run([*command, *map(str, numbers)], input=i.stdin, capture_output=True, check=True, timeout=program.LIMIT).stdout
+        program.check_same(i.name, got, wanted.encode())
+        lines += len(numbers)
+    return lines
+
+
+def run_example():
+    with tempfile.TemporaryDirectory() as folder:
+        receive = str(Path(folder) / "receive")
+        strict = ["-Wall", "-Wextra", "-Werror", "-I%s" % HEADER.parent]
+        subprocess.run(["gcc", *strict, str(ROOT / "examples" / "receive.c"), str(ROOT / "target" / "staticlib" / "libbox_api.a"), "-o", receive], check=True)
+        subprocess.run(["g++", *strict, "-fsyntax-only", "-x", "c++", str(HEADER)], check=True)
+        print("embed.py: the C example over %d modules" % check_modules([receive]))
+        subprocess.run([sys.executable, str(ROOT / "tests" / "program.py"), "run", receive], check=True)
+
+
+compare_declarations()
+compare_readme()
+if sys.argv[1:] == ["run"]:
+    run_example()
