@@ -1,0 +1,203 @@
+//! The archive's structs and functions, as `include/nebosvar.h` has them.
+
+use crate::{Module, Record};
+use std::mem::{offset_of, size_of};
+
+/// `NEBOSVAR_COMMON`.
+pub const COMMON: usize = usize::MAX;
+
+#[repr(C)]
+pub struct Fate {
+    pub refusal: u8,
+    pub kind: u8,
+}
+
+#[repr(C)]
+pub struct Taken {
+    pub length: usize,
+    pub stop: u8,
+    pub refusal: u8,
+    pub kind: u8,
+}
+
+#[repr(C)]
+pub struct Passage {
+    pub taken: usize,
+    pub passed: usize,
+    pub stop: u8,
+}
+
+#[repr(C)]
+pub struct Part {
+    pub at: usize,
+    pub length: usize,
+    pub refusal: u8,
+}
+
+#[repr(C)]
+pub struct Lack {
+    pub count: usize,
+    pub lowest: usize,
+    pub refusal: u8,
+}
+
+#[repr(C)]
+pub struct TableHead {
+    pub common: usize,
+    pub applications: usize,
+    pub test: u16,
+    pub application: u16,
+    pub version: u8,
+    pub section: u8,
+    pub last: u8,
+    pub refusal: u8,
+}
+
+#[repr(C)]
+pub struct ApplicationHead {
+    pub descriptors: usize,
+    pub organisation: u32,
+    pub number: u16,
+    pub class: u8,
+    pub code: u8,
+    pub control: u8,
+    pub refusal: u8,
+}
+
+#[repr(C)]
+pub struct DescriptorHead {
+    pub count: usize,
+    pub labels: usize,
+    pub at: usize,
+    pub length: usize,
+    pub protocol: u16,
+    pub network: u16,
+    pub transport: u16,
+    pub service: u16,
+    pub kind: u8,
+    pub tag: u8,
+    pub label: u8,
+    pub component: u8,
+    pub bound: u8,
+    pub visibility: u8,
+    pub priority: u8,
+    pub refusal: u8,
+}
+
+#[repr(C)]
+pub struct ItemFound {
+    pub at: usize,
+    pub length: usize,
+    pub extensions: usize,
+    pub organisation: u32,
+    pub number: u16,
+    pub kind: u8,
+    pub label: u8,
+    pub major: u8,
+    pub minor: u8,
+    pub micro: u8,
+    pub priority: u8,
+    pub language: [u8; 3],
+    pub refusal: u8,
+}
+
+#[repr(C)]
+pub struct LabelFound {
+    pub common: usize,
+    pub place: usize,
+    pub found: u8,
+    pub refusal: u8,
+}
+
+extern "C" {
+    pub fn nebosvar_start() -> Record;
+    pub fn nebosvar_step(
+        record: *mut Record,
+        section: *const u8,
+        length: usize,
+        image: *mut u8,
+        room: usize,
+    ) -> Fate;
+    pub fn nebosvar_take(
+        record: *mut Record,
+        stretch: *const u8,
+        length: usize,
+        image: *mut u8,
+        room: usize,
+        budget: usize,
+    ) -> Taken;
+    pub fn nebosvar_run(
+        record: *mut Record,
+        stretch: *const u8,
+        length: usize,
+        image: *mut u8,
+        room: usize,
+        budget: usize,
+    ) -> Passage;
+    pub fn nebosvar_handout(
+        record: *const Record,
+        image: *const u8,
+        room: usize,
+        number: u16,
+    ) -> Part;
+    pub fn nebosvar_missing(record: *const Record, number: u16) -> Lack;
+    pub fn nebosvar_table(section: *const u8, length: usize) -> TableHead;
+    pub fn nebosvar_application(
+        section: *const u8,
+        length: usize,
+        application: usize,
+    ) -> ApplicationHead;
+    pub fn nebosvar_descriptor(
+        section: *const u8,
+        length: usize,
+        application: usize,
+        descriptor: usize,
+    ) -> DescriptorHead;
+    pub fn nebosvar_item(
+        section: *const u8,
+        length: usize,
+        application: usize,
+        descriptor: usize,
+        kind: u8,
+        item: usize,
+    ) -> ItemFound;
+    pub fn nebosvar_extension(
+        section: *const u8,
+        length: usize,
+        application: usize,
+        descriptor: usize,
+        base: usize,
+        extension: usize,
+    ) -> Part;
+    pub fn nebosvar_label(
+        section: *const u8,
+        length: usize,
+        application: usize,
+        label: usize,
+    ) -> LabelFound;
+}
+
+// The layout on x86-64.
+const _: () = {
+    assert!(size_of::<Module>() == 16);
+    assert!(offset_of!(Module, number) == 0);
+    assert!(offset_of!(Module, size) == 4);
+    assert!(offset_of!(Module, version) == 8);
+    assert!(offset_of!(Module, start) == 12);
+    assert!(size_of::<Record>() == 776);
+    assert!(offset_of!(Record, download) == 0);
+    assert!(offset_of!(Record, block_size) == 4);
+    assert!(offset_of!(Record, count) == 6);
+    assert!(offset_of!(Record, modules) == 8);
+    assert!(offset_of!(Record, marks) == 264);
+    assert!(size_of::<Fate>() == 2);
+    assert!(size_of::<Taken>() == 16);
+    assert!(size_of::<Passage>() == 24);
+    assert!(size_of::<Part>() == 24);
+    assert!(size_of::<Lack>() == 24);
+    assert!(size_of::<TableHead>() == 24);
+    assert!(size_of::<ApplicationHead>() == 24);
+    assert!(size_of::<DescriptorHead>() == 48);
+    assert!(size_of::<ItemFound>() == 40);
+    assert!(size_of::<LabelFound>() == 24);
+};

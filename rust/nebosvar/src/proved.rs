@@ -1,0 +1,42 @@
+//! What the archive's proofs say of its answers, and Rust's types do not.
+
+use std::ops::Range;
+
+/// The end of every match over the archive's numbers, and of a part outside the bytes that were lent.
+#[cold]
+pub fn excluded() -> ! {
+    unreachable!(
+        "libbox_api.a gave an answer that its proofs exclude: it is not the archive of this header"
+    )
+}
+
+/// A part, as a range.
+pub fn range(at: usize, length: usize) -> Range<usize> {
+    match at.checked_add(length) {
+        Some(end) => at..end,
+        None => excluded(),
+    }
+}
+
+#[cfg(test)]
+mod tests {
+    use super::range;
+    use crate::{Kind, Refusal, Stop};
+
+    #[test]
+    fn what_the_header_does_not_have_is_excluded() {
+        let calls: [fn(); 6] = [
+            || assert!(Refusal::check(21).is_ok()),
+            || assert!(Kind::check(0, 0).is_ok()),
+            || assert!(Kind::check(0, 6).is_ok()),
+            || assert_eq!(Stop::of(0), Stop::End),
+            || assert_eq!(Stop::of(6), Stop::End),
+            || assert!(range(1, usize::MAX).is_empty()),
+        ];
+        for call in calls {
+            let panic = std::panic::catch_unwind(call).unwrap_err();
+            let words = panic.downcast_ref::<&str>().unwrap();
+            assert!(words.contains("its proofs exclude"));
+        }
+    }
+}

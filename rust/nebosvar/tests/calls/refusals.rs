@@ -1,0 +1,247 @@
+//! Refusals by number; each leaves the record and the image as they were.
+
+use crate::make::{announcement, block, closed, message, section, table, with};
+use crate::{block_7, block_9, drift, heard, DOWNLOAD};
+use nebosvar::{Record, Refusal};
+
+/// The step refuses, and changes nothing.
+fn refused(record: &Record, section: &[u8], image: &[u8], refusal: Refusal) {
+    let (mut after, mut bytes) = (*record, image.to_vec());
+    assert_eq!(after.step(section, &mut bytes), Err(refusal));
+    assert_eq!(after, *record);
+    assert_eq!(bytes, image);
+}
+
+/// Whatever the record, it refuses.
+fn refused_always(section: &[u8], refusal: Refusal) {
+    let (record, image) = heard(&[drift(), block_9()], 1006);
+    refused(&record, section, &image, refusal);
+    refused(&record, section, &[], refusal);
+    refused(&Record::new(), section, &[], refusal);
+}
+
+#[test]
+fn numbers_and_words() {
+    let all = [
+        Refusal::BAD_RECORD,
+        Refusal::BAD_SIZE,
+        Refusal::BAD_TABLE,
+        Refusal::BAD_HEADER,
+        Refusal::BAD_CRC,
+        Refusal::NOT_CURRENT,
+        Refusal::MALFORMED,
+        Refusal::BAD_MESSAGE,
+        Refusal::BAD_BLOCK_HEADER,
+        Refusal::BEYOND_LIMITS,
+        Refusal::MODULE_TWICE,
+        Refusal::NOT_ANNOUNCED,
+        Refusal::NO_MODULE,
+        Refusal::OTHER_VERSION,
+        Refusal::SHORT_IMAGE,
+        Refusal::BAD_BLOCK,
+        Refusal::BYTES_DIFFER,
+        Refusal::NO_APPLICATION_DESCRIPTOR,
+        Refusal::NO_PLACE,
+        Refusal::INCOMPLETE,
+    ];
+    for (refusal, number) in all.iter().zip(1..) {
+        assert_eq!(refusal.number(), number);
+        assert!(refusal
+            .to_string()
+            .starts_with(&format!("refusal {number}: ")));
+    }
+    assert_eq!(all.len(), 20);
+    let error: Box<dyn std::error::Error> = Refusal::OTHER_VERSION.into();
+    assert_eq!(error.to_string(), "refusal 14: version differs");
+}
+
+#[test]
+fn broken_records_1() {
+    let (good, image) = heard(&[drift(), block_9()], 1006);
+    let breaks: [fn(&mut Record); 12] = [
+        |r| r.count = 17,
+        |r| r.count = 1, // the second module is past the last
+        |r| r.count = 0, // with none, all is zero
+        |r| r.block_size = 0,
+        |r| r.block_size = 4067,
+        |r| r.modules[0].size = 0,
+        |r| r.modules[0].start = 1,
+        |r| r.modules[1].start = 999,
+        |r| r.modules[1].number = 7,
+        |r| r.modules[2].version = 1,
+        |r| r.marks[0] = 0b1000, // block 3 of three
+        |r| r.marks[8] = 0b10,   // block 1 of one
+    ];
+    for change in breaks {
+        let mut broken = good;
+        change(&mut broken);
+        for section in [drift(), block_9(), vec![]] {
+            refused(&broken, &section, &image, Refusal::BAD_RECORD);
+            refused(&broken, &section, &[], Refusal::BAD_RECORD);
+        }
+    }
+    let mut broken = Record::new();
+    broken.download = 1;
+    refused(&broken, &drift(), &[], Refusal::BAD_RECORD);
+}
+
+#[test]
+fn size_2() {
+    let good = block_9();
+    refused_always(&[], Refusal::BAD_SIZE);
+    refused_always(&good[..1], Refusal::BAD_SIZE);
+    refused_always(&good[..2], Refusal::BAD_SIZE);
+    refused_always(&good[..good.len() - 1], Refusal::BAD_SIZE);
+    refused_always(&[&good[..], &[0]].concat(), Refusal::BAD_SIZE);
+}
+
+#[test]
+fn table_3() {
+    refused_always(&with(&block_9(), 0, 0x3D), Refusal::BAD_TABLE);
+    refused_always(&table(&[], &[]), Refusal::BAD_TABLE);
+    refused_always(&[0x3A, 0, 0], Refusal::BAD_TABLE); // and L = 0
+}
+
+#[test]
+fn header_4() {
+    let good = block_9();
+    refused_always(&[0x3B, 0xB0, 0], Refusal::BAD_HEADER); // L = 0
+    refused_always(
+        &closed(vec![0x3B, 0xB0, 8, 0, 0, 0xC1, 0]),
+        Refusal::BAD_HEADER,
+    );
+    refused_always(&with(&good, 1, good[1] & 0x7F), Refusal::BAD_HEADER);
+    refused_always(&with(&good, 6, 1), Refusal::BAD_HEADER); // above last, 0
+    refused_always(&section(0x3C, 9, 0, &[0; 4085]), Refusal::BAD_HEADER); // L = 4,094
+}
+
+#[test]
+fn crc_5() {
+    let good = block_9();
+    for bit in [0, 7] {
+        for at in 3..good.len() {
+            let mut bad = good.clone();
+            bad[at] ^= 1 << bit;
+            // Byte 6, the section number, would be above last.
+            let refusal = if at == 6 {
+                Refusal::BAD_HEADER
+            } else {
+                Refusal::BAD_CRC
+            };
+            refused_always(&bad, refusal);
+        }
+    }
+}
+
+#[test]
+fn not_current_6() {
+    refused_always(&with(&block_9(), 5, 0xC0), Refusal::NOT_CURRENT);
+    refused_always(&with(&drift(), 5, 0xC0), Refusal::NOT_CURRENT);
+}
+
+#[test]
+fn malformed_7_and_messages_8() {
+    let (good, announced) = (block_9(), drift());
+    // A body under 12 bytes is 7.
+    refused_always(&section(0x3C, 9, 0, &[]), Refusal::MALFORMED);
+    refused_always(&section(0x3B, 9, 0, &[0; 11]), Refusal::MALFORMED);
+    // Then 8.
+    refused_always(&section(0x3B, 9, 0, &[0; 12]), Refusal::BAD_MESSAGE);
+    refused_always(&with(&good, 8, 0x12), Refusal::BAD_MESSAGE);
+    refused_always(&with(&good, 9, 0x02), Refusal::BAD_MESSAGE);
+    refused_always(&with(&good, 11, 0x02), Refusal::BAD_MESSAGE);
+    refused_always(&with(&announced, 11, 0x03), Refusal::BAD_MESSAGE);
+    // Then the other cases of 7: message length, adaptation length, what is too short, what is left over.
+    refused_always(&with(&good, 19, good[19] + 1), Refusal::MALFORMED);
+    refused_always(&with(&good, 19, good[19] - 1), Refusal::MALFORMED);
+    refused_always(&with(&good, 17, 13), Refusal::MALFORMED);
+    let few = message(0x1003, DOWNLOAD, &[0, 9, 2, 0xFF, 0]);
+    refused_always(&section(0x3C, 9, 0, &few), Refusal::MALFORMED);
+    let end = announced.len() - 4;
+    refused_always(&with(&announced, end - 1, 1), Refusal::MALFORMED);
+    refused_always(&with(&announced, 37, 1), Refusal::MALFORMED); // compatibility length
+    refused_always(&with(&announced, 39, 1), Refusal::MALFORMED); // module count
+    refused_always(&with(&announced, 39, 3), Refusal::MALFORMED);
+}
+
+#[test]
+fn block_header_9() {
+    refused_always(&with(&block_9(), 4, 8), Refusal::BAD_BLOCK_HEADER);
+    let later = section(
+        0x3C,
+        7,
+        1,
+        &message(0x1003, DOWNLOAD, &[0, 7, 1, 0xFF, 0, 0, 5]),
+    );
+    refused_always(&later, Refusal::BAD_BLOCK_HEADER); // section number 1, block 0
+}
+
+#[test]
+fn limits_10_and_twice_11() {
+    let many: Vec<(u16, u32, u8)> = (0..17).map(|number| (number, 1, 0)).collect();
+    for beyond in [
+        announcement(1, 0, &[(7, 6, 0)]),
+        announcement(1, 4067, &[(7, 6, 0)]),
+        announcement(1, 400, &[]),
+        announcement(1, 400, &many),
+        announcement(1, 400, &[(7, 6, 0), (8, 0, 0)]),
+        announcement(1, 1, &[(7, 257, 0)]),
+        announcement(1, 400, &[(7, 65_536, 0), (8, 1, 0)]),
+        announcement(1, 4066, &[(7, u32::MAX, 0), (8, 1, 0)]),
+        announcement(1, 0, &[(7, 6, 0), (7, 6, 0)]),
+    ] {
+        refused_always(&beyond, Refusal::BEYOND_LIMITS);
+    }
+    let twice = announcement(1, 400, &[(7, 6, 0), (8, 6, 0), (7, 5, 1)]);
+    refused_always(&twice, Refusal::MODULE_TWICE);
+    // The paper's soundings that are taken.
+    heard(&[announcement(1, 1, &[(7, 256, 0)])], 0);
+    heard(&[announcement(1, 400, &[(7, 65_535, 0), (8, 1, 0)])], 0);
+}
+
+#[test]
+fn blocks_that_do_not_match_12_to_17() {
+    let sections = [drift(), block_9(), block_7(0, 400, 1)];
+    let (record, image) = heard(&sections, 1006);
+    let refused = |section: Vec<u8>, refusal| refused(&record, &section, &image, refusal);
+
+    refused(block(1, 9, 2, 0, b"buoy 3"), Refusal::NOT_ANNOUNCED);
+    refused(block(DOWNLOAD, 8, 2, 0, b"buoy 3"), Refusal::NO_MODULE);
+    refused(block(DOWNLOAD, 9, 1, 0, b"buoy 3"), Refusal::OTHER_VERSION);
+    refused(block_7(1, 399, 2), Refusal::BAD_BLOCK);
+    refused(block_7(1, 401, 2), Refusal::BAD_BLOCK);
+    refused(block_7(1, 0, 2), Refusal::BAD_BLOCK);
+    refused(block_7(2, 400, 2), Refusal::BAD_BLOCK);
+    refused(block_7(3, 400, 2), Refusal::BAD_BLOCK);
+    refused(block_7(300, 400, 2), Refusal::BAD_BLOCK); // section number 44
+    refused(block_7(256, 400, 1), Refusal::BAD_BLOCK); // section number 0
+    refused(block(DOWNLOAD, 9, 2, 0, b"buoy 4"), Refusal::BYTES_DIFFER);
+    refused(block_7(0, 400, 2), Refusal::BYTES_DIFFER);
+}
+
+#[test]
+fn no_announcement_12() {
+    refused(&Record::new(), &block_9(), &[], Refusal::NOT_ANNOUNCED);
+    let of_zero = block(0, 0, 0, 0, b"");
+    refused(&Record::new(), &of_zero, &[1; 9], Refusal::NOT_ANNOUNCED);
+}
+
+#[test]
+fn short_image_15() {
+    let (record, image) = heard(&[drift()], 1006);
+    let short = &image[..1005];
+    refused(&record, &block_9(), short, Refusal::SHORT_IMAGE);
+    refused(&record, &block_7(0, 400, 1), short, Refusal::SHORT_IMAGE);
+    refused(&record, &block_9(), &[], Refusal::SHORT_IMAGE);
+    // The lowest number: 14 before 15, 15 before 16.
+    let old = block(DOWNLOAD, 9, 1, 0, b"buoy 3");
+    refused(&record, &old, short, Refusal::OTHER_VERSION);
+    refused(&record, &block_7(3, 400, 1), short, Refusal::SHORT_IMAGE);
+}
+
+#[test]
+fn a_size_that_divides_evenly_has_no_empty_block() {
+    let (record, image) = heard(&[announcement(DOWNLOAD, 400, &[(7, 800, 1)])], 800);
+    refused(&record, &block_7(2, 0, 1), &image, Refusal::BAD_BLOCK);
+    refused(&record, &block_7(2, 400, 1), &image, Refusal::BAD_BLOCK);
+}
