@@ -1,0 +1,119 @@
+//! A receiver as it is measured: its record, its image, what it answered and how long it took.
+
+use std::hint::black_box;
+use std::time::{Duration, Instant};
+
+use crate::mixes::Mix;
+
+/// The room of an image: enough for every carousel.
+const ROOM: usize = 65_536;
+/// Enough sections for every stretch.
+const BUDGET: usize = 65_536;
+
+/// How far a run came: sections taken, bytes passed.
+type Passage = (usize, usize);
+
+/// What both receivers can do.
+pub trait Receiver: Sized {
+    /// The record to start from.
+    fn start() -> Self;
+    /// Runs over a stretch.
+    fn run(&mut self, stretch: &[u8], image: &mut [u8]) -> Passage;
+    /// The length of the section at the head of a stretch, and whether it is accepted; none at a stop.
+    fn take(&mut self, stretch: &[u8], image: &mut [u8]) -> Option<(usize, bool)>;
+}
+
+impl Receiver for nebosvar::Record {
+    fn start() -> Self {
+        nebosvar::Record::new()
+    }
+
+    fn run(&mut self, stretch: &[u8], image: &mut [u8]) -> Passage {
+        let ran = nebosvar::Record::run(self, stretch, image, BUDGET);
+        (ran.taken, ran.passed)
+    }
+
+    fn take(&mut self, stretch: &[u8], image: &mut [u8]) -> Option<(usize, bool)> {
+        match nebosvar::Record::take(self, stretch, image, 1) {
+            nebosvar::Taken::Section { length, fate } => Some((length, fate.is_ok())),
+            nebosvar::Taken::Stopped(_) => None,
+        }
+    }
+}
+
+impl Receiver for baseline::Record {
+    fn start() -> Self {
+        baseline::Record::empty()
+    }
+
+    fn run(&mut self, stretch: &[u8], image: &mut [u8]) -> Passage {
+        let ran = baseline::Record::run(self, stretch, image, BUDGET);
+        (ran.taken, ran.passed)
+    }
+
+    fn take(&mut self, stretch: &[u8], image: &mut [u8]) -> Option<(usize, bool)> {
+        match baseline::Record::take(self, stretch, image, 1) {
+            baseline::Taken::Section { length, fate } => {
+                Some((length, !matches!(fate, baseline::Fate::Refused(_))))
+            }
+            baseline::Taken::Stopped(_) => None,
+        }
+    }
+}
+
+/// What a receiver was lent and what it answered.
+pub struct Lent<R> {
+    pub record: R,
+    pub image: Vec<u8>,
+    /// Of each stretch, in the last round.
+    pub answers: Vec<Passage>,
+    best: Duration,
+}
+
+impl<R: Receiver> Lent<R> {
+    pub fn new() -> Lent<R> {
+        Lent {
+            record: R::start(),
+            image: vec![0; ROOM],
+            answers: vec![],
+            best: Duration::MAX,
+        }
+    }
+
+    /// How many sections of the mix are accepted: walked over one by one, not measured.
+    pub fn accepted(&mut self, mix: &Mix) -> usize {
+        let mut accepted = 0;
+        for stretch in &mix.stretches {
+            let mut rest = &stretch[..];
+            while let Some((length, fate)) = self.record.take(rest, &mut self.image) {
+                accepted += usize::from(fate);
+                rest = &rest[length..];
+            }
+        }
+        accepted
+    }
+
+    /// Runs once over all stretches, from an empty record, and measures it.
+    pub fn round(&mut self, mix: &Mix) {
+        self.record = R::start();
+        self.answers.clear();
+        self.answers.reserve(mix.stretches.len());
+        let begin = Instant::now();
+        for stretch in &mix.stretches {
+            let answer = self.record.run(black_box(stretch), &mut self.image);
+            self.answers.push(answer);
+        }
+        self.best = self.best.min(begin.elapsed());
+    }
+
+    /// Of the last round.
+    pub fn taken_and_passed(&self) -> Passage {
+        let add = |sum: Passage, answer: &Passage| (sum.0 + answer.0, sum.1 + answer.1);
+        self.answers.iter().fold((0, 0), add)
+    }
+
+    /// The best round.
+    pub fn seconds(&self) -> f64 {
+        self.best.as_secs_f64()
+    }
+}

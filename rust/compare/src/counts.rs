@@ -1,0 +1,165 @@
+//! What was answered how often. A comparison says nothing of an answer that never came.
+
+use std::fmt::{self, Display};
+
+use nebosvar::{Kind, Stop};
+
+/// The calls that can refuse.
+#[derive(Clone, Copy, PartialEq, Eq, Debug)]
+pub enum Call {
+    Take,
+    Step,
+    Handout,
+    Missing,
+    Table,
+    Application,
+    Descriptor,
+    Item,
+    Extension,
+    Label,
+}
+
+/// Their names, in the order of [`Call`].
+const CALLS: [&str; 10] = [
+    "take", "step", "handout", "missing", "table", "applic.", "descr.", "item", "extens.", "label",
+];
+const KINDS: [&str; 5] = ["table", "new", "same", "stored", "repeated"];
+const STOPS: [&str; 5] = ["end", "stuffing", "short", "budget", "state"];
+/// The refusals, from 1.
+const REFUSALS: usize = 20;
+
+/// How often each answer came. Both receivers gave it: it is counted after they were found to agree.
+#[derive(Clone, Default)]
+pub struct Counts {
+    /// Sections walked over.
+    pub sections: u64,
+    refusals: [[u64; CALLS.len()]; REFUSALS],
+    kinds: [u64; KINDS.len()],
+    stops: [u64; STOPS.len()],
+    handouts: u64,
+    places: u64,
+}
+
+impl Counts {
+    /// An answer of a call: a refusal is counted by the call and its number.
+    pub fn refusal<T>(&mut self, call: Call, answer: &Result<T, u8>) {
+        if let Err(number) = answer {
+            self.refusals[usize::from(*number) - 1][call as usize] += 1;
+        }
+    }
+
+    /// What became of a section.
+    pub fn fate(&mut self, call: Call, fate: &Result<Kind, u8>) {
+        self.refusal(call, fate);
+        if let Ok(kind) = fate {
+            self.kinds[*kind as usize] += 1;
+        }
+    }
+
+    pub fn stop(&mut self, stop: Stop) {
+        self.stops[stop as usize] += 1;
+    }
+
+    /// A module was handed out.
+    pub fn handed_out(&mut self) {
+        self.handouts += 1;
+    }
+
+    /// Something was found, or not, at a place of a table.
+    pub fn found(&mut self, found: bool) {
+        self.places += u64::from(found);
+    }
+
+    /// Adds another thread's.
+    pub fn add(&mut self, other: &Counts) {
+        self.sections += other.sections;
+        self.handouts += other.handouts;
+        self.places += other.places;
+        add(&mut self.kinds, &other.kinds);
+        add(&mut self.stops, &other.stops);
+        for (counts, others) in self.refusals.iter_mut().zip(&other.refusals) {
+            add(counts, others);
+        }
+    }
+
+    /// The answers that came fewer times than this.
+    pub fn rare(&self, least: u64) -> Vec<String> {
+        self.answers()
+            .into_iter()
+            .filter(|(_, count)| *count < least)
+            .map(|(answer, count)| format!("{answer}: {count}"))
+            .collect()
+    }
+
+    /// Every answer, by name, and how often it came in all calls together.
+    fn answers(&self) -> Vec<(String, u64)> {
+        let refusals = self.refusals.iter().enumerate();
+        let mut all: Vec<_> = refusals
+            .map(|(place, counts)| (format!("refusal {}", place + 1), counts.iter().sum()))
+            .collect();
+        all.extend(named("kind", &KINDS, &self.kinds));
+        all.extend(named("stop", &STOPS, &self.stops));
+        all.push(("complete hand-outs".to_string(), self.handouts));
+        all.push(("places of tables".to_string(), self.places));
+        all
+    }
+}
+
+fn add(counts: &mut [u64], others: &[u64]) {
+    for (count, other) in counts.iter_mut().zip(others) {
+        *count += other;
+    }
+}
+
+fn named(what: &str, names: &[&str], counts: &[u64]) -> Vec<(String, u64)> {
+    names
+        .iter()
+        .zip(counts)
+        .map(|(name, count)| (format!("{what} {name}"), *count))
+        .collect()
+}
+
+impl Display for Counts {
+    /// A line for each refusal, a column for each call; then every other answer.
+    fn fmt(&self, f: &mut fmt::Formatter<'_>) -> fmt::Result {
+        write!(f, "refusal")?;
+        for name in CALLS {
+            write!(f, "{name:>9}")?;
+        }
+        writeln!(f)?;
+        for (place, counts) in self.refusals.iter().enumerate() {
+            write!(f, "{:7}", place + 1)?;
+            for count in counts {
+                write!(f, "{count:>9}")?;
+            }
+            writeln!(f)?;
+        }
+        let others = self.answers().split_off(REFUSALS);
+        let others: Vec<_> = others
+            .iter()
+            .map(|(answer, count)| format!("{answer} {count}"))
+            .collect();
+        write!(f, "{}", others.join(", "))
+    }
+}
+
+#[cfg(test)]
+mod tests {
+    use super::*;
+
+    #[test]
+    fn answers_are_counted_by_name() {
+        let mut counts = Counts::default();
+        counts.fate(Call::Step, &Err(20));
+        counts.fate(Call::Take, &Ok(Kind::Repeated));
+        counts.stop(Stop::State);
+        let mut twice = counts.clone();
+        twice.add(&counts);
+        let rare = twice.rare(2);
+        for answer in ["refusal 20", "kind repeated", "stop state"] {
+            assert!(!rare.iter().any(|line| line.starts_with(answer)));
+        }
+        assert!(rare.contains(&"refusal 1: 0".to_string()));
+        assert_eq!(rare.len(), 20 + 5 + 5 + 2 - 3);
+    }
+}

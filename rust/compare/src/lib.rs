@@ -1,0 +1,27 @@
+//! A differential test: the proved receiver, `nebosvar`, beside the independent one, `baseline`, over made
+//! stretches of sections, valid, damaged and hostile. The paper (`01-scope.md`) decides who is right.
+//!
+//! * Making: [`random`], [`make`] (sections), [`tables`], [`carousels`], [`damage`], [`starts`] (records and
+//!   images to start from), [`stretches`] (all of it put together).
+//! * Comparing: [`pair`] (both receivers side by side), [`walk`] (a whole stretch), [`reading`] (a table),
+//!   [`threads`] (all stretches).
+//! * Telling: [`counts`] (what was answered how often), [`difference`].
+//!
+//! What the makers mean a section to be decides nothing: a section that was not spoilt as intended is still
+//! compared, and only the counts at the end say whether every answer was reached.
+
+#![forbid(unsafe_code)]
+
+pub mod carousels;
+pub mod counts;
+pub mod damage;
+pub mod difference;
+pub mod make;
+pub mod pair;
+pub mod random;
+pub mod reading;
+pub mod starts;
+pub mod stretches;
+pub mod tables;
+pub mod threads;
+pub mod walk;
