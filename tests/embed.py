@@ -136,11 +136,20 @@ def check_modules(command):
     return lines
 
 
+def check_needs(archive):
+    """The archive defines the exported functions and asks for nothing but these two of the C library."""
+    symbols = subprocess.run(["nm", archive], check=True, capture_output=True, text=True).stdout.split("\n")
+    asked, defined = ({l.split()[-1] for l in symbols if " %s " % kind in l} for kind in "UT")
+    assert asked <= {"memcpy", "memset"} and defined == set(rattle()[0]), (asked, defined)
+
+
 def run_example():
     with tempfile.TemporaryDirectory() as folder:
         receive = str(Path(folder) / "receive")
         strict = ["-Wall", "-Wextra", "-Werror", "-I%s" % HEADER.parent]
-        subprocess.run(["gcc", *strict, str(ROOT / "examples" / "receive.c"), str(ROOT / "target" / "staticlib" / "libbox_api.a"), "-o", receive], check=True)
+        archive = str(ROOT / "target" / "staticlib" / "libbox_api.a")
+        check_needs(archive)
+        subprocess.run(["gcc", *strict, str(ROOT / "examples" / "receive.c"), archive, "-o", receive], check=True)
         subprocess.run(["g++", *strict, "-fsyntax-only", "-x", "c++", str(HEADER)], check=True)
         print("embed.py: the C example over %d modules" % check_modules([receive]))
         subprocess.run([sys.executable, str(ROOT / "tests" / "program.py"), "run", receive], check=True)
