@@ -189,7 +189,7 @@ table-some s r e z = go (checkedOf Application s) refl e
 
     go : (k : Checked) → checkedOf Application s ≡ k
         → onChecked (onChecked k (λ x. checked.Refused x) (λ h. cond (eqb (bodyRefusal (bodyOf s)) 0) (checked.Accepted h) (checked.Refused (refused (bodyRefusal (bodyOf s))))))
-          (λ x. reading.Refused x) (λ x. reading.Accepted (tableOf x s)) ≡ reading.Refused r → ⊥
+        (λ x. reading.Refused x) (λ x. reading.Accepted (tableOf x s)) ≡ reading.Refused r → ⊥
     go (checked.Refused n) f e = let b = refused-has Application s n f in let q = same n e in let m = ap (λ (x : Refusal). x .number) (b .0) in omega (arith, b .1)
     go (checked.Accepted h) f e = body (eqb (bodyRefusal (bodyOf s)) 0) (bodyRefusal (bodyOf s)) h refl e
 
