@@ -50,9 +50,7 @@ fn inspect(stretch: &[u8], image: &mut [u8], out: &mut [u8]) {
         let what = took.what;
         match what {
             What::Stopped(stop) => {
-                let end = put_stop(out, at, stop);
-                let last = put_record(out, end, c, image);
-                write_out(out, last);
+                finish(out, at, stop, c, image);
                 return;
             }
             What::Taken(section) => {
@@ -68,6 +66,13 @@ fn inspect(stretch: &[u8], image: &mut [u8], out: &mut [u8]) {
         }
         index += 1;
     }
+}
+
+// The lines below the last section, and what is left of `out`.
+fn finish(out: &mut [u8], at: usize, stop: Stop, c: Carousel, image: &[u8]) {
+    let end = put_stop(out, at, stop);
+    let last = put_record(out, end, c, image);
+    write_out(out, last);
 }
 
 // A section's line and, below an accepted table's, all that is read of it.

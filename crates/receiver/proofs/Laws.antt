@@ -1,3 +1,4 @@
+pub mod Fates
 pub mod Places
 pub mod Runs
 pub mod Takes

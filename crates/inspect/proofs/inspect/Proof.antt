@@ -68,14 +68,8 @@ take-requires c κs = search needs
 enum-known-what : tie.Need-enum-known-what Inv-loop μ-loop
 enum-known-what c = search needs
 
-put-stop-requires : tie.Need-put-stop-requires Inv-loop μ-loop
-put-stop-requires c κs = search needs
-
-put-record-requires : tie.Need-put-record-requires Inv-loop μ-loop
-put-record-requires c κs = search needs
-
-write-out-requires : tie.Need-write-out-requires Inv-loop μ-loop
-write-out-requires c κs = search needs
+finish-requires : tie.Need-finish-requires Inv-loop μ-loop
+finish-requires c κs = search needs
 
 same-length : tie.Need-same-length Inv-loop μ-loop
 same-length c = search needs
@@ -139,9 +133,7 @@ inspect-spec =
     sub-take-2
     take-requires
     enum-known-what
-    put-stop-requires
-    put-record-requires
-    write-out-requires
+    finish-requires
     same-length
     same-length-2
     returns

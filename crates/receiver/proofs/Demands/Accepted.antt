@@ -43,6 +43,7 @@ use Rattle.carousel.proofs.Laws.Outcomes.{announced-same, announced-new, matche
 use Rattle.receiver.specs.declared.Fate.{Fate}
 use Rattle.receiver.specs.declared.Fate.the-variants as fate
 use Rattle.receiver.specs.Run.{readFate, tableFate, carouselFate, givenOf}
+use Rattle.receiver.proofs.Laws.Fates.{fate-table, fate-other, fate-tells}
 
 -- AN APPLICATION SECTION: whatever table is read, the section is a good one
 pub read-good : (s : List ℕ) (t : Table) → readAnswer s ≡ reading.Accepted t → GoodTable s
@@ -175,7 +176,7 @@ module _ (c : Carousel) (s image : List ℕ) where
       (r, h .0, subst Marked (sym (h .1)) (placeOf (announcedBy c) (d .number), matches d p, w .1 .2, equal (placeOf (announcedBy c) (d .number)) d (w .1 .3)))
 
 -- THE RECEIVER'S KINDS
--- the carousel's kinds, of which no table is one; and the answer that each tells
+-- the carousel's kinds, of which no table is one
 abbrev pub isCarousels : Fate → Bool
 isCarousels fate.New = true
 isCarousels fate.Same = true
@@ -184,26 +185,10 @@ isCarousels fate.Repeated = true
 isCarousels fate.Table = false
 isCarousels (fate.Refused r) = false
 
-abbrev answerIn : Fate → Answer
-answerIn fate.New = answer.New
-answerIn fate.Same = answer.Same
-answerIn fate.Stored = answer.Stored
-answerIn fate.Repeated = answer.Repeated
-answerIn fate.Table = answer.Refused (refused 0)
-answerIn (fate.Refused r) = answer.Refused r
-
 read-none : (a : ReadAnswer) → isCarousels (readFate a) ≡ false
 unfolding readFate
 read-none (reading.Refused r) = refl
 read-none (reading.Accepted t) = refl
-
-answer-told : (a : Answer) → answerIn (carouselFate a) ≡ a
-unfolding carouselFate
-answer-told answer.New = refl
-answer-told answer.Same = refl
-answer-told answer.Stored = refl
-answer-told answer.Repeated = refl
-answer-told (answer.Refused r) = refl
 
 no-table : (a : Answer) → carouselFate a ≡ fate.Table → ⊥
 unfolding carouselFate
@@ -222,32 +207,24 @@ fate-good s e = go (readAnswer s) refl e
     go (reading.Accepted t) f e = read-good s t f
 
 module _ (c : Carousel) (s image : List ℕ) where
-  by-table : eqb (byteAt s 0) applicationTable ≡ true → givenOf c s image .fate ≡ tableFate s
-  unfolding givenOf
-  by-table e = rw e
-
-  by-carousel : eqb (byteAt s 0) applicationTable ≡ false → givenOf c s image .fate ≡ carouselFate (steppedOf c s image .answer)
-  unfolding givenOf
-  by-carousel e = rw e
-
   pub table-good : givenOf c s image .fate ≡ fate.Table → GoodTable s
   table-good e = go (eqb (byteAt s 0) applicationTable) refl
     where
       go : (t : Bool) → eqb (byteAt s 0) applicationTable ≡ t → GoodTable s
-      go true f = fate-good s (sym (by-table f) ∙ e)
-      go false f = absurd (no-table (steppedOf c s image .answer) (sym (by-carousel f) ∙ e))
+      go true f = fate-good s (sym (fate-table c s image f) ∙ e)
+      go false f = absurd (no-table (steppedOf c s image .answer) (sym (fate-other c s image f) ∙ e))
 
   pub good-table : GoodTable s → givenOf c s image .fate ≡ fate.Table
   unfolding readFate
-  good-table g = by-table (g .section .table) ∙ ap readFate (read-exactly s g)
+  good-table g = fate-table c s image (g .section .table) ∙ ap readFate (read-exactly s g)
 
   -- one of the carousel's kinds is its answer, and its answer to a section that is no table's is the kind
   pub kind-answer : (x : Answer) → isCarousels (carouselFate x) ≡ true → givenOf c s image .fate ≡ carouselFate x → steppedOf c s image .answer ≡ x
   kind-answer x k e = go (eqb (byteAt s 0) applicationTable) refl
     where
       go : (t : Bool) → eqb (byteAt s 0) applicationTable ≡ t → steppedOf c s image .answer ≡ x
-      go true f = absurd (clash (isCarousels (carouselFate x)) k (ap isCarousels (sym e ∙ by-table f) ∙ read-none (readAnswer s)))
-      go false f = sym (answer-told (steppedOf c s image .answer)) ∙ ap answerIn (sym (by-carousel f) ∙ e) ∙ answer-told x
+      go true f = absurd (clash (isCarousels (carouselFate x)) k (ap isCarousels (sym e ∙ fate-table c s image f) ∙ read-none (readAnswer s)))
+      go false f = fate-tells (steppedOf c s image .answer) x (sym (fate-other c s image f) ∙ e)
 
   pub answer-kind : (x : Answer) → (headerOf s .table ≡ applicationTable → ⊥) → steppedOf c s image .answer ≡ x → givenOf c s image .fate ≡ carouselFate x
-  answer-kind x n e = by-carousel (ne-eqb (byteAt s 0) applicationTable n) ∙ ap carouselFate e
+  answer-kind x n e = fate-other c s image (ne-eqb (byteAt s 0) applicationTable n) ∙ ap carouselFate e

@@ -36,6 +36,7 @@ use Rattle.receiver.specs.declared.Fate.the-variants as fate
 use Rattle.receiver.specs.Run.{readFate, tableFate, carouselFate, givenOf, imageGiven, Held, given}
 use Rattle.receiver.specs.Demand.{Begun, isNew}
 use Rattle.receiver.proofs.Runs.{given-rule}
+use Rattle.receiver.proofs.Laws.Fates.{fate-table, fate-other, fate-tells}
 
 -- what the record says, and the image
 abbrev pub saying : Held → Said
@@ -91,16 +92,7 @@ given-says x s r =
     ∙ ap (λ (u : Record). record { says = u; image = imageAfter (x .image) (outcomeOf (x .state) s (x .image)) }) (says-after (x .state) (outcomeOf (x .state) s (x .image)))
     ∙ ap (λ (o : Outcome). after (saying x) o) (outcome-ruled (x .state) s (x .image) r)
 
--- THE FATE of a section that is no table is the step's answer
-fate-other : (c : Carousel) (s image : List ℕ) → eqb (byteAt s 0) applicationTable ≡ false → givenOf c s image .fate ≡ carouselFate (steppedOf c s image .answer)
-unfolding givenOf
-fate-other c s image e = rw e
-
-fate-table : (c : Carousel) (s image : List ℕ) → eqb (byteAt s 0) applicationTable ≡ true → givenOf c s image .fate ≡ tableFate s
-unfolding givenOf
-fate-table c s image e = rw e
-
--- and so of every section for a module, as no table is for one
+-- THE FATE of a section for a module is the step's answer, as no table is for one
 for-other : (a : Announced) (i : ℕ) (s : List ℕ) → heardFor a i (heardOf s) ≡ true → eqb (byteAt s 0) applicationTable ≡ false
 unfolding heardFor
 for-other a i s e = go (eqb (byteAt s 0) applicationTable) refl
@@ -131,14 +123,6 @@ new-outcome same = refl
 new-outcome repeated = refl
 new-outcome (stored k at bytes) = refl
 
-new-answer : (a : Answer) → isNew (carouselFate a) ≡ true → a ≡ answer.New
-unfolding carouselFate
-new-answer answer.New e = refl
-new-answer answer.Same e = absurd (clash _ e refl)
-new-answer answer.Stored e = absurd (clash _ e refl)
-new-answer answer.Repeated e = absurd (clash _ e refl)
-new-answer (answer.Refused r) e = absurd (clash _ e refl)
-
 pub given-old : (x : Held) (s : List ℕ) → ruledOf (x .state) ≡ true → isNew (givenOf (x .state) s (x .image) .fate) ≡ false → madeNew (came x s) ≡ false
 unfolding steppedOf onHeard madeNew
 given-old x s r n = go (eqb (byteAt s 0) applicationTable) refl
@@ -152,11 +136,12 @@ given-old x s r n = go (eqb (byteAt s 0) applicationTable) refl
 
 -- THE START: a call that answered "new" left a record that keeps its rule, with all marks clear
 fate-new : (c : Carousel) (s image : List ℕ) → givenOf c s image .fate ≡ fate.New → steppedOf c s image .answer ≡ answer.New
+unfolding carouselFate
 fate-new c s image e = go (eqb (byteAt s 0) applicationTable) refl
   where
     go : (t : Bool) → eqb (byteAt s 0) applicationTable ≡ t → steppedOf c s image .answer ≡ answer.New
     go true f = absurd (clash _ (ap isNew e) (ap isNew (fate-table c s image f) ∙ read-old (readAnswer s)))
-    go false f = new-answer _ (ap isNew (sym (fate-other c s image f) ∙ e))
+    go false f = fate-tells (steppedOf c s image .answer) answer.New (sym (fate-other c s image f) ∙ e)
 
 afresh-clear : (c : Carousel) (a : Announced) (k : ℕ) → isMarked (madeAfresh c a .marks) k ≡ false
 unfolding madeAfresh

@@ -57,6 +57,7 @@ use Rattle.receiver.specs.Run.{readFate, tableFate, carouselFate, givenO
 use Rattle.receiver.specs.Run.{numberOf as receiverNumber}
 use Rattle.receiver.proofs.Laws.Runs.{run-state}
 use Rattle.receiver.proofs.Laws.Takes.{given-number}
+use Rattle.receiver.proofs.Laws.Fates.{fate-table, fate-other, fate-tells}
 
 -- "Every one returns no value besides its number": a refusal is its number
 pub refusal-is-its-number : (r : Refusal) → r ≡ refused (r .number)
@@ -162,17 +163,9 @@ step-some c s image r e z = go (ruledOf c) (heardOf s) refl e
     go true (announced a) f e = told (sameAnnounced (recordOf c .announced) a) a (by (cond (sameAnnounced (recordOf c .announced) a) same (new a)) e)
     go true (arrived d) f e = arrived-some (recordOf c) image d r (by (onArrived (recordOf c) image d) e) z
 
--- what the carousel's answer was, where a fate came of it
 refused-by : (a : Answer) (r : Refusal) → carouselFate a ≡ fate.Refused r → a ≡ answer.Refused r
 unfolding carouselFate
-refused-by answer.New r e = let z : _≡_ {A = ℕ} 0 1 = cc in absurd (omega arith)
-refused-by answer.Same r e = let z : _≡_ {A = ℕ} 0 1 = cc in absurd (omega arith)
-refused-by answer.Stored r e = let z : _≡_ {A = ℕ} 0 1 = cc in absurd (omega arith)
-refused-by answer.Repeated r e = let z : _≡_ {A = ℕ} 0 1 = cc in absurd (omega arith)
-refused-by (answer.Refused n) r e = ap answer.Refused (same e)
-  where
-    same : fate.Refused n ≡ fate.Refused r → n ≡ r
-    same e = cc
+refused-by a r e = fate-tells a (answer.Refused r) e
 
 -- of a table
 pub table-some : (s : List ℕ) (r : Refusal) → readAnswer s ≡ reading.Refused r → r .number ≡ 0 → ⊥
@@ -193,19 +186,18 @@ table-some s r e z = go (checkedOf Application s) refl e
     go (checked.Refused n) f e = let b = refused-has Application s n f in let q = same n e in let m = ap (λ (x : Refusal). x .number) (b .0) in omega (arith, b .1)
     go (checked.Accepted h) f e = body (eqb (bodyRefusal (bodyOf s)) 0) (bodyRefusal (bodyOf s)) h refl e
 
-table-refused : (a : ReadAnswer) (r : Refusal) → readFate a ≡ fate.Refused r → a ≡ reading.Refused r
+read-refused : (a : ReadAnswer) (r : Refusal) → readFate a ≡ fate.Refused r → a ≡ reading.Refused r
 unfolding readFate
-table-refused (reading.Refused n) r e = let q : n ≡ r = cc in ap reading.Refused q
-table-refused (reading.Accepted t) r e = let w : _≡_ {A = ℕ} 0 1 = cc in absurd (omega arith)
+read-refused (reading.Refused n) r e = let q : n ≡ r = cc in ap reading.Refused q
+read-refused (reading.Accepted t) r e = let w : _≡_ {A = ℕ} 0 1 = cc in absurd (omega arith)
 
 -- and so of whatever section is taken
 pub take-some : (c : Carousel) (s image : List ℕ) (r : Refusal) → givenOf c s image .fate ≡ fate.Refused r → r .number ≡ 0 → ⊥
-unfolding givenOf
-take-some c s image r e z = go (eqb (byteAt s 0) applicationTable) e
+take-some c s image r e z = go (eqb (byteAt s 0) applicationTable) refl
   where
-    go : (t : Bool) → cond {A = Given} t (record { fate = tableFate s; state = c }) (record { fate = carouselFate (steppedOf c s image .answer); state = steppedOf c s image .state }) .fate ≡ fate.Refused r → ⊥
-    go true e = table-some s r (table-refused (readAnswer s) r e) z
-    go false e = step-some c s image r (refused-by (steppedOf c s image .answer) r e) z
+    go : (t : Bool) → eqb (byteAt s 0) applicationTable ≡ t → ⊥
+    go true f = table-some s r (read-refused (readAnswer s) r (sym (fate-table c s image f) ∙ e)) z
+    go false f = step-some c s image r (refused-by (steppedOf c s image .answer) r (sym (fate-other c s image f) ∙ e)) z
 
 module _ (c : Carousel) (s image : List ℕ) where
   -- A REFUSAL CHANGES NEITHER RECORD NOR IMAGE, of any record and image: the step's, and the receiver's
