@@ -1,14 +1,17 @@
 -- What a program in C sees as `refusal` is the paper's number, by the paper's cases; of one section it is 0 exactly where there is a kind, and where it is not, nothing was changed.
 -- Assumes nothing.
 use Prim.Native.Nat.{ℕ}
-use mathlib.Core.Path.{_≡_, refl, sym, _∙_}
+use mathlib.Core.Path.{_≡_, refl, sym, ap, _∙_}
 use mathlib.Core.Bool.{Bool, true, false, cond, _||_}
-use mathlib.Core.List.{List}
+use mathlib.Core.List.{List, [], _∷_}
 use native.Mathlib.Omega.{arith}
 use lib.Dec.{eqb}
 use lib.ListN.{take}
-use borrow.Author.Tests.{eqb-true}
+use borrow.Author.Tests.{eq-eqb, ne-eqb, eqb-true}
+use Rattle.wire.specs.declared.Place.{Place}
+use Rattle.wire.specs.declared.Place.the-variants.{Nothing}
 use Rattle.wire.specs.Tests.{firstMet}
+use Rattle.wire.proofs.Laws.Tests.{met-append}
 use Rattle.section.specs.declared.Refusal.{Refusal}
 use Rattle.carousel.specs.declared.Carousel.{Carousel}
 use Rattle.carousel.specs.declared.Answer.{Answer}
@@ -23,6 +26,7 @@ use Rattle.carousel.specs.Calls.{handoutNumber, handoutPlace, missingNumber, re
 use Rattle.carousel.proofs.Exact.{step-number}
 use Rattle.carousel.proofs.Laws.Calls.{report-number}
 use Rattle.applications.specs.declared.Scope.{Scope}
+use Rattle.applications.specs.declared.Repeated.the-variants as repeated
 use Rattle.applications.specs.declared.ReadAnswer.{ReadAnswer}
 use Rattle.applications.specs.declared.ReadAnswer.the-variants as reading
 use Rattle.applications.specs.declared.ApplicationAnswer.{ApplicationAnswer}
@@ -39,12 +43,15 @@ use Rattle.applications.specs.declared.ItemAnswer.{ItemAnswer}
 use Rattle.applications.specs.declared.ItemAnswer.the-variants as items
 use Rattle.applications.specs.declared.Item.{Item}
 use Rattle.applications.specs.declared.Item.the-variants as item
-use Rattle.applications.specs.Places.{applicationAt, descriptorAt, extensionAt}
+use Rattle.applications.specs.Places.{applicationAt, descriptorAt, repeatedAt, extensionAt}
 use Rattle.applications.specs.Labels.{labelAt}
+use Rattle.applications.specs.Acceptance.{applicationTests}
+use Rattle.applications.proofs.Laws.Exact.{rising}
 use Rattle.applications.specs.Answers.{
   readAnswer,
   applicationAnswer,
   descriptorAnswer,
+  itemAnswer,
   extensionAnswer,
   resolveAnswer,
   readNumber,
@@ -56,47 +63,42 @@ use Rattle.applications.specs.Answers.{
   numberOfExtension,
   numberOfResolved,
 }
-use Rattle.applications.proofs.Laws.Numbers.{read-number, application-number, descriptor-number, extension-number, resolve-number}
+use Rattle.applications.proofs.Laws.Numbers.{read-number, application-number, descriptor-number, item-number, extension-number, resolve-number}
 use Rattle.receiver.specs.declared.Fate.{Fate}
 use Rattle.receiver.specs.declared.Fate.the-variants as fate
-use Rattle.receiver.specs.declared.Section.{Section}
 use Rattle.receiver.specs.declared.Stop.{Stop}
 use Rattle.receiver.specs.declared.Stop.the-variants as stop
 use Rattle.receiver.specs.declared.What.{What}
 use Rattle.receiver.specs.declared.What.the-variants as what
 use Rattle.receiver.specs.Run.{stopAt, wholeAt, givenOf, stoppedBy, numberOf, numberTook, carouselFate, tookOf, tookNumber}
-use Rattle.receiver.proofs.Laws.Takes.{took-number}
-use Rattle.receiver.proofs.Demands.One.{step-refused, step-some, take-some}
-use Rattle.box_api.specs.declared.TakenOut.{TakenOut}
+use Rattle.receiver.proofs.Laws.Takes.{carousel-fate, took-number}
+use Rattle.receiver.proofs.Laws.Fates.{fate-tells}
+use Rattle.receiver.proofs.Demands.One.{step-refused, step-some, table-some, take-some}
 use Rattle.box_api.specs.Box.{kindNumber, stopNumber, stepOut, whatOut, takeOut, partOut, lackOut}
-use Rattle.box_api.specs.Reading.{tableOut, applicationOut, describedOut, descriptorOut, foundOut, itemOut, extensionOut, labelOut}
+use Rattle.box_api.specs.Reading.{tableOut, applicationOut, describedOut, descriptorOut, noPlace, itemAsked, foundOut, itemOut, extensionOut, labelOut}
 
-same-number : (a : Answer) → numberOf (carouselFate a) ≡ carousel.numberOf a
-unfolding carouselFate
-same-number answer.New = refl
-same-number answer.Same = refl
-same-number answer.Stored = refl
-same-number answer.Repeated = refl
-same-number (answer.Refused r) = refl
+-- exactly one of refusal and kind is 0, where no refusal is
+abbrev pub OneOfTwo : (refusal kind : ℕ) → Type 0
+OneOfTwo refusal kind = (refusal ≡ 0 → kind ≡ 0 → ⊥) × ((kind ≡ 0 → ⊥) → refusal ≡ 0)
+
+one-of-two : (f : Fate) → ((r : Refusal) → f ≡ fate.Refused r → r .number ≡ 0 → ⊥) → OneOfTwo (numberOf f) (kindNumber f)
+one-of-two (fate.Refused r) some = (λ n k. some r refl n, λ k. absurd (k refl))
+one-of-two fate.Table some = (λ n k. omega (arith, k), λ k. refl)
+one-of-two fate.New some = (λ n k. omega (arith, k), λ k. refl)
+one-of-two fate.Same some = (λ n k. omega (arith, k), λ k. refl)
+one-of-two fate.Stored some = (λ n k. omega (arith, k), λ k. refl)
+one-of-two fate.Repeated some = (λ n k. omega (arith, k), λ k. refl)
 
 module _ (c : Carousel) (s image : List ℕ) where
   -- "A refusal has a number from the paper, given in exactly the stated case"
   pub step-refusal : stepOut c s image .answer .refusal ≡ firstMet (stepTests c s image)
   unfolding stepOut
-  step-refusal = same-number (steppedOf c s image .answer) ∙ step-number c s image
+  step-refusal = carousel-fate (steppedOf c s image .answer) ∙ step-number c s image
 
   -- "exactly one of refusal and kind is 0"
-  pub step-one-of-two : ((stepOut c s image .answer .refusal ≡ 0) → (stepOut c s image .answer .kind ≡ 0) → ⊥) × ((stepOut c s image .answer .kind ≡ 0 → ⊥) → stepOut c s image .answer .refusal ≡ 0)
+  pub step-one-of-two : OneOfTwo (stepOut c s image .answer .refusal) (stepOut c s image .answer .kind)
   unfolding stepOut carouselFate
-  step-one-of-two = go (steppedOf c s image .answer) refl
-    where
-      go : (a : Answer) → steppedOf c s image .answer ≡ a
-          → ((numberOf (carouselFate a) ≡ 0) → (kindNumber (carouselFate a) ≡ 0) → ⊥) × ((kindNumber (carouselFate a) ≡ 0 → ⊥) → numberOf (carouselFate a) ≡ 0)
-      go answer.New e = (λ n k. omega (arith, k), λ k. refl)
-      go answer.Same e = (λ n k. omega (arith, k), λ k. refl)
-      go answer.Stored e = (λ n k. omega (arith, k), λ k. refl)
-      go answer.Repeated e = (λ n k. omega (arith, k), λ k. refl)
-      go (answer.Refused r) e = (λ n k. step-some c s image r e n, λ k. absurd (k refl))
+  step-one-of-two = one-of-two (carouselFate (steppedOf c s image .answer)) (λ r e z. step-some c s image r (fate-tells (steppedOf c s image .answer) (answer.Refused r) e) z)
 
   -- "and changes neither record nor image"
   pub step-changes-nothing : (stepOut c s image .answer .refusal ≡ 0 → ⊥) → (stepOut c s image .state ≡ c) × (imageOf c s image ≡ image)
@@ -123,20 +125,6 @@ abbrev Some : What → Type 0
 Some (what.Stopped x) = Unit {0}
 Some (what.Taken x) = (r : Refusal) → x .fate ≡ fate.Refused r → r .number ≡ 0 → ⊥
 
-abbrev pub OneOfTwo : TakenOut → Type 0
-OneOfTwo t = ((t .refusal ≡ 0) → (t .kind ≡ 0) → ⊥) × ((t .kind ≡ 0 → ⊥) → t .refusal ≡ 0)
-
-told-apart : (x : Section) → ((r : Refusal) → x .fate ≡ fate.Refused r → r .number ≡ 0 → ⊥) → OneOfTwo (whatOut (what.Taken x))
-told-apart x some = go (x .fate) refl
-  where
-    go : (f : Fate) → x .fate ≡ f → ((numberOf f ≡ 0) → (kindNumber f ≡ 0) → ⊥) × ((kindNumber f ≡ 0 → ⊥) → numberOf f ≡ 0)
-    go (fate.Refused r) e = (λ n k. some r e n, λ k. absurd (k refl))
-    go fate.Table e = (λ n k. omega (arith, k), λ k. refl)
-    go fate.New e = (λ n k. omega (arith, k), λ k. refl)
-    go fate.Same e = (λ n k. omega (arith, k), λ k. refl)
-    go fate.Stored e = (λ n k. omega (arith, k), λ k. refl)
-    go fate.Repeated e = (λ n k. omega (arith, k), λ k. refl)
-
 stop-some : (x : Stop) → stopNumber x ≡ 0 → ⊥
 unfolding stopNumber
 stop-some stop.End e = omega (arith, e)
@@ -145,11 +133,11 @@ stop-some stop.Short e = omega (arith, e)
 stop-some stop.Budget e = omega (arith, e)
 stop-some stop.State e = omega (arith, e)
 
-apart : (w : What) → Some w → whatOut w .stop ≡ 0 → OneOfTwo (whatOut w)
+apart : (w : What) → Some w → whatOut w .stop ≡ 0 → OneOfTwo (whatOut w .refusal) (whatOut w .kind)
 apart (what.Stopped x) u e = absurd (stop-some x e)
-apart (what.Taken x) some e = told-apart x some
+apart (what.Taken x) some e = one-of-two (x .fate) some
 
-pub take-one-of-two : (c : Carousel) (s image : List ℕ) (budget : ℕ) → takeOut c s image budget .answer .stop ≡ 0 → OneOfTwo (takeOut c s image budget .answer)
+pub take-one-of-two : (c : Carousel) (s image : List ℕ) (budget : ℕ) → takeOut c s image budget .answer .stop ≡ 0 → OneOfTwo (takeOut c s image budget .answer .refusal) (takeOut c s image budget .answer .kind)
 unfolding takeOut tookOf
 take-one-of-two c s image budget = apart (tookOf c s image budget .what) (go (ruledOf c) (eqb (wholeAt s) 0 || eqb budget 0))
   where
@@ -216,9 +204,41 @@ module _ (s : List ℕ) where
   found-is-none (item.Base b) = refl
   found-is-none (item.Identifier i) = refl
 
-  pub item-refusal : (r : ItemAnswer) → itemOut r .refusal ≡ numberOfItem r
-  item-refusal (items.Refused r) = refl
-  item-refusal (items.Found x) = found-is-none x
+  item-told : (r : ItemAnswer) → itemOut r .refusal ≡ numberOfItem r
+  item-told (items.Refused r) = refl
+  item-told (items.Found x) = found-is-none x
+
+  -- where an item of a kind lies; of a kind that is none of the five, nowhere
+  abbrev pub askedAt : Scope → (j kind k : ℕ) → Place
+  askedAt o j kind k =
+      cond (eqb kind 1) (repeatedAt o j repeated.Profiles k s)
+      (cond (eqb kind 2) (repeatedAt o j repeated.Labels k s)
+      (cond (eqb kind 3) (repeatedAt o j repeated.Names k s)
+      (cond (eqb kind 4) (repeatedAt o j repeated.Bases k s)
+      (cond (eqb kind 5) (repeatedAt o j repeated.Identifiers k s) Nothing))))
+
+  none-asked : numberOfItem (noPlace (readAnswer s)) ≡ placeNumber s Nothing
+  unfolding placeNumber readNumber firstMet
+  none-asked = go (readAnswer s) refl ∙ sym (met-append 0 (applicationTests s) ((19, true) ∷ []) (rising s))
+    where
+      go : (a : ReadAnswer) → readAnswer s ≡ a → numberOfItem (noPlace a) ≡ cond (eqb (readNumber s) 0) 19 (readNumber s)
+      go (reading.Refused r) e = let n = sym (ap numberOfRead e) ∙ read-number s in rw (ne-eqb (readNumber s) 0 (λ z. table-some s r e (n ∙ z))) n
+      go (reading.Accepted t) e = rw (eq-eqb (readNumber s) 0 (sym (read-number s) ∙ ap numberOfRead e))
+
+  pub item-refusal : (o : Scope) (j kind k : ℕ) → itemOut (itemAsked s o j kind k) .refusal ≡ placeNumber s (askedAt o j kind k)
+  unfolding itemAsked
+  item-refusal o j kind k = item-told (itemAsked s o j kind k) ∙ go (eqb kind 1) (eqb kind 2) (eqb kind 3) (eqb kind 4) (eqb kind 5)
+    where
+      go : (a b c d e : Bool) → numberOfItem (cond a (itemAnswer s o j repeated.Profiles k) (cond b (itemAnswer s o j repeated.Labels k)
+          (cond c (itemAnswer s o j repeated.Names k) (cond d (itemAnswer s o j repeated.Bases k) (cond e (itemAnswer s o j repeated.Identifiers k) (noPlace (readAnswer s)))))))
+          ≡ placeNumber s (cond a (repeatedAt o j repeated.Profiles k s) (cond b (repeatedAt o j repeated.Labels k s)
+          (cond c (repeatedAt o j repeated.Names k s) (cond d (repeatedAt o j repeated.Bases k s) (cond e (repeatedAt o j repeated.Identifiers k s) Nothing)))))
+      go true b c d e = item-number s o j repeated.Profiles k
+      go false true c d e = item-number s o j repeated.Labels k
+      go false false true d e = item-number s o j repeated.Names k
+      go false false false true e = item-number s o j repeated.Bases k
+      go false false false false true = item-number s o j repeated.Identifiers k
+      go false false false false false = none-asked
 
   pub extension-refusal : (o : Scope) (j k m : ℕ) → extensionOut (extensionAnswer s o j k m) .refusal ≡ placeNumber s (extensionAt o j k m s)
   extension-refusal o j k m = told (extensionAnswer s o j k m) ∙ extension-number s o j k m

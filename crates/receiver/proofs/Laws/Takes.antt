@@ -41,7 +41,7 @@ unfolding readFate
 read-fate (reading.Refused r) = refl
 read-fate (reading.Accepted t) = refl
 
-carousel-fate : (a : Answer) → numberOf (carouselFate a) ≡ stepNumberOf a
+pub carousel-fate : (a : Answer) → numberOf (carouselFate a) ≡ stepNumberOf a
 unfolding carouselFate
 carousel-fate answer.New = refl
 carousel-fate answer.Same = refl
