@@ -27,7 +27,7 @@ def text_of(path):
 
 def rattle():
     """The exported functions, and the fields of each struct that is laid out as C does."""
-    text = "".join(text_of(p) for p in SOURCES + [ROOT / "crates" / "carousel" / "src" / "lib.rt"])
+    text = "".join(text_of(p) for p in SOURCES + [ROOT / "crates" / "record" / "src" / "lib.rt"])
     structs = {}
     for name, body in re.findall(r"#\[repr\(C\)\]\s*pub struct (\w+) \{(.*?)\}", text, re.S):
         structs[name] = [t for _, t in re.findall(r"pub (\w+): ([^,\n]+),", body)]
@@ -39,7 +39,7 @@ def rattle():
 
 def flat(types, structs):
     """What lies one after another in memory."""
-    counts = {"messages::MOST_MODULES": 16, "MOST_MODULES": 16}
+    counts = {"MOST_MODULES": 16}
     for t in types:
         array = re.fullmatch(r"\[(\w+); ([\w:]+)\]", t)
         if array:

@@ -13,13 +13,13 @@ use Rattle.wire.specs.declared.Place.the-variants.{Nothing}
 use Rattle.wire.specs.Tests.{firstMet}
 use Rattle.wire.proofs.Laws.Tests.{met-append}
 use Rattle.section.specs.declared.Refusal.{Refusal}
-use Rattle.carousel.specs.declared.Carousel.{Carousel}
+use Rattle.record.specs.declared.Carousel.{Carousel}
 use Rattle.carousel.specs.declared.Answer.{Answer}
 use Rattle.carousel.specs.declared.Answer.the-variants as answer
 use Rattle.carousel.specs.declared.Handed.{Handed}
 use Rattle.carousel.specs.declared.Report.{Report}
 use Rattle.carousel.specs.declared.Report.the-variants as report
-use Rattle.carousel.specs.Record.{ruledOf}
+use Rattle.record.specs.Record.{ruledOf}
 use Rattle.carousel.specs.Step as carousel
 use Rattle.carousel.specs.Step.{steppedOf, imageOf, stepTests}
 use Rattle.carousel.specs.Calls.{handoutNumber, handoutPlace, missingNumber, reportOf, numberOfReport}

@@ -4,7 +4,7 @@ use Prim.Native.Nat.{ℕ}
 use mathlib.Core.Path.{_≡_, sym, _∙_}
 use mathlib.Core.List.{List}
 use Rattle.wire.proofs.Once.{OneAnswer}
-use Rattle.carousel.specs.declared.Carousel.{Carousel}
+use Rattle.record.specs.declared.Carousel.{Carousel}
 use Rattle.carousel.specs.Step.{imageOf}
 use Rattle.carousel.specs.Calls.{reportOf}
 use Rattle.receiver.specs.Run.{imageTook, imageRan}

@@ -2,7 +2,7 @@
 -- Assumes nothing.
 use Prim.Native.Nat.{ℕ}
 use mathlib.Core.List.{List}
-use Rattle.carousel.specs.declared.Carousel.{Carousel}
+use Rattle.record.specs.declared.Carousel.{Carousel}
 use Rattle.carousel.specs.declared.Handed.{Handed}
 use Rattle.carousel.specs.declared.Report.{Report}
 use Rattle.carousel.specs.declared.Report.the-variants as report

@@ -6,7 +6,6 @@
 
 mod reading;
 
-use carousel::Carousel;
 use carousel::Report;
 pub use reading::nebosvar_application;
 pub use reading::nebosvar_descriptor;
@@ -17,9 +16,10 @@ pub use reading::nebosvar_table;
 use receiver::Fate;
 use receiver::Stop;
 use receiver::What;
+use record::Carousel;
 ghost use mathlib.Core.Path.{_≡_};
 ghost use lib.ListN.{take, drop};
-ghost use Rattle.carousel.specs.Changes.{emptyRecord};
+ghost use Rattle.record.specs.Changes.{emptyRecord};
 ghost use Rattle.carousel.specs.Step.{steppedOf, imageOf};
 ghost use Rattle.carousel.specs.Calls.{handedOut, reportOf};
 ghost use Rattle.receiver.specs.Run.{carouselFate, tookOf, imageTook, ranOf, imageRan};
@@ -99,7 +99,7 @@ pub struct RanOut {
 pub extern "C" fn nebosvar_start() -> Carousel
     ensures { λ r. ⌜ r ≡ emptyRecord ⌝ }
 {
-    carousel::empty()
+    record::empty()
 }
 
 // One section of the carousel.

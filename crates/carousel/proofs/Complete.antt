@@ -13,16 +13,16 @@ use borrow.Author.Tests.{eq-eqb, ne-eqb, eqb-true, ltb-true, ltb-false, not-fals
 use Rattle.wire.proofs.Laws.Tests.{clash}
 use Rattle.wire.proofs.Laws.Order.{none-exactly}
 use Rattle.messages.specs.Limits.{mostBlocks}
-use Rattle.carousel.specs.declared.Carousel.{Carousel}
+use Rattle.record.specs.declared.Carousel.{Carousel}
 use Rattle.carousel.specs.declared.Report.the-variants as report
 use Rattle.carousel.specs.declared.Lack.{Lack}
-use Rattle.carousel.specs.Marks.{isMarked, clearAmong}
-use Rattle.carousel.specs.Record.{Record, recordOf, announcedBy, moduleAt, placeOf, bytesOf, blockCount, received, partOf, missingOf, completeOf, ruledOf}
+use Rattle.record.specs.Marks.{isMarked, clearAmong}
+use Rattle.record.specs.Record.{Record, recordOf, announcedBy, moduleAt, placeOf, bytesOf, blockCount, received, partOf, missingOf, completeOf, ruledOf}
 use Rattle.carousel.specs.Step.{meets13, meets15}
 use Rattle.carousel.specs.Calls.{handoutTests, handoutNumber, handedOut, lackOf, reportOn}
-use Rattle.carousel.proofs.Laws.Tests.{alike}
-use Rattle.carousel.proofs.Laws.Places.{size-pos}
-use Rattle.carousel.proofs.Laws.Rule.{Kept, kept, ruled-says}
+use Rattle.record.proofs.Laws.Tests.{alike}
+use Rattle.record.proofs.Laws.Places.{size-pos}
+use Rattle.record.proofs.Laws.Rule.{Kept, kept, ruled-says}
 use Rattle.carousel.proofs.View.{modules-inside}
 
 -- the clear ones among n blocks from b on

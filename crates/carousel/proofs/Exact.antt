@@ -27,14 +27,14 @@ use Rattle.messages.specs.Refusals.{messageTests}
 use Rattle.messages.specs.Judged.{readOf, judgedOf, numberOfJudged, tableIn, carouselTests}
 use Rattle.messages.specs.Heard.{Announced, Arrived, Heard, refusal, announced, arrived, heardIn, heardOf}
 use Rattle.messages.proofs.Exact.{refused-exactly, taken-exactly}
-use Rattle.carousel.specs.declared.Carousel.{Carousel}
+use Rattle.record.specs.declared.Carousel.{Carousel}
 use Rattle.carousel.specs.declared.Answer.{Answer}
 use Rattle.carousel.specs.declared.Answer.the-variants as answer
-use Rattle.carousel.specs.Record.{Record, recordOf, announcedBy, placeOf, received, completeOf, ruledOf}
+use Rattle.record.specs.Record.{Record, recordOf, announcedBy, placeOf, received, completeOf, ruledOf}
 use Rattle.carousel.specs.Step.{meets12, meets13, meets14, meets15, meets16, blockTests, blockRefusal, bytesDiffer, sameModules, sameAnnounced, Outcome, refusing, new, same, repeated, stored, matched}
 use Rattle.carousel.specs.Step.{onArrived, onAnnounced, onHeard, outcomeOf, answerOf, steppedOf, numberOf, meets17, heardTests, stepTests}
 use Rattle.carousel.specs.Calls.{handoutTests, handoutNumber, missingTests, missingNumber}
-use Rattle.carousel.proofs.Laws.Tests.{rising-numbered, numbered-both, none-both, met-before, met-after}
+use Rattle.record.proofs.Laws.Tests.{rising-numbered, numbered-both, none-both, met-before, met-after}
 use Rattle.carousel.proofs.Laws.Outcomes.{announced-same, announced-new, matched-clear, arrived-good}
 use Rattle.carousel.proofs.Simulation.{outcome-ruled}
 

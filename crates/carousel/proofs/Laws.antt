@@ -1,13 +1,7 @@
-pub mod Tests
-pub mod Marks
-pub mod Blocks
-pub mod Places
+pub mod Sames
+pub mod Lacks
 pub mod Images
-pub mod Rule
-pub mod Entries
-pub mod Words
 pub mod Bytes
 pub mod Afresh
 pub mod Outcomes
-pub mod Says
 pub mod Calls

@@ -12,10 +12,10 @@ use Rattle.wire.specs.Tests.{firstMet}
 use Rattle.wire.proofs.Laws.Tests.{both, clash}
 use Rattle.messages.specs.Limits.{twice11}
 use Rattle.messages.specs.Heard.{Announced, Arrived, Heard, refusal, announced, arrived}
-use Rattle.carousel.specs.Record.{numbersOf, moduleAt, placeOf, bytesOf, blockCount, blockLength}
+use Rattle.record.specs.Record.{numbersOf, moduleAt, placeOf, bytesOf, blockCount, blockLength}
 use Rattle.carousel.specs.Step.{meets12, meets13, meets14, meets15, meets16, blockRefusal}
 use Rattle.carousel.specs.Matching.{blockFor, heardFor, blockMatches, heardMatches, Matching}
-use Rattle.carousel.proofs.Laws.Places.{place-is}
+use Rattle.record.proofs.Laws.Places.{place-is}
 use Rattle.carousel.proofs.View.{fits}
 
 module _ (a : Announced) (numbers : twice11 (numbersOf (a .modules)) ≡ false) (n i b : ℕ) (there : i < length (a .modules)) (d : Arrived) where

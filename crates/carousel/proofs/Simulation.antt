@@ -15,14 +15,14 @@ use Rattle.messages.specs.declared.Listed.{Listed}
 use Rattle.messages.specs.Limits.{mostModules, beyond10, twice11}
 use Rattle.messages.specs.Heard.{Announced, Heard, refusal, announced, arrived, heardOf}
 use Rattle.messages.proofs.Laws.Heard.{heard-limits}
-use Rattle.carousel.specs.declared.Carousel.{Carousel}
-use Rattle.carousel.specs.Marks.{clearFrom, marksWithin}
-use Rattle.carousel.specs.Record.{Record, sizesOf, numbersOf, listedIn, startIn, announcedBy, startsBy, recordOf, placeOf, sums, sameNumbers, withinLimits, ruled, unused, allUnused, ruledOf}
-use Rattle.carousel.specs.Changes.{emptyRecord, entries, madeAfresh, withMark, afresh, marking}
+use Rattle.record.specs.declared.Carousel.{Carousel}
+use Rattle.record.specs.Marks.{clearFrom, marksWithin}
+use Rattle.record.specs.Record.{Record, sizesOf, numbersOf, listedIn, startIn, announcedBy, startsBy, recordOf, placeOf, sums, sameNumbers, withinLimits, ruled, unused, allUnused, ruledOf}
+use Rattle.record.specs.Changes.{emptyRecord, entries, madeAfresh, withMark, afresh, marking}
 use Rattle.carousel.specs.Step.{blockRefusal, sameAnnounced, Outcome, refusing, new, same, repeated, stored, matched, onArrived, onAnnounced, onHeard, outcomeOf, carouselAfter, recordAfter, steppedOf}
 use Rattle.carousel.proofs.Views.{isNew}
-use Rattle.carousel.proofs.Laws.Places.{few-modules}
-use Rattle.carousel.proofs.Laws.Rule.{kept, keeps, fresh-kept, shaped, ruled-parts, parts-ruled}
+use Rattle.record.proofs.Laws.Places.{few-modules}
+use Rattle.record.proofs.Laws.Rule.{kept, keeps, fresh-kept, shaped, ruled-parts, parts-ruled}
 use Rattle.carousel.proofs.Laws.Afresh.{entries-length}
 use Rattle.carousel.proofs.View.{fits, matched-fixed, arrived-old}
 

@@ -12,13 +12,13 @@ use Rattle.section.specs.Answer.{refused}
 use Rattle.messages.specs.Limits.{someBad, total, beyond10, among, twice11}
 use Rattle.messages.specs.Heard.{Announced, Arrived, Heard, announced, arrived, listOf, announcedIn, arrivedIn, heardIn, heardOf}
 use Rattle.messages.proofs.Soundings as messages
-use Rattle.carousel.specs.declared.Carousel.{Carousel}
+use Rattle.record.specs.declared.Carousel.{Carousel}
 use Rattle.carousel.specs.declared.Answer.the-variants as answer
 use Rattle.carousel.specs.declared.Report.the-variants as report
-use Rattle.carousel.specs.Blocks.{blocksOf, lengthOf}
-use Rattle.carousel.specs.Marks.{isMarked, marksWith, clearFrom, marksWithin, clearAmong}
-use Rattle.carousel.specs.Record.{Record, announcedBy, startsBy, recordOf, placeIn, sums, blockAt, missingOf, completeOf, sameNumbers, withinLimits, ruled, allUnused, ruledOf}
-use Rattle.carousel.specs.Changes.{emptyRecord, entries, madeAfresh, withMark, afresh, marking, overwrite}
+use Rattle.record.specs.Blocks.{blocksOf, lengthOf}
+use Rattle.record.specs.Marks.{isMarked, marksWith, clearFrom, marksWithin, clearAmong}
+use Rattle.record.specs.Record.{Record, announcedBy, startsBy, recordOf, placeIn, sums, blockAt, missingOf, completeOf, sameNumbers, withinLimits, ruled, allUnused, ruledOf}
+use Rattle.record.specs.Changes.{emptyRecord, entries, madeAfresh, withMark, afresh, marking, overwrite}
 use Rattle.carousel.specs.Step.{meets12, meets13, meets14, meets15, meets16, blockRefusal, bytesDiffer, sameModules, sameAnnounced, refusing, new, same, repeated, stored}
 use Rattle.carousel.specs.Step.{matched, onArrived, onAnnounced, onHeard, outcomeOf, recordAfter, imageAfter, Outcome, returning, steppedOf, imageOf}
 use Rattle.carousel.specs.Calls.{reportOn}

@@ -13,18 +13,18 @@ use Rattle.wire.proofs.Laws.Tests.{clash}
 use Rattle.section.specs.declared.Refusal.{Refusal}
 use Rattle.section.specs.Answer.{refused}
 use Rattle.messages.specs.Heard.{Announced, Arrived, Heard, refusal, announced, arrived, heardOf}
-use Rattle.carousel.specs.declared.Carousel.{Carousel}
+use Rattle.record.specs.declared.Carousel.{Carousel}
 use Rattle.carousel.specs.declared.Answer.{Answer}
 use Rattle.carousel.specs.declared.Answer.the-variants as answer
-use Rattle.carousel.specs.Marks.{markOf, isMarked, marksWith}
-use Rattle.carousel.specs.Record.{Record, announcedBy, recordOf, placeOf, received, blockAt, ruledOf}
-use Rattle.carousel.specs.Changes.{madeAfresh, withMark, overwrite}
+use Rattle.record.specs.Marks.{markOf, isMarked, marksWith}
+use Rattle.record.specs.Record.{Record, announcedBy, recordOf, placeOf, received, blockAt, ruledOf}
+use Rattle.record.specs.Changes.{madeAfresh, withMark, overwrite}
 use Rattle.carousel.specs.Step.{blockRefusal, bytesDiffer, sameAnnounced, Outcome, refusing, new, same, repeated, stored, matched, onArrived, onAnnounced, onHeard, outcomeOf}
 use Rattle.carousel.specs.Step.{answerOf, carouselAfter, imageAfter, steppedOf, imageOf}
 use Rattle.carousel.proofs.Views.{isNew}
-use Rattle.carousel.proofs.Laws.Marks.{mark-same, mark-other}
+use Rattle.record.proofs.Laws.Marks.{mark-same, mark-other}
 use Rattle.carousel.proofs.Laws.Images.{length-over, over-same, over-outside}
-use Rattle.carousel.proofs.Laws.Rule.{Kept, kept, in-words, ruled-says}
+use Rattle.record.proofs.Laws.Rule.{Kept, kept, in-words, ruled-says}
 use Rattle.carousel.proofs.View.{Fits, fits, fits-in, arrived-old}
 use Rattle.carousel.proofs.Simulation.{outcome-ruled}
 

@@ -8,14 +8,10 @@ use contract.Lifetimes.{Lfts}
 use borrow.Fn.Kinds.{Dens, resT, endedOf}
 use denote.Triple.Clauses.{AtExit}
 use Rattle.wire.proofs.Once.{OneAnswer}
-use Rattle.carousel.specs.declared.Carousel.{Carousel}
+use Rattle.record.specs.declared.Carousel.{Carousel}
 use Rattle.carousel.specs.declared.Answer.{Answer}
 use Rattle.carousel.specs.declared.Stepped.{Stepped}
 use Rattle.carousel.specs.Step.{steppedOf, imageOf}
-use Rattle.carousel.proofs.empty.Kinds as empty-kinds
-use Rattle.carousel.proofs.empty.Reads as empty-reads
-use Rattle.carousel.proofs.rule.is_ruled.Kinds as is-ruled-kinds
-use Rattle.carousel.proofs.rule.is_ruled.Reads as is-ruled-reads
 use Rattle.carousel.proofs.step.Kinds as step-kinds
 use Rattle.carousel.proofs.step.Reads as step-reads
 use Rattle.carousel.proofs.handout_number.Kinds as handout-number-kinds
@@ -26,12 +22,6 @@ use Rattle.carousel.proofs.handout.Kinds as handout-kinds
 use Rattle.carousel.proofs.handout.Reads as handout-reads
 use Rattle.carousel.proofs.missing.Kinds as missing-kinds
 use Rattle.carousel.proofs.missing.Reads as missing-reads
-
-is-ruled : OneAnswer 0 is-ruled-kinds.ps is-ruled-kinds.r is-ruled-reads.Post
-is-ruled κs a x y s t p q = p ∙ sym q
-
-empty : OneAnswer 0 empty-kinds.ps empty-kinds.r empty-reads.Post
-empty κs a x y s t p q = p ∙ sym q
 
 handout-number : OneAnswer 1 handout-number-kinds.ps handout-number-kinds.r handout-number-reads.Post
 handout-number κs a x y s t p q = p ∙ sym q

@@ -15,19 +15,19 @@ use Rattle.wire.proofs.Laws.Order.{none-exactly}
 use Rattle.section.specs.Answer.{refused}
 use Rattle.messages.specs.Heard.{Announced, Arrived, Heard, refusal, announced, arrived}
 use Rattle.carousel.specs.declared.Answer.the-variants as answer
-use Rattle.carousel.specs.Marks.{markOf}
-use Rattle.carousel.specs.Record.{Record, sizesOf, moduleAt, placeOf, bytesOf, sums, blockCount, blockLength, received, blockAt, sameNumbers}
-use Rattle.carousel.specs.Changes.{marking, overwrite}
+use Rattle.record.specs.Marks.{markOf}
+use Rattle.record.specs.Record.{Record, sizesOf, moduleAt, placeOf, bytesOf, sums, blockCount, blockLength, received, blockAt, sameNumbers}
+use Rattle.record.specs.Changes.{marking, overwrite}
 use Rattle.carousel.specs.Step.{meets12, meets13, meets14, meets15, meets16, blockTests, blockRefusal, bytesDiffer, sameAnnounced}
 use Rattle.carousel.specs.Step.{refusing, new, same, repeated, stored, matched, onArrived, onAnnounced, onHeard, answerOf}
 use Rattle.carousel.specs.Matching.{blockMatches, heardMatches, heardBytes}
 use Rattle.carousel.proofs.Views.{Held, after, Slot, slot, hit, reply, isNew}
-use Rattle.carousel.proofs.Laws.Tests.{alike}
-use Rattle.carousel.proofs.Laws.Marks.{mark-same, mark-other}
-use Rattle.carousel.proofs.Laws.Blocks.{ends, apart}
-use Rattle.carousel.proofs.Laws.Places.{number-at, place-is, module-fits, modules-apart, block-size-pos}
+use Rattle.record.proofs.Laws.Tests.{alike}
+use Rattle.record.proofs.Laws.Marks.{mark-same, mark-other}
+use Rattle.record.proofs.Laws.Blocks.{ends, apart}
+use Rattle.record.proofs.Laws.Places.{number-at, place-is, module-fits, modules-apart, block-size-pos}
 use Rattle.carousel.proofs.Laws.Images.{length-over, over-same, over-before, over-after}
-use Rattle.carousel.proofs.Laws.Rule.{Kept, number-small, in-words, mark-kept}
+use Rattle.record.proofs.Laws.Rule.{Kept, number-small, in-words, mark-kept}
 
 -- what it means that none of 12 to 16 meets a data section
 pub record Fits (a : Announced) (n : ℕ) (d : Arrived) : Type 0 where

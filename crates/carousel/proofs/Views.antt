@@ -7,7 +7,7 @@ use lib.ListN.{take, drop}
 use Rattle.section.specs.Answer.{refused}
 use Rattle.carousel.specs.declared.Answer.{Answer}
 use Rattle.carousel.specs.declared.Answer.the-variants as answer
-use Rattle.carousel.specs.Record.{Record, blockLength, received, blockAt, sameNumbers}
+use Rattle.record.specs.Record.{Record, blockLength, received, blockAt, sameNumbers}
 use Rattle.carousel.specs.Step.{Outcome, refusing, new, same, repeated, stored, recordAfter, imageAfter}
 
 -- one record, by what it says, and one image, carried from call to call; and both after a section that came to o

@@ -7,12 +7,12 @@ use lib.Dec.{eqb}
 use lib.ListN.{length, getD}
 use Rattle.wire.specs.Tests.{Tests, firstMet}
 use Rattle.section.specs.Answer.{refused}
-use Rattle.carousel.specs.declared.Carousel.{Carousel}
+use Rattle.record.specs.declared.Carousel.{Carousel}
 use Rattle.carousel.specs.declared.Handed.{Handed}
 use Rattle.carousel.specs.declared.Report.{Report}
 use Rattle.carousel.specs.declared.Report.the-variants as report
 use Rattle.carousel.specs.declared.Lack.{Lack}
-use Rattle.carousel.specs.Record.{recordOf, announcedBy, startsBy, moduleAt, placeOf, completeOf, missingOf, partOf, ruledOf}
+use Rattle.record.specs.Record.{recordOf, announcedBy, startsBy, moduleAt, placeOf, completeOf, missingOf, partOf, ruledOf}
 use Rattle.carousel.specs.Step.{meets13, meets15}
 
 -- "Hand-out can answer 1, 13, 15, 20": 20 "module not complete"

@@ -1,7 +1,3 @@
-pub mod Blocks
-pub mod Marks
-pub mod Record
-pub mod Changes
 pub mod Step
 pub mod Calls
 pub mod Matching

@@ -7,7 +7,7 @@ use mathlib.Core.List.{List, []}
 use lib.Dec.{eqb}
 use lib.ListN.{length}
 use Rattle.messages.specs.Heard.{Announced, Arrived, Heard, refusal, announced, arrived}
-use Rattle.carousel.specs.Record.{moduleAt, bytesOf, blockCount, blockLength}
+use Rattle.record.specs.Record.{moduleAt, bytesOf, blockCount, blockLength}
 use Rattle.carousel.specs.Step.{meets12, blockRefusal}
 
 -- "A data section is for a module when none of refusals 2 to 12 meets it and it bears that module's number." Here: for the module at place i; 2 to 11 are the hearing's.

@@ -11,13 +11,13 @@ use Rattle.section.specs.Answer.{refused}
 use Rattle.messages.specs.declared.Listed.{Listed}
 use Rattle.messages.specs.Judged.{carouselTests}
 use Rattle.messages.specs.Heard.{Announced, Arrived, Heard, refusal, announced, arrived, heardOf}
-use Rattle.carousel.specs.declared.Carousel.{Carousel}
+use Rattle.record.specs.declared.Carousel.{Carousel}
 use Rattle.carousel.specs.declared.Answer.{Answer}
 use Rattle.carousel.specs.declared.Answer.the-variants as answer
 use Rattle.carousel.specs.declared.Stepped.{Stepped}
-use Rattle.carousel.specs.Marks.{markOf}
-use Rattle.carousel.specs.Record.{Record, recordOf, moduleAt, placeOf, bytesOf, blockCount, blockLength, received, blockAt, sameNumbers, ruledOf}
-use Rattle.carousel.specs.Changes.{madeAfresh, withMark, afresh, marking, overwrite}
+use Rattle.record.specs.Marks.{markOf}
+use Rattle.record.specs.Record.{Record, recordOf, moduleAt, placeOf, bytesOf, blockCount, blockLength, received, blockAt, sameNumbers, ruledOf}
+use Rattle.record.specs.Changes.{madeAfresh, withMark, afresh, marking, overwrite}
 
 -- 12: "DDB: no announcement, or downloadId differs"
 unfoldable pub meets12 : Announced → Arrived → Bool

@@ -1,13 +1,13 @@
 // An announcement, and the record.
 use crate::Answer;
-use crate::Carousel;
-use crate::Module;
 use crate::Stepped;
-use crate::empty;
 use messages::Announcement;
 use messages::Listed;
 use messages::MOST_MODULES;
 use messages::module_at;
+use record::Carousel;
+use record::Module;
+use record::empty;
 ghost use mathlib.Core.Path.{_≡_};
 ghost use mathlib.Core.Bool.{_&&_};
 ghost use mathlib.Core.List.{map};
@@ -16,8 +16,8 @@ ghost use lib.Dec.{eqb};
 ghost use lib.ListN.{length, take};
 ghost use Rattle.messages.specs.Limits.{mostModules, mostBytes, total};
 ghost use Rattle.messages.specs.Heard.{listOf, announcedIn};
-ghost use Rattle.carousel.specs.Record.{announcedBy, recordOf, listedIn, sizesOf};
-ghost use Rattle.carousel.specs.Changes.{madeAfresh};
+ghost use Rattle.record.specs.Record.{announcedBy, recordOf, listedIn, sizesOf};
+ghost use Rattle.record.specs.Changes.{madeAfresh};
 ghost use Rattle.carousel.specs.Step.{sameModules, sameAnnounced, onAnnounced, returning};
 
 // "Same", or "new" with the record made afresh. `list` is where the announced modules lie.

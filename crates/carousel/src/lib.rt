@@ -1,24 +1,20 @@
-// The carousel record: what was announced, where each module lies in the image, and which blocks
-// have come.
+// What sections do to a carousel record, what is handed out of it, and what it lacks.
 //
-// What a record says and its rule are in specs/Record.antt, the ways in which it changes in
-// specs/Changes.antt, refusals 12 to 17 and the step in specs/Step.antt, the hand-out and the missing
-// report in specs/Calls.antt. No call trusts the record: one that breaks its rule is refused with 1.
+// The record, its rule and the ways in which it changes are crate `record`. Here, refusals 12 to 17 and the step are in
+// specs/Step.antt, the hand-out and the missing report in specs/Calls.antt. No call trusts the record: one that breaks its rule is
+// refused with 1.
 
 mod announce;
-mod blocks;
-mod entries;
-mod marks;
-mod rule;
+mod lacks;
 mod store;
 
 use announce::take_announcement;
-use blocks::blocks_of;
-use entries::place_from;
-use entries::total;
-use marks::lack_among;
+use lacks::lack_of;
 use messages::Judged;
-pub use rule::is_ruled;
+use record::Carousel;
+use record::bytes_of;
+use record::is_ruled;
+use record::place_of;
 use section::Refusal;
 use store::refuse;
 use store::take_block;
@@ -26,29 +22,11 @@ ghost use mathlib.Core.Path.{_≡_};
 ghost use mathlib.Core.Bool.{true};
 ghost use Prim.Native.Nat.{_+_, _<_, _≤_};
 ghost use lib.ListN.{length, take, drop};
-ghost use Rattle.carousel.specs.Record.{announcedBy, recordOf, placeOf, missingOf, ruledOf};
-ghost use Rattle.carousel.specs.Changes.{emptyRecord};
+ghost use Rattle.record.specs.Record.{announcedBy, recordOf, placeOf, missingOf, ruledOf};
+ghost use Rattle.record.specs.Changes.{emptyRecord};
 ghost use Rattle.wire.specs.Tests.{firstMet};
 ghost use Rattle.carousel.specs.Step.{steppedOf, imageOf, numberOf, stepTests};
 ghost use Rattle.carousel.specs.Calls.{lackOf, handoutNumber, handoutPlace, handedOut, missingNumber, reportOf, numberOfReport};
-
-// An announced module, and where it starts in the image. This and the record have C's layout: programs in C hold them.
-#[repr(C)]
-pub struct Module {
-    pub number: u16,
-    pub size: u32,
-    pub version: u8,
-    pub start: u32,
-}
-
-#[repr(C)]
-pub struct Carousel {
-    pub download: u32,
-    pub block_size: u16,
-    pub count: u16,
-    pub modules: [Module; messages::MOST_MODULES],
-    pub marks: [u32; 128],
-}
 
 pub enum Answer {
     New,
@@ -81,25 +59,6 @@ pub enum Report {
     Refused(Refusal),
     Whole,
     Lacking(Lack),
-}
-
-// The record that one starts with.
-pub fn empty() -> Carousel
-    ensures { λ r. ⌜ r ≡ emptyRecord ⌝ }
-{
-    let unused = Module {
-        number: 0,
-        size: 0,
-        version: 0,
-        start: 0,
-    };
-    Carousel {
-        download: 0,
-        block_size: 0,
-        count: 0,
-        modules: [unused; messages::MOST_MODULES],
-        marks: [0u32; 128],
-    }
 }
 
 // One section: its answer, the record after it, and the image changed where a block was stored.
@@ -149,13 +108,11 @@ pub fn handout_number(c: Carousel, image: &[u8], number: u16) -> u8
     if !is_ruled(c) {
         return 1;
     }
-    let n = c.count as usize;
-    let ms = c.modules;
-    let i = place_from(ms, n, 0, number);
-    if n <= i {
+    let i = place_of(c, number);
+    if c.count as usize <= i {
         return 13;
     }
-    if image.len() < total(ms, n) {
+    if image.len() < bytes_of(c) {
         return 15;
     }
     if lack_of(c, i).count != 0 {
@@ -179,8 +136,7 @@ pub fn handout_place(c: Carousel, image: &[u8], number: u16) -> Handed
         };
     }
     let ms = c.modules;
-    let i = place_from(ms, c.count as usize, 0, number);
-    let m = ms[i];
+    let m = ms[place_of(c, number)];
     Handed {
         number: 0,
         start: m.start as usize,
@@ -205,10 +161,8 @@ pub fn missing(c: Carousel, number: u16) -> Report
     if !is_ruled(c) {
         return Report::Refused(Refusal { number: 1 });
     }
-    let n = c.count as usize;
-    let ms = c.modules;
-    let i = place_from(ms, n, 0, number);
-    if n <= i {
+    let i = place_of(c, number);
+    if c.count as usize <= i {
         return Report::Refused(Refusal { number: 13 });
     }
     let lack = lack_of(c, i);
@@ -216,19 +170,4 @@ pub fn missing(c: Carousel, number: u16) -> Report
         return Report::Whole;
     }
     Report::Lacking(lack)
-}
-
-// What the module at a place lacks.
-fn lack_of(c: Carousel, place: usize) -> Lack
-    requires { ⌜ (ruledOf c ≡ true) × (place < c .count) ⌝ }
-    ensures { λ r. ⌜ r ≡ lackOf (missingOf (recordOf c) place) ⌝ }
-{
-    let ms = c.modules;
-    let m = ms[place];
-    let marks = c.marks;
-    lack_among(
-        &marks,
-        messages::MOST_BLOCKS * place,
-        blocks_of(c.block_size, m.size),
-    )
 }

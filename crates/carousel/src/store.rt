@@ -1,13 +1,13 @@
 // A block, and the record and image.
 use crate::Answer;
-use crate::Carousel;
 use crate::Stepped;
-use crate::blocks::is_block;
-use crate::entries::place_from;
-use crate::entries::total;
-use crate::marks::is_marked;
-use crate::marks::with_mark;
 use messages::Block;
+use record::Carousel;
+use record::bytes_of;
+use record::is_block;
+use record::is_marked;
+use record::place_of;
+use record::with_mark;
 use section::Refusal;
 ghost use mathlib.Core.Path.{_≡_};
 ghost use Prim.Native.Nat.{_+_, _<_, _≤_};
@@ -16,8 +16,8 @@ ghost use lib.ListN.{length};
 ghost use Rattle.section.specs.Answer.{refused};
 ghost use Rattle.messages.specs.Limits.{mostModules, mostBlocks};
 ghost use Rattle.messages.specs.Heard.{arrivedIn};
-ghost use Rattle.carousel.specs.Record.{announcedBy, recordOf, blockAt, placeOf, sameNumbers, ruledOf};
-ghost use Rattle.carousel.specs.Changes.{overwrite};
+ghost use Rattle.record.specs.Record.{announcedBy, recordOf, blockAt, placeOf, sameNumbers, ruledOf};
+ghost use Rattle.record.specs.Changes.{overwrite};
 ghost use Rattle.carousel.specs.Step.{refusing, blockRefusal, matched, onArrived, returning, imageAfter};
 
 // A block of a section: 12 to 17, "stored" or "repeated".
@@ -30,9 +30,7 @@ pub fn take_block(c: Carousel, b: Block, bytes: &[u8], image: &mut [u8]) -> Step
     if number != 0 {
         return refuse(c, number);
     }
-    let ms = c.modules;
-    let i = place_from(ms, c.count as usize, 0, b.number);
-    put(c, i, b, bytes, image)
+    put(c, place_of(c, b.number), b, bytes, image)
 }
 
 pub fn refuse(c: Carousel, number: u8) -> Stepped
@@ -56,16 +54,16 @@ fn block_refusal(c: Carousel, b: Block, bytes: &[u8], room: usize) -> u8
     if c.download != b.download {
         return 12;
     }
-    let ms = c.modules;
-    let i = place_from(ms, n, 0, b.number);
+    let i = place_of(c, b.number);
     if n <= i {
         return 13;
     }
+    let ms = c.modules;
     let m = ms[i];
     if m.version != b.version {
         return 14;
     }
-    if room < total(ms, n) {
+    if room < bytes_of(c) {
         return 15;
     }
     if !is_block(c.block_size, m.size, b.block as usize, bytes.len()) {

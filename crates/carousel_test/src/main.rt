@@ -12,9 +12,9 @@
 //   m number 16                       missing report
 ghost use Prim.Native.Nat.{_≤_};
 use carousel::Answer;
-use carousel::Carousel;
-use carousel::Module;
 use carousel::Report;
+use record::Carousel;
+use record::Module;
 
 // What is kept from command to command: the record, and how much of the memory is the image.
 struct Kept {
@@ -32,7 +32,7 @@ fn main() {
 // Each command, as far as whole ones go.
 fn follow(s: &[u8], memory: &mut [u8]) {
     let mut kept = Kept {
-        record: carousel::empty(),
+        record: record::empty(),
         length: 0,
     };
     let mut at: usize = 0;
@@ -111,7 +111,7 @@ fn start(s: &[u8], memory: &mut [u8]) -> Kept {
     io::write_all(1, b"start");
     print_number(n as u64);
     io::write_all(1, b"\n");
-    let record = carousel::empty();
+    let record = record::empty();
     Kept { record, length: n }
 }
 

@@ -20,12 +20,12 @@ use applications::Repeated;
 use applications::Resolved;
 use applications::Scope;
 use applications::Table;
-use carousel::Carousel;
-use carousel::Module;
 use carousel::Report;
 use receiver::Fate;
 use receiver::Stop;
 use receiver::What;
+use record::Carousel;
+use record::Module;
 
 // The sections that are taken at most.
 const BUDGET: usize = 65_536;
@@ -40,7 +40,7 @@ fn main() {
 
 // Runs an empty record over a stretch; what is printed goes by way of `out`.
 fn inspect(stretch: &[u8], image: &mut [u8], out: &mut [u8]) {
-    let mut c = carousel::empty();
+    let mut c = record::empty();
     let mut at: usize = 0;
     let mut index: usize = 0;
     let mut passed: usize = 0;

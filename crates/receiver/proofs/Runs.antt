@@ -12,8 +12,8 @@ use borrow.Author.Tests.{eqb-true, eqb-false}
 use Rattle.wire.specs.Fields.{byteAt}
 use Rattle.wire.specs.Items.{joined}
 use Rattle.section.specs.Header.{applicationTable}
-use Rattle.carousel.specs.declared.Carousel.{Carousel}
-use Rattle.carousel.specs.Record.{ruledOf}
+use Rattle.record.specs.declared.Carousel.{Carousel}
+use Rattle.record.specs.Record.{ruledOf}
 use Rattle.carousel.specs.Step.{steppedOf}
 use Rattle.carousel.proofs.Simulation.{step-rule}
 use Rattle.receiver.specs.declared.Given.{Given}

@@ -7,7 +7,7 @@ use contract.Lifetimes.{Lfts}
 use borrow.Fn.Kinds.{Dens, resT, endedOf}
 use denote.Triple.Clauses.{AtExit}
 use Rattle.wire.proofs.Once.{OneAnswer}
-use Rattle.carousel.specs.declared.Carousel.{Carousel}
+use Rattle.record.specs.declared.Carousel.{Carousel}
 use Rattle.receiver.specs.declared.Passage.{Passage}
 use Rattle.receiver.specs.declared.Ran.{Ran}
 use Rattle.receiver.specs.Run.{ranOf, imageRan}

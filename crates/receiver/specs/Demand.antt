@@ -8,7 +8,7 @@ use mathlib.Core.Bool.{Bool, true, false, cond}
 use mathlib.Core.List.{List, [], _∷_, _++_, List·Memᴰ}
 use lib.ListN.{length}
 use Rattle.messages.specs.Heard.{Announced, heardOf}
-use Rattle.carousel.specs.Record.{recordOf, announcedBy, blockCount, partOf, missingOf, completeOf}
+use Rattle.record.specs.Record.{recordOf, announcedBy, blockCount, partOf, missingOf, completeOf}
 use Rattle.carousel.specs.Step.{steppedOf, imageOf}
 use Rattle.carousel.specs.Matching.{heardFor, heardMatches, heardBytes}
 use Rattle.receiver.specs.declared.Fate.{Fate}

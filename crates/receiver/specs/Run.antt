@@ -11,10 +11,10 @@ use Rattle.section.specs.Header.{lengthOf, applicationTable}
 use Rattle.applications.specs.declared.ReadAnswer.{ReadAnswer}
 use Rattle.applications.specs.declared.ReadAnswer.the-variants as reading
 use Rattle.applications.specs.Answers.{readAnswer, readNumber}
-use Rattle.carousel.specs.declared.Carousel.{Carousel}
+use Rattle.record.specs.declared.Carousel.{Carousel}
 use Rattle.carousel.specs.declared.Answer.{Answer}
 use Rattle.carousel.specs.declared.Answer.the-variants as answer
-use Rattle.carousel.specs.Record.{ruledOf}
+use Rattle.record.specs.Record.{ruledOf}
 use Rattle.carousel.specs.Step.{steppedOf, imageOf, stepTests}
 use Rattle.receiver.specs.declared.Stop.{Stop}
 use Rattle.receiver.specs.declared.Stop.the-variants as stop

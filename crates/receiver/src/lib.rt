@@ -6,13 +6,13 @@
 
 use applications::ReadAnswer;
 use carousel::Answer;
-use carousel::Carousel;
+use record::Carousel;
 use section::Refusal;
 ghost use mathlib.Core.Path.{_≡_};
 ghost use mathlib.Core.Bool.{true};
 ghost use Prim.Native.Nat.{_≤_};
 ghost use lib.ListN.{length};
-ghost use Rattle.carousel.specs.Record.{ruledOf};
+ghost use Rattle.record.specs.Record.{ruledOf};
 ghost use Rattle.receiver.specs.Run.{stoppedBy, wholeAt, stopAt, givenOf, imageGiven, tookOf, imageTook, numberTook, tookNumber, ranOf, imageRan, tableFate, carouselFate};
 
 // The byte that fills a stretch after its last section.
@@ -79,7 +79,7 @@ pub fn take(c: Carousel, stretch: &[u8], image: &mut [u8], budget: usize) -> Too
         × (now (image .exit) ≡ imageTook c (now (stretch .entry)) (now (image .entry)) budget)
         × (numberTook (r .what) ≡ tookNumber c (now (stretch .entry)) (now (image .entry)) budget) ⌝ }
 {
-    if !carousel::is_ruled(c) {
+    if !record::is_ruled(c) {
         return stopped(c, Stop::State);
     }
     let n = whole_at(stretch);
@@ -120,7 +120,7 @@ pub fn run(c: Carousel, stretch: &[u8], image: &mut [u8], budget: usize) -> Ran
     ensures { λ r. ⌜ (r ≡ ranOf c (now (stretch .entry)) (now (image .entry)) budget)
         × (now (image .exit) ≡ imageRan c (now (stretch .entry)) (now (image .entry)) budget) ⌝ }
 {
-    if !carousel::is_ruled(c) {
+    if !record::is_ruled(c) {
         return ended(c, 0, 0, Stop::State);
     }
     let mut d = c;

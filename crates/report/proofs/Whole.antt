@@ -10,8 +10,8 @@ use lib.ListN.{length, take, drop, length-append}
 use lib.Seq.{sets}
 use Rattle.text.specs.Text.{codes, reached, decimal}
 use Rattle.text.proofs.Meaning.{decimal-short, whole}
-use Rattle.carousel.specs.declared.Carousel.{Carousel}
-use Rattle.carousel.specs.Changes.{emptyRecord}
+use Rattle.record.specs.declared.Carousel.{Carousel}
+use Rattle.record.specs.Changes.{emptyRecord}
 use Rattle.receiver.specs.declared.Stop.{Stop}
 use Rattle.receiver.specs.declared.Stop.the-variants as stop
 use Rattle.receiver.specs.declared.Fate.{Fate}

@@ -3,7 +3,7 @@
 use Prim.Native.Nat.{ℕ, suc}
 use mathlib.Core.List.{List, [], _∷_, _++_}
 use Rattle.text.specs.Text.{codes, decimal}
-use Rattle.carousel.specs.Changes.{emptyRecord}
+use Rattle.record.specs.Changes.{emptyRecord}
 use Rattle.receiver.specs.declared.Stop.{Stop}
 use Rattle.receiver.specs.declared.Stop.the-variants as stop
 use Rattle.receiver.specs.declared.Fate.{Fate}

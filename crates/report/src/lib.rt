@@ -7,7 +7,7 @@ ghost use mathlib.Core.Path.{_≡_};
 ghost use lib.ListN.{length};
 ghost use lib.Seq.{sets};
 ghost use Rattle.text.specs.Text.{reached};
-ghost use Rattle.carousel.specs.Changes.{emptyRecord};
+ghost use Rattle.record.specs.Changes.{emptyRecord};
 ghost use Rattle.receiver.specs.Run.{numberOf, imageRan};
 ghost use Rattle.report.specs.Report.{budget, printed, lineOf, lastLine, kindOf, stopName};
 
@@ -24,7 +24,7 @@ pub fn write_report(stretch: &[u8], image: &mut [u8], out: &mut [u8]) -> usize
         × (r ≡ reached 0 (length (printed (now (stretch .entry)) (now (image .entry)))) (length (now (out .entry))))
         × (now (image .exit) ≡ imageRan emptyRecord (now (stretch .entry)) (now (image .entry)) budget) ⌝ }
 {
-    let mut c = carousel::empty();
+    let mut c = record::empty();
     let mut at = text::put(out, 0, b"index,answer,kind\n");
     let mut index: usize = 0;
     let mut passed: usize = 0;

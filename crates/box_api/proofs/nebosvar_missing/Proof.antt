@@ -36,12 +36,12 @@ use denote.Triple.Spec.{Meets, tripleOf}
 use denote.Triple.Table.{entered, cited}
 use denote.Triple.Walked.{says, Stays, stay-none-ref, stay-dropped, walkOf, AllGo, goes-dropped, goes-none-ref, Walks, ends-at, walked, walk-meets}
 use denote.Exit.{yes}
-use Rattle.carousel.specs.declared.Carousel.{Carousel}
+use Rattle.record.specs.declared.Carousel.{Carousel}
 use Rattle.box_api.specs.declared.LackOut.{LackOut}
 use Rattle.carousel.specs.Calls.{reportOf}
 use Rattle.box_api.specs.Box.{lackOut}
-use Rattle.carousel.proofs.Carousel as T
-use Rattle.carousel.proofs.Carousel.Laws as T′
+use Rattle.record.proofs.Carousel as T
+use Rattle.record.proofs.Carousel.Laws as T′
 use Rattle.box_api.proofs.LackOut as N
 use Rattle.box_api.proofs.LackOut.Laws as N′
 use Rattle.box_api.proofs.missing as callee

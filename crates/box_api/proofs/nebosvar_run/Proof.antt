@@ -41,12 +41,12 @@ use denote.Triple.Spec.{Meets, tripleOf}
 use denote.Triple.Table.{entered, cited}
 use denote.Triple.Walked.{says, Stays, stay-ref, stay-dropped, gave-slice, walkOf, AllGo, goes-dropped, goes-ref, goes-gave-slice, Walks, ends-at, walked, walk-meets}
 use denote.Exit.{yes}
-use Rattle.carousel.specs.declared.Carousel.{Carousel}
+use Rattle.record.specs.declared.Carousel.{Carousel}
 use Rattle.box_api.specs.declared.RanOut.{RanOut}
 use Rattle.receiver.specs.Run.{imageRan}
 use Rattle.box_api.specs.Box.{runOut}
-use Rattle.carousel.proofs.Carousel as T
-use Rattle.carousel.proofs.Carousel.Laws as T′
+use Rattle.record.proofs.Carousel as T
+use Rattle.record.proofs.Carousel.Laws as T′
 use Rattle.box_api.proofs.RanOut as S
 use Rattle.box_api.proofs.RanOut.Laws as S′
 use Rattle.box_api.proofs.PassageOut as N

@@ -11,10 +11,10 @@ use Rattle.messages.specs.declared.Listed.{Listed}
 use Rattle.messages.specs.declared.Announcement.{Announcement}
 use Rattle.messages.specs.Limits.{total}
 use Rattle.messages.specs.Heard.{noneListed, listOf, announcedIn}
-use Rattle.carousel.specs.declared.Module.{Module}
-use Rattle.carousel.specs.declared.Carousel.{Carousel}
-use Rattle.carousel.specs.Record.{sizesOf, unused}
-use Rattle.carousel.specs.Changes.{emptyRecord, entries, madeAfresh}
+use Rattle.record.specs.declared.Module.{Module}
+use Rattle.record.specs.declared.Carousel.{Carousel}
+use Rattle.record.specs.Record.{sizesOf, unused}
+use Rattle.record.specs.Changes.{emptyRecord, entries, madeAfresh}
 
 -- the record of an announcement with its first i modules in it
 abbrev pub filled : Announcement → List Listed → ℕ → Carousel

@@ -10,7 +10,7 @@ use lib.ListN.{length, getD, drop, drop-of-length-le}
 use lib.Seq.{drop-cons}
 use borrow.Author.Tests.{eq-eqb, ne-eqb}
 use Rattle.messages.specs.declared.Listed.{Listed}
-use Rattle.carousel.specs.Record.{sameNumbers}
+use Rattle.record.specs.Record.{sameNumbers}
 use Rattle.carousel.specs.Step.{sameModules}
 
 -- a test and one that fails

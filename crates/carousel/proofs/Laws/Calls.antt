@@ -11,10 +11,10 @@ use borrow.Author.Tests.{eq-eqb, ne-eqb, eqb-true, lt-ltb, le-ltb, ltb-true, ltb
 use Rattle.wire.specs.Tests.{firstMet}
 use Rattle.wire.proofs.Laws.Order.{none-exactly}
 use Rattle.section.specs.Answer.{refused}
-use Rattle.carousel.specs.declared.Carousel.{Carousel}
+use Rattle.record.specs.declared.Carousel.{Carousel}
 use Rattle.carousel.specs.declared.Handed.{Handed}
 use Rattle.carousel.specs.declared.Report.the-variants as report
-use Rattle.carousel.specs.Record.{announcedBy, recordOf, startsBy, moduleAt, placeOf, bytesOf, missingOf, partOf, ruledOf}
+use Rattle.record.specs.Record.{announcedBy, recordOf, startsBy, moduleAt, placeOf, bytesOf, missingOf, partOf, ruledOf}
 use Rattle.carousel.specs.Step.{meets13, meets15}
 use Rattle.carousel.specs.Calls.{handoutTests, handoutNumber, handoutPlace, handedOut, missingNumber, lackOf, reportOn, reportOf, numberOfReport}
 

@@ -15,9 +15,9 @@ use Rattle.messages.specs.declared.Block.{Block}
 use Rattle.messages.specs.declared.Judged.the-variants as judged
 use Rattle.messages.specs.Judged.{judgedOf}
 use Rattle.messages.specs.Heard.{Announced, Arrived, announcedIn, arrivedIn, spanOf, heardIn, heardOf}
-use Rattle.carousel.specs.declared.Carousel.{Carousel}
-use Rattle.carousel.specs.Marks.{markOf}
-use Rattle.carousel.specs.Record.{Record, recordOf, moduleAt, placeOf, bytesOf, blockCount, blockLength, received, blockAt, sameNumbers, ruledOf}
+use Rattle.record.specs.declared.Carousel.{Carousel}
+use Rattle.record.specs.Marks.{markOf}
+use Rattle.record.specs.Record.{Record, recordOf, moduleAt, placeOf, bytesOf, blockCount, blockLength, received, blockAt, sameNumbers, ruledOf}
 use Rattle.carousel.specs.Step.{Outcome, refusing, new, same, repeated, stored, meets12, meets13, meets14, meets15, meets16, blockRefusal, bytesDiffer, matched, sameAnnounced, onAnnounced, onArrived, onHeard, outcomeOf, imageAfter, returning, steppedOf, imageOf}
 
 -- 12 to 16, one after another

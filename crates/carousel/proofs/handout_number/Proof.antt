@@ -6,11 +6,11 @@ use mathlib.Core.Bool.{true}
 use native.Mathlib.Omega.{arith}
 use lib.ListN.{length, length-map}
 use borrow.Author.Tests.{not-true, not-false}
+use Rattle.record.specs.Record.{announcedBy, recordOf, placeOf, bytesOf, missingOf, ruledOf}
+use Rattle.record.proofs.Laws.Rule.{ruled-count}
+use Rattle.record.proofs.Laws.Says.{says-count}
 use Rattle.carousel.specs.declared.Lack.{Lack}
-use Rattle.carousel.specs.Record.{announcedBy, recordOf, placeOf, bytesOf, missingOf, ruledOf}
 use Rattle.carousel.specs.Calls.{lackOf}
-use Rattle.carousel.proofs.Laws.Rule.{ruled-count}
-use Rattle.carousel.proofs.Laws.Says.{says-count}
 use Rattle.carousel.proofs.Laws.Calls.{out-1, out-13, out-15, out-20, out-0}
 use borrow.Author.Needs.{needs}
 use Rattle.carousel.proofs.handout_number.Statement.{statement}
@@ -19,31 +19,33 @@ use Rattle.carousel.proofs.handout_number.Tie as tie
 sixteen : (s : tie.Start) → length (s .args .c .modules) ≡ 16
 sixteen s = sym (length-map (s .args .c .modules) _) ∙ s .good .0 .1 .1 .1 .1 .1 .0 .1 .0 .1
 
-ruled : (c : tie.Else1) → ruledOf (c .before .before .before .args .c) ≡ true
+-- what is known once the rule is kept, the module found, the image long enough
+abbrev from1 : tie.Else1 → tie.Start
+from1 c = c .before .before .before
+
+abbrev from2 : tie.Else2 → tie.Else1
+from2 c = c .before .before .before
+
+abbrev from3 : tie.Else3 → tie.Else2
+from3 c = c .before .before
+
+ruled : (c : tie.Else1) → ruledOf (from1 c .args .c) ≡ true
 ruled c = sym (c .before .is-ruled .ensures) ∙ not-false _ (c .if1 .left)
 
-count : (c : tie.Else1) → length (announcedBy (c .before .before .before .args .c) .modules) ≡ c .before .before .before .args .c .count
-count c = says-count (c .before .before .before .args .c) (sixteen (c .before .before .before)) (ruled-count _ (ruled c))
+count : (c : tie.Else1) → length (announcedBy (from1 c .args .c) .modules) ≡ from1 c .args .c .count
+count c = says-count (from1 c .args .c) (sixteen (from1 c)) (ruled-count _ (ruled c))
 
-place : (c : tie.After-place-from) → c .place-from .result ≡ placeOf (announcedBy (c .before .before .before .before .before .before .args .c)) (c .before .before .before .before .before .before .args .number)
-unfolding announcedBy
-place c = let e = c .place-from .ensures .0 in omega arith
+found : (c : tie.Else2) → let s = from1 (from2 c) in placeOf (announcedBy (s .args .c)) (s .args .number) < length (announcedBy (s .args .c) .modules)
+found c = let n = count (from2 c) in omega (arith, c .before .before .place-of .ensures, c .if2 .left)
 
-found : (c : tie.Else2) → placeOf (announcedBy (c .before .before .before .before .before .before .before .args .c)) (c .before .before .before .before .before .before .before .args .number) < length (announcedBy (c .before .before .before .before .before .before .before .args .c) .modules)
-found c = let p = place (c .before) in let n = count (c .before .before .before .before) in omega (arith, c .if2 .left)
-
-sizes : (c : tie.After-total) → c .total .result ≡ bytesOf (announcedBy (c .before .before .before .before .before .before .before .before .args .c))
-unfolding announcedBy
-sizes c = c .total .ensures
-
-room : (c : tie.Else3) → bytesOf (announcedBy (c .before .before .before .before .before .before .before .before .before .args .c)) ≤ length (c .before .before .before .before .before .before .before .before .before .args .image .now)
-room c = let z = sizes (c .before) in omega (arith, c .if3 .left)
+room : (c : tie.Else3) → let s = from1 (from2 (from3 c)) in bytesOf (announcedBy (s .args .c)) ≤ length (s .args .image .now)
+room c = omega (arith, c .before .bytes-of .ensures, c .if3 .left)
 
 -- what the module that was found lacks
-lack : (c : tie.After-lack-of) → let s = c .before .before .before .before .before .before .before .before .before .before in c .lack-of .result .count ≡ lackOf (missingOf (recordOf (s .args .c)) (placeOf (announcedBy (s .args .c)) (s .args .number))) .count
+lack : (c : tie.After-lack-of) → let s = from1 (from2 (from3 (c .before))) in c .lack-of .result .count ≡ lackOf (missingOf (recordOf (s .args .c)) (placeOf (announcedBy (s .args .c)) (s .args .number))) .count
 lack c =
-    let s = c .before .before .before .before .before .before .before .before .before .before in
-    ap (λ (l : Lack). l .count) (c .lack-of .ensures) ∙ ap (λ i. lackOf (missingOf (recordOf (s .args .c)) i) .count) (place (c .before .before .before .before))
+    let s = from1 (from2 (from3 (c .before))) in
+    ap (λ (l : Lack). l .count) (c .lack-of .ensures) ∙ ap (λ i. lackOf (missingOf (recordOf (s .args .c)) i) .count) (from3 (c .before) .before .before .place-of .ensures)
 
 is-ruled-requires : tie.Need-is-ruled-requires
 is-ruled-requires c κs = search needs
@@ -51,33 +53,42 @@ is-ruled-requires c κs = search needs
 returns : tie.Need-returns
 returns c = let s = c .before .before .before in sym (out-1 (s .args .c) (s .args .number) (s .args .image .now) (sym (c .before .is-ruled .ensures) ∙ not-true _ (c .if1 .taken)))
 
-cast-n : tie.Need-cast-n
-cast-n c = search needs
+place-of-requires : tie.Need-place-of-requires
+place-of-requires c κs = search needs
 
-place-from-requires : tie.Need-place-from-requires
-place-from-requires c κs = (ruled-count _ (ruled (c .before .before)), omega arith)
+cast-if2 : tie.Need-cast-if2
+cast-if2 c = search needs
 
 returns-2 : tie.Need-returns-2
-returns-2 c = let s = c .before .before .before .before .before .before .before in sym (out-13 (s .args .c) (s .args .number) (s .args .image .now) (ruled (c .before .before .before .before)) (let p = place (c .before) in let n = count (c .before .before .before .before) in omega (arith, c .if2 .taken)))
+returns-2 c =
+    let e = c .before .before .before in
+    let s = from1 e in
+    let n = count e in
+    sym (out-13 (s .args .c) (s .args .number) (s .args .image .now) (ruled e) (omega (arith, c .before .before .place-of .ensures, c .if2 .taken)))
 
-total-requires : tie.Need-total-requires
-total-requires c κs = ruled-count _ (ruled (c .before .before .before .before))
+bytes-of-requires : tie.Need-bytes-of-requires
+bytes-of-requires c κs = search needs
 
 returns-3 : tie.Need-returns-3
-returns-3 c = let s = c .before .before .before .before .before .before .before .before .before in sym (out-15 (s .args .c) (s .args .number) (s .args .image .now) (ruled (c .before .before .before .before .before .before)) (found (c .before .before)) (let z = sizes (c .before) in omega (arith, c .if3 .taken)))
+returns-3 c =
+    let e = c .before .before in
+    let s = from1 (from2 e) in
+    sym (out-15 (s .args .c) (s .args .number) (s .args .image .now) (ruled (from2 e)) (found e) (omega (arith, c .before .bytes-of .ensures, c .if3 .taken)))
 
 lack-of-requires : tie.Need-lack-of-requires
-lack-of-requires c κs = (ruled (c .before .before .before .before .before .before), omega (arith, c .before .before .if2 .left))
+lack-of-requires c κs = (ruled (from2 (from3 c)), omega (arith, from3 c .if2 .left))
 
 returns-4 : tie.Need-returns-4
 returns-4 c =
-    let s = c .before .before .before .before .before .before .before .before .before .before .before .before in
-    sym (out-20 (s .args .c) (s .args .number) (s .args .image .now) (ruled (c .before .before .before .before .before .before .before .before .before)) (found (c .before .before .before .before .before)) (room (c .before .before .before)) (λ e. c .if4 .taken (lack (c .before .before) ∙ e)))
+    let e = c .before .before .before in
+    let s = from1 (from2 (from3 e)) in
+    sym (out-20 (s .args .c) (s .args .number) (s .args .image .now) (ruled (from2 (from3 e))) (found (from3 e)) (room e) (λ z. c .if4 .taken (lack (c .before .before) ∙ z)))
 
 returns-5 : tie.Need-returns-5
 returns-5 c =
-    let s = c .before .before .before .before .before .before .before .before .before .before .before .before in
-    sym (out-0 (s .args .c) (s .args .number) (s .args .image .now) (ruled (c .before .before .before .before .before .before .before .before .before)) (found (c .before .before .before .before .before)) (room (c .before .before .before)) (sym (lack (c .before .before)) ∙ c .if4 .left))
+    let e = c .before .before .before in
+    let s = from1 (from2 (from3 e)) in
+    sym (out-0 (s .args .c) (s .args .number) (s .args .image .now) (ruled (from2 (from3 e))) (found (from3 e)) (room e) (sym (lack (c .before .before)) ∙ c .if4 .left))
 
 pub handout-number-spec : {M : Type 1} → statement M
 handout-number-spec =
@@ -85,10 +96,10 @@ handout-number-spec =
     (tie.spec
     is-ruled-requires
     returns
-    cast-n
-    place-from-requires
+    place-of-requires
+    cast-if2
     returns-2
-    total-requires
+    bytes-of-requires
     returns-3
     lack-of-requires
     returns-4

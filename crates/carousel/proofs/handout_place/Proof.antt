@@ -6,11 +6,11 @@ use mathlib.Core.Bool.{true}
 use native.Mathlib.Omega.{arith}
 use lib.ListN.{length, getD, length-map}
 use Rattle.messages.specs.declared.Listed.{Listed}
-use Rattle.carousel.specs.declared.Module.{Module}
-use Rattle.carousel.specs.Record.{announcedBy, recordOf, startsBy, moduleAt, placeOf, bytesOf, partOf, unused, ruledOf}
+use Rattle.record.specs.declared.Module.{Module}
+use Rattle.record.specs.Record.{announcedBy, recordOf, startsBy, moduleAt, placeOf, bytesOf, partOf, unused, ruledOf}
 use Rattle.carousel.specs.Calls.{handoutNumber}
-use Rattle.carousel.proofs.Laws.Rule.{kept, ruled-says, ruled-count}
-use Rattle.carousel.proofs.Laws.Says.{says-count, says-module, says-start}
+use Rattle.record.proofs.Laws.Rule.{kept, ruled-says, ruled-count}
+use Rattle.record.proofs.Laws.Says.{says-count, says-module, says-start}
 use Rattle.carousel.proofs.Laws.Calls.{given-out, out-none, out-part, place-none, place-part}
 use Rattle.carousel.proofs.View.{modules-inside}
 use borrow.Author.Needs.{needs}
@@ -27,35 +27,34 @@ given c = let s = c .before .before .before in given-out (s .args .c) (s .args .
 few : (c : tie.Else1) → c .before .before .before .args .c .count ≤ 16
 few c = ruled-count (c .before .before .before .args .c) (given c .0)
 
-place : (c : tie.After-place-from) → c .place-from .result ≡ placeOf (announcedBy (c .before .before .before .before .before .before .args .c)) (c .before .before .before .before .before .before .args .number)
-unfolding announcedBy
-place c = let e = c .place-from .ensures .0 in omega arith
+-- once it was found
+abbrev from : tie.After-place-of → tie.Start
+from c = c .before .before .before .before .before
 
-found : (c : tie.After-place-from) → c .place-from .result < c .before .before .before .before .before .before .args .c .count
+found : (c : tie.After-place-of) → c .place-of .result < from c .args .c .count
 found c =
-    let s = c .before .before .before .before .before .before in
-    let p = place c in
-    let n = says-count (s .args .c) (sixteen s) (few (c .before .before .before)) in
-    omega (arith, given (c .before .before .before) .1)
+    let s = from c in
+    let n = says-count (s .args .c) (sixteen s) (few (c .before .before)) in
+    omega (arith, c .place-of .ensures, given (c .before .before) .1)
 
 -- the entry that was found
-abbrev entry : tie.After-place-from → Module
-entry c = getD (c .before .before .before .before .before .before .args .c .modules) (c .place-from .result) unused
+abbrev entry : tie.After-place-of → Module
+entry c = getD (from c .args .c .modules) (c .place-of .result) unused
 
-size-of : (c : tie.After-place-from) → moduleAt (announcedBy (c .before .before .before .before .before .before .args .c)) (placeOf (announcedBy (c .before .before .before .before .before .before .args .c)) (c .before .before .before .before .before .before .args .number)) .size ≡ entry c .size
+size-of : (c : tie.After-place-of) → moduleAt (announcedBy (from c .args .c)) (placeOf (announcedBy (from c .args .c)) (from c .args .number)) .size ≡ entry c .size
 size-of c =
-    let s = c .before .before .before .before .before .before in
-    ap (λ i. moduleAt (announcedBy (s .args .c)) i .size) (sym (place c)) ∙ ap (λ (m : Listed). m .size) (says-module (s .args .c) (sixteen s) (few (c .before .before .before)) (c .place-from .result) (found c))
+    let s = from c in
+    ap (λ i. moduleAt (announcedBy (s .args .c)) i .size) (sym (c .place-of .ensures)) ∙ ap (λ (m : Listed). m .size) (says-module (s .args .c) (sixteen s) (few (c .before .before)) (c .place-of .result) (found c))
 
-start-of : (c : tie.After-place-from) → getD (startsBy (c .before .before .before .before .before .before .args .c)) (placeOf (announcedBy (c .before .before .before .before .before .before .args .c)) (c .before .before .before .before .before .before .args .number)) 0 ≡ entry c .start
+start-of : (c : tie.After-place-of) → getD (startsBy (from c .args .c)) (placeOf (announcedBy (from c .args .c)) (from c .args .number)) 0 ≡ entry c .start
 start-of c =
-    let s = c .before .before .before .before .before .before in
-    ap (λ i. getD (startsBy (s .args .c)) i 0) (sym (place c)) ∙ says-start (s .args .c) (sixteen s) (few (c .before .before .before)) (c .place-from .result) (found c)
+    let s = from c in
+    ap (λ i. getD (startsBy (s .args .c)) i 0) (sym (c .place-of .ensures)) ∙ says-start (s .args .c) (sixteen s) (few (c .before .before)) (c .place-of .result) (found c)
 
-inside : (c : tie.After-place-from) → entry c .start + entry c .size ≤ length (c .before .before .before .before .before .before .args .image .now)
+inside : (c : tie.After-place-of) → entry c .start + entry c .size ≤ length (from c .args .image .now)
 inside c =
-    let s = c .before .before .before .before .before .before in
-    let g = given (c .before .before .before) in
+    let s = from c in
+    let g = given (c .before .before) in
     let u = g .1 in
     let r = g .2 in
     let k = kept (recordOf (s .args .c)) (omega arith) (ruled-says (s .args .c) (g .0)) in
@@ -74,30 +73,27 @@ returns c =
     let n : handoutNumber (s .args .c) (s .args .image .now) (s .args .number) ≡ 0 → ⊥ = λ z. c .if1 .taken (e ∙ z) in
     (rw e (sym (place-none (s .args .c) (s .args .number) (s .args .image .now) n)), omega arith, sym (out-none (s .args .c) (s .args .number) (s .args .image .now) n))
 
-cast-place-from : tie.Need-cast-place-from
-cast-place-from c = search needs
-
-place-from-requires : tie.Need-place-from-requires
-place-from-requires c κs = (few (c .before .before), omega arith)
+place-of-requires : tie.Need-place-of-requires
+place-of-requires c κs = search needs
 
 mul-m : tie.Need-mul-m
-mul-m c = search needs
+mul-m c = let n = few (c .before .before) in let f = found c in omega arith
 
 array-copy-out-m : tie.Need-array-copy-out-m
-array-copy-out-m c = let n = few (c .before .before .before) in let f = found c in omega arith
+array-copy-out-m c = let n = few (c .before .before) in let f = found c in omega arith
 
-cast-t10 : tie.Need-cast-t10
-cast-t10 c = search needs
+cast-t8 : tie.Need-cast-t8
+cast-t8 c = search needs
 
-cast-t14 : tie.Need-cast-t14
-cast-t14 c = search needs
+cast-t9 : tie.Need-cast-t9
+cast-t9 c = search needs
 
 returns-2 : tie.Need-returns-2
 unfolding partOf
 returns-2 c =
     let p = c .before .before .before in
-    let s = p .before .before .before .before .before .before in
-    let z : handoutNumber (s .args .c) (s .args .image .now) (s .args .number) ≡ 0 = sym (p .before .before .before .before .handout-number .ensures) ∙ p .before .before .before .if1 .left in
+    let s = from p in
+    let z : handoutNumber (s .args .c) (s .args .image .now) (s .args .number) ≡ 0 = sym (p .before .before .before .handout-number .ensures) ∙ p .before .before .if1 .left in
     let o = out-part (s .args .c) (s .args .number) (s .args .image .now) z in
     let l = place-part (s .args .c) (s .args .number) (s .args .image .now) z in
     (rw (l, size-of p, start-of p), inside p, rw (o, size-of p, start-of p))
@@ -108,10 +104,9 @@ handout-place-spec =
     (tie.spec
     handout-number-requires
     returns
-    cast-place-from
-    place-from-requires
+    place-of-requires
     mul-m
     array-copy-out-m
-    cast-t10
-    cast-t14
+    cast-t8
+    cast-t9
     returns-2)

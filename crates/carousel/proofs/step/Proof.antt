@@ -15,14 +15,14 @@ use Rattle.messages.specs.Limits.{total}
 use Rattle.messages.specs.Judged.{judgedOf}
 use Rattle.messages.specs.Heard.{spanOf, listOf, announcedIn, arrivedIn, heardIn, heardOf}
 use Rattle.messages.proofs.Laws.Heard.{announcement-inside, count-said, heard-small, block-inside, heard-limits}
-use Rattle.carousel.specs.Record.{recordOf, sizesOf, ruledOf}
+use Rattle.record.specs.Record.{recordOf, sizesOf, ruledOf}
 use Rattle.wire.specs.Tests.{firstMet}
-use Rattle.carousel.specs.declared.Carousel.{Carousel}
+use Rattle.record.specs.declared.Carousel.{Carousel}
 use Rattle.carousel.specs.declared.Stepped.{Stepped}
 use Rattle.carousel.specs.Step.{Outcome, onAnnounced, onArrived, imageAfter, returning, steppedOf, imageOf, numberOf, stepTests}
 use Rattle.carousel.proofs.Exact.{step-number}
-use Rattle.carousel.proofs.Laws.Places.{bytes-most}
-use Rattle.carousel.proofs.Laws.Rule.{ruled-count}
+use Rattle.record.proofs.Laws.Places.{bytes-most}
+use Rattle.record.proofs.Laws.Rule.{ruled-count}
 use Rattle.carousel.proofs.Laws.Outcomes.{announced-image, stepped-is, comes-broken, comes-refused, comes-announced, comes-carried}
 use Rattle.carousel.proofs.step.Statement.{statement}
 use Rattle.carousel.proofs.step.Tie as tie

@@ -41,12 +41,12 @@ use denote.Triple.Spec.{Meets, tripleOf}
 use denote.Triple.Table.{entered, cited}
 use denote.Triple.Walked.{says, Stays, stay-ref, stay-dropped, gave-slice, walkOf, AllGo, goes-dropped, goes-ref, goes-gave-slice, Walks, ends-at, walked, walk-meets}
 use denote.Exit.{yes}
-use Rattle.carousel.specs.declared.Carousel.{Carousel}
+use Rattle.record.specs.declared.Carousel.{Carousel}
 use Rattle.carousel.specs.declared.Stepped.{Stepped}
 use Rattle.wire.specs.Tests.{firstMet}
 use Rattle.carousel.specs.Step.{steppedOf, imageOf, numberOf, stepTests}
-use Rattle.carousel.proofs.Carousel as T
-use Rattle.carousel.proofs.Carousel.Laws as T′
+use Rattle.record.proofs.Carousel as T
+use Rattle.record.proofs.Carousel.Laws as T′
 use Rattle.carousel.proofs.Stepped as S
 use Rattle.carousel.proofs.Stepped.Laws as S′
 use Rattle.carousel.proofs.Answer as N

@@ -9,8 +9,8 @@ use native.Mathlib.Omega.{arith}
 use native.Mathlib.Nat.{lt-of-le-of-lt}
 use lib.ListN.{length, take, drop, length-drop}
 use Rattle.wire.proofs.Laws.Loops.{tail}
-use Rattle.carousel.specs.declared.Carousel.{Carousel}
-use Rattle.carousel.specs.Record.{ruledOf}
+use Rattle.record.specs.declared.Carousel.{Carousel}
+use Rattle.record.specs.Record.{ruledOf}
 use Rattle.carousel.proofs.Simulation.{empty-ruled}
 use Rattle.receiver.specs.declared.Section.{Section}
 use Rattle.receiver.specs.declared.Took.{Took}

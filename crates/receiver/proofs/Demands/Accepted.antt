@@ -27,18 +27,18 @@ use Rattle.applications.proofs.Laws.Exact.{accepted-exactly, read-exactly}
 use Rattle.messages.specs.Heard.{Arrived, Heard, announced, arrived, heardOf}
 use Rattle.messages.specs.Good.{GoodAnnouncement, GoodBlock, saidAnnouncement, saidBlock}
 use Rattle.messages.proofs.Good.{announcement-says, announcement-heard, block-says, block-heard}
-use Rattle.carousel.specs.declared.Carousel.{Carousel}
+use Rattle.record.specs.declared.Carousel.{Carousel}
 use Rattle.carousel.specs.declared.Answer.{Answer}
 use Rattle.carousel.specs.declared.Answer.the-variants as answer
-use Rattle.carousel.specs.Record.{recordOf, announcedBy, moduleAt, placeOf, received, blockAt, ruledOf}
+use Rattle.record.specs.Record.{recordOf, announcedBy, moduleAt, placeOf, received, blockAt, ruledOf}
 use Rattle.carousel.specs.Step.{blockRefusal, bytesDiffer, sameAnnounced, Outcome, refusing, matched, onArrived, onAnnounced, onHeard, answerOf, steppedOf}
 use Rattle.carousel.specs.Matching.{Matching, blockMatches, heardMatches}
 use Rattle.carousel.proofs.View.{fits}
 use Rattle.carousel.proofs.Matching.{matching-means}
 use Rattle.carousel.proofs.Simulation.{outcome-ruled}
 use Rattle.carousel.proofs.Exact.{new-exactly, same-exactly, stored-exactly, repeated-exactly, same-means}
-use Rattle.carousel.proofs.Laws.Places.{number-at, place-is, same-is, is-same}
-use Rattle.carousel.proofs.Laws.Rule.{kept, ruled-says}
+use Rattle.record.proofs.Laws.Places.{number-at, place-is, same-is, is-same}
+use Rattle.record.proofs.Laws.Rule.{kept, ruled-says}
 use Rattle.carousel.proofs.Laws.Outcomes.{announced-same, announced-new, matched-clear, matched-same, arrived-good}
 use Rattle.receiver.specs.declared.Fate.{Fate}
 use Rattle.receiver.specs.declared.Fate.the-variants as fate

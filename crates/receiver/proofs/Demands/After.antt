@@ -13,14 +13,14 @@ use Rattle.wire.specs.Tests.{firstMet}
 use Rattle.wire.proofs.Laws.Order.{none-exactly}
 use Rattle.messages.specs.Limits.{mostBlocks}
 use Rattle.messages.specs.Heard.{Announced, heardOf}
-use Rattle.carousel.specs.Marks.{clearAmong}
-use Rattle.carousel.specs.Record.{recordOf, moduleAt, placeOf, bytesOf, blockCount, received, missingOf, completeOf}
+use Rattle.record.specs.Marks.{clearAmong}
+use Rattle.record.specs.Record.{recordOf, moduleAt, placeOf, bytesOf, blockCount, received, missingOf, completeOf}
 use Rattle.carousel.specs.Step.{meets13, meets15}
 use Rattle.carousel.specs.Calls.{handoutTests, handoutNumber, handedOut}
 use Rattle.carousel.proofs.Views.{Slot, slot, hit}
-use Rattle.carousel.proofs.Laws.Blocks.{some-block}
-use Rattle.carousel.proofs.Laws.Places.{place-is, block-size-pos, size-pos}
-use Rattle.carousel.proofs.Laws.Rule.{Kept}
+use Rattle.record.proofs.Laws.Blocks.{some-block}
+use Rattle.record.proofs.Laws.Places.{place-is, block-size-pos, size-pos}
+use Rattle.record.proofs.Laws.Rule.{Kept}
 use Rattle.carousel.proofs.View.{slot-marked}
 use Rattle.carousel.proofs.Matching.{matching-means}
 use Rattle.carousel.proofs.Complete.{complete-means, handout-part}

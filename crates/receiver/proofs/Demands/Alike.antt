@@ -15,13 +15,13 @@ use Rattle.messages.specs.Limits.{mostBlocks}
 use Rattle.messages.specs.Heard.{Announced, Arrived, Heard, refusal, announced, arrived}
 use Rattle.carousel.specs.declared.Answer.{Answer}
 use Rattle.carousel.specs.declared.Answer.the-variants as answer
-use Rattle.carousel.specs.Marks.{clearAmong}
-use Rattle.carousel.specs.Record.{Record, moduleAt, blockCount, blockLength, blockAt, partOf, missingOf}
+use Rattle.record.specs.Marks.{clearAmong}
+use Rattle.record.specs.Record.{Record, moduleAt, blockCount, blockLength, blockAt, partOf, missingOf}
 use Rattle.carousel.specs.Step.{meets12, blockRefusal, refusing, matched, onArrived, onHeard, answerOf}
 use Rattle.carousel.specs.Matching.{blockFor, heardFor, heardMatches}
 use Rattle.carousel.proofs.Views.{Held as Said, after, Slot, slot, reply, isNew}
-use Rattle.carousel.proofs.Laws.Places.{block-size-pos}
-use Rattle.carousel.proofs.Laws.Rule.{Kept}
+use Rattle.record.proofs.Laws.Places.{block-size-pos}
+use Rattle.record.proofs.Laws.Rule.{Kept}
 use Rattle.carousel.proofs.View.{fits, spot, matched-answer, slot-marked, at-place, arrived-old, fixed, view-law}
 use Rattle.carousel.proofs.Matching.{matching-for}
 use Rattle.receiver.specs.Demand.{joined}

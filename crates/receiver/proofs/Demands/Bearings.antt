@@ -11,11 +11,11 @@ use Rattle.messages.specs.Message.{payloadOf}
 use Rattle.messages.specs.Contents.{dataOf}
 use Rattle.messages.specs.Heard.{Arrived, arrived, heardOf}
 use Rattle.messages.proofs.Good.{block-heard}
-use Rattle.carousel.specs.declared.Carousel.{Carousel}
+use Rattle.record.specs.declared.Carousel.{Carousel}
 use Rattle.carousel.specs.declared.Answer.the-variants as answer
 use Rattle.carousel.specs.Step.{steppedOf, imageOf}
-use Rattle.carousel.specs.Blocks.{blocksOf, lengthOf}
-use Rattle.carousel.proofs.Laws.Blocks.{length-pos}
+use Rattle.record.specs.Blocks.{blocksOf, lengthOf}
+use Rattle.record.proofs.Laws.Blocks.{length-pos}
 use Rattle.carousel.proofs.Steps.{refusal-changes-nothing}
 use Rattle.receiver.specs.Run.{Held, walk}
 use Rattle.receiver.specs.Demand.{Begun, NoNew, modules, blocks, matches, isComplete, Holds}

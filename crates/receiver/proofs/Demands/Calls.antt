@@ -4,7 +4,7 @@ use Prim.Native.Nat.{ℕ}
 use mathlib.Core.Path.{_≡_, refl, sym, ap, _∙_}
 use mathlib.Core.Bool.{true}
 use mathlib.Core.List.{List, [], _∷_, _++_}
-use Rattle.carousel.specs.Record.{ruledOf}
+use Rattle.record.specs.Record.{ruledOf}
 use Rattle.carousel.specs.Step.{steppedOf, imageOf}
 use Rattle.receiver.specs.Run.{Outcome, runOf, sectionsOf, Held, given, walk}
 use Rattle.receiver.specs.Demand.{Call, called, tookBy, stepped}

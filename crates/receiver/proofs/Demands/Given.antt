@@ -19,16 +19,16 @@ use Rattle.messages.proofs.Exact.{good-exactly}
 use Rattle.applications.specs.declared.ReadAnswer.{ReadAnswer}
 use Rattle.applications.specs.declared.ReadAnswer.the-variants as reading
 use Rattle.applications.specs.Answers.{readAnswer}
-use Rattle.carousel.specs.declared.Carousel.{Carousel}
+use Rattle.record.specs.declared.Carousel.{Carousel}
 use Rattle.carousel.specs.declared.Answer.{Answer}
 use Rattle.carousel.specs.declared.Answer.the-variants as answer
-use Rattle.carousel.specs.Marks.{markWords, markOf, isMarked}
-use Rattle.carousel.specs.Record.{Record, recordOf, received, ruledOf}
-use Rattle.carousel.specs.Changes.{madeAfresh}
+use Rattle.record.specs.Marks.{markWords, markOf, isMarked}
+use Rattle.record.specs.Record.{Record, recordOf, received, ruledOf}
+use Rattle.record.specs.Changes.{madeAfresh}
 use Rattle.carousel.specs.Step.{Outcome, refusing, new, same, repeated, stored, onHeard, outcomeOf, answerOf, carouselAfter, imageAfter, steppedOf, imageOf}
 use Rattle.carousel.specs.Matching.{heardFor}
 use Rattle.carousel.proofs.Views.{Held as Said, after, isNew as madeNew}
-use Rattle.carousel.proofs.Laws.Marks.{clear}
+use Rattle.record.proofs.Laws.Marks.{clear}
 use Rattle.carousel.proofs.Simulation.{says-after, outcome-ruled}
 use Rattle.carousel.proofs.Steps.{Renewing, new-changes}
 use Rattle.receiver.specs.declared.Given.{Given}

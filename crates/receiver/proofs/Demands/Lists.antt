@@ -9,9 +9,9 @@ use native.Mathlib.Omega.{arith}
 use lib.ListN.{take, drop}
 use lib.Seq.{take-add}
 use Rattle.wire.proofs.Laws.Tests.{clash}
-use Rattle.carousel.specs.Blocks.{blocksOf, lengthOf}
-use Rattle.carousel.specs.Marks.{isMarked, clearAmong}
-use Rattle.carousel.proofs.Laws.Blocks.{covers, begins, inner-length, last-length}
+use Rattle.record.specs.Blocks.{blocksOf, lengthOf}
+use Rattle.record.specs.Marks.{isMarked, clearAmong}
+use Rattle.record.proofs.Laws.Blocks.{covers, begins, inner-length, last-length}
 use Rattle.receiver.specs.Demand.{dataOf, Holds, first, joined}
 
 pub joined-ext : (n : ℕ) (f g : ℕ → List ℕ) → ((b : ℕ) → b < n → f b ≡ g b) → joined n f ≡ joined n g

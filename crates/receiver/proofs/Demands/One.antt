@@ -43,10 +43,10 @@ use Rattle.messages.specs.declared.Judged.the-variants as judged
 use Rattle.messages.specs.Judged.{readOf, judgedOf, numberOfJudged, tableIn, carouselTests}
 use Rattle.messages.proofs.Exact.{taken-exactly}
 use Rattle.messages.specs.Heard.{Announced, Arrived, Heard, refusal, announced, arrived, heardIn, heardOf}
-use Rattle.carousel.specs.declared.Carousel.{Carousel}
+use Rattle.record.specs.declared.Carousel.{Carousel}
 use Rattle.carousel.specs.declared.Answer.{Answer}
 use Rattle.carousel.specs.declared.Answer.the-variants as answer
-use Rattle.carousel.specs.Record.{Record, recordOf, placeOf, received, ruledOf}
+use Rattle.record.specs.Record.{Record, recordOf, placeOf, received, ruledOf}
 use Rattle.carousel.specs.Step.{blockRefusal, bytesDiffer, sameAnnounced, Outcome, refusing, new, same, repeated, stored, matched, onArrived, onAnnounced, onHeard, outcomeOf, answerOf, heardTests, stepTests, numberOf, steppedOf, imageOf}
 use Rattle.carousel.proofs.Exact.{step-number}
 use Rattle.carousel.proofs.Steps.{refusal-changes-nothing}

@@ -25,8 +25,8 @@ use Rattle.messages.specs.Heard.{Arrived, arrived, heardOf}
 use Rattle.messages.proofs.Exact.{Passed, exactly-10}
 use Rattle.messages.proofs.Soundings as messages
 use Rattle.carousel.specs.declared.Report.the-variants as report
-use Rattle.carousel.specs.Blocks.{blocksOf, lengthOf}
-use Rattle.carousel.specs.Record.{missingOf}
+use Rattle.record.specs.Blocks.{blocksOf, lengthOf}
+use Rattle.record.specs.Record.{missingOf}
 use Rattle.carousel.specs.Step.{blockRefusal}
 use Rattle.carousel.specs.Calls.{reportOn}
 use Rattle.carousel.proofs.Soundings as carousel

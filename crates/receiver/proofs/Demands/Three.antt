@@ -19,7 +19,7 @@ use mathlib.Core.Logic.{_↔_}
 use mathlib.Core.List.{List}
 use lib.ListN.{length}
 use Rattle.messages.specs.Heard.{Announced, Arrived, arrived, heardOf}
-use Rattle.carousel.specs.Record.{moduleAt, ruledOf}
+use Rattle.record.specs.Record.{moduleAt, ruledOf}
 use Rattle.carousel.specs.Matching.{heardFor, heardMatches, Matching}
 use Rattle.carousel.specs.Calls.{handoutNumber, handedOut}
 use Rattle.carousel.specs.Step.{steppedOf}

@@ -27,13 +27,13 @@ use Rattle.applications.specs.Answers.{readAnswer, tableOf, numberOfRead, readN
 use Rattle.applications.proofs.Laws.Exact.{rising, read-exactly}
 use Rattle.applications.proofs.Laws.Numbers.{read-number}
 use Rattle.messages.specs.Good.{GoodAnnouncement, GoodBlock, saidAnnouncement, saidBlock}
-use Rattle.carousel.specs.declared.Carousel.{Carousel}
+use Rattle.record.specs.declared.Carousel.{Carousel}
 use Rattle.carousel.specs.declared.Answer.the-variants as answer
-use Rattle.carousel.specs.Record.{recordOf, announcedBy, received, blockAt, ruledOf}
+use Rattle.record.specs.Record.{recordOf, announcedBy, received, blockAt, ruledOf}
 use Rattle.carousel.specs.Step.{numberOf, stepTests, steppedOf}
 use Rattle.carousel.specs.Matching.{Matching}
 use Rattle.carousel.proofs.Exact.{step-exactly, step-taken}
-use Rattle.carousel.proofs.Laws.Tests.{rising-numbered}
+use Rattle.record.proofs.Laws.Tests.{rising-numbered}
 use Rattle.receiver.specs.declared.Fate.the-variants as fate
 use Rattle.receiver.specs.Run.{carouselFate, givenOf, givenNumber}
 use Rattle.receiver.specs.Run.{numberOf as receiverNumber}

@@ -9,10 +9,10 @@ use lib.ListN.{length}
 use Rattle.wire.proofs.Laws.Tests.{clash}
 use Rattle.messages.specs.Heard.{Announced, heardOf}
 use Rattle.carousel.specs.declared.Answer.{Answer}
-use Rattle.carousel.specs.Record.{recordOf, blockCount, ruledOf}
+use Rattle.record.specs.Record.{recordOf, blockCount, ruledOf}
 use Rattle.carousel.specs.Matching.{heardFor, heardMatches}
 use Rattle.carousel.proofs.Views.{Held as Said, Slot, slot, hit}
-use Rattle.carousel.proofs.Laws.Rule.{Kept, kept, ruled-says}
+use Rattle.record.proofs.Laws.Rule.{Kept, kept, ruled-says}
 use Rattle.carousel.proofs.View.{hit-hit, fixed, view-law}
 use Rattle.receiver.specs.declared.Fate.{Fate}
 use Rattle.receiver.specs.Run.{carouselFate, givenOf, Held, given, walk}

@@ -8,7 +8,7 @@ use lib.Dec.{eqb}
 use Rattle.wire.specs.Fields.{byteAt}
 use Rattle.section.specs.Header.{applicationTable}
 use Rattle.section.specs.Answer.{refused}
-use Rattle.carousel.specs.declared.Carousel.{Carousel}
+use Rattle.record.specs.declared.Carousel.{Carousel}
 use Rattle.carousel.specs.declared.Answer.{Answer}
 use Rattle.carousel.specs.declared.Answer.the-variants as answer
 use Rattle.carousel.specs.Step.{steppedOf}

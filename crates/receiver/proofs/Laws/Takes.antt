@@ -16,10 +16,10 @@ use Rattle.applications.specs.declared.ReadAnswer.{ReadAnswer}
 use Rattle.applications.specs.declared.ReadAnswer.the-variants as reading
 use Rattle.applications.specs.Answers.{readAnswer, numberOfRead, readNumber}
 use Rattle.applications.proofs.Laws.Numbers.{read-number}
-use Rattle.carousel.specs.declared.Carousel.{Carousel}
+use Rattle.record.specs.declared.Carousel.{Carousel}
 use Rattle.carousel.specs.declared.Answer.{Answer}
 use Rattle.carousel.specs.declared.Answer.the-variants as answer
-use Rattle.carousel.specs.Record.{ruledOf}
+use Rattle.record.specs.Record.{ruledOf}
 use Rattle.carousel.specs.Step.{steppedOf, stepTests}
 use Rattle.carousel.specs.Step.{numberOf as stepNumberOf}
 use Rattle.carousel.proofs.Exact.{step-number}

@@ -9,8 +9,8 @@ use lib.ListN.{length, take, drop, length-drop}
 use lib.Seq.{length-take-le}
 use borrow.Author.Tests.{not-true, not-false}
 use Rattle.wire.proofs.Laws.Loops.{tail}
-use Rattle.carousel.specs.declared.Carousel.{Carousel}
-use Rattle.carousel.specs.Record.{ruledOf}
+use Rattle.record.specs.declared.Carousel.{Carousel}
+use Rattle.record.specs.Record.{ruledOf}
 use Rattle.receiver.specs.declared.Stop.{Stop}
 use Rattle.receiver.specs.declared.Ran.{Ran}
 use Rattle.receiver.specs.Run.{wholeAt, stopAt, runs}

@@ -41,11 +41,11 @@ use denote.Triple.Spec.{Meets, tripleOf}
 use denote.Triple.Table.{entered, cited}
 use denote.Triple.Walked.{says, Stays, stay-ref, stay-dropped, gave-slice, walkOf, AllGo, goes-dropped, goes-ref, goes-gave-slice, Walks, ends-at, walked, walk-meets}
 use denote.Exit.{yes}
-use Rattle.carousel.specs.declared.Carousel.{Carousel}
+use Rattle.record.specs.declared.Carousel.{Carousel}
 use Rattle.receiver.specs.declared.Ran.{Ran}
 use Rattle.receiver.specs.Run.{ranOf, imageRan}
-use Rattle.carousel.proofs.Carousel as T
-use Rattle.carousel.proofs.Carousel.Laws as T′
+use Rattle.record.proofs.Carousel as T
+use Rattle.record.proofs.Carousel.Laws as T′
 use Rattle.receiver.proofs.Ran as S
 use Rattle.receiver.proofs.Ran.Laws as S′
 use Rattle.receiver.proofs.Passage as N

@@ -5,7 +5,7 @@ use mathlib.Core.Bool.{true}
 use lib.ListN.{take}
 use lib.Seq.{length-take-le}
 use borrow.Author.Tests.{not-true, not-false}
-use Rattle.carousel.specs.Record.{ruledOf}
+use Rattle.record.specs.Record.{ruledOf}
 use Rattle.receiver.specs.Run.{stoppedBy, imageGiven}
 use Rattle.receiver.specs.declared.Stop.{Stop}
 use Rattle.receiver.proofs.Laws.Runs.{took-state, took-stop, took-budget, took-one, taken-is}

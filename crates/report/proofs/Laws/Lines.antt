@@ -7,9 +7,9 @@ use mathlib.Core.List.{List, [], _∷_, _++_, append-assoc}
 use native.Mathlib.Omega.{arith}
 use lib.ListN.{length, drop, length-drop}
 use lib.Seq.{sets, drop-drop}
-use Rattle.carousel.specs.declared.Carousel.{Carousel}
-use Rattle.carousel.specs.Record.{ruledOf}
-use Rattle.carousel.specs.Changes.{emptyRecord}
+use Rattle.record.specs.declared.Carousel.{Carousel}
+use Rattle.record.specs.Record.{ruledOf}
+use Rattle.record.specs.Changes.{emptyRecord}
 use Rattle.carousel.proofs.Simulation.{empty-ruled}
 use Rattle.receiver.specs.declared.Stop.{Stop}
 use Rattle.receiver.specs.declared.Fate.{Fate}

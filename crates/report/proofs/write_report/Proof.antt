@@ -9,7 +9,7 @@ use native.Mathlib.Omega.{arith}
 use native.Mathlib.Nat.{lt-of-le-of-lt}
 use lib.ListN.{length, take, drop}
 use Rattle.wire.proofs.Laws.Loops.{tail}
-use Rattle.carousel.specs.Record.{ruledOf}
+use Rattle.record.specs.Record.{ruledOf}
 use Rattle.carousel.proofs.Simulation.{empty-ruled}
 use Rattle.receiver.specs.declared.Took.{Took}
 use Rattle.receiver.specs.declared.What.the-variants as what

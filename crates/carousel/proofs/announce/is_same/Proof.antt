@@ -7,10 +7,10 @@ use mathlib.Core.List.{map}
 use lib.ListN.{length, take, length-map}
 use borrow.Author.Tests.{eq-eqb, ne-eqb}
 use Rattle.messages.specs.Heard.{listOf, announcedIn}
-use Rattle.carousel.specs.Record.{listedIn, announcedBy}
+use Rattle.record.specs.Record.{listedIn, announcedBy}
 use Rattle.carousel.specs.Step.{sameAnnounced}
 use Rattle.carousel.proofs.Laws.Bytes.{modules-lengths}
-use Rattle.carousel.proofs.Laws.Says.{listed-length}
+use Rattle.record.proofs.Laws.Says.{listed-length}
 use borrow.Author.Needs.{needs}
 use Rattle.carousel.proofs.announce.is_same.Statement.{statement}
 use Rattle.carousel.proofs.announce.is_same.Tie as tie

@@ -11,10 +11,10 @@ use lib.Seq.{drop-cons}
 use borrow.Author.Tests.{not-true, not-false}
 use Rattle.messages.specs.declared.Listed.{Listed}
 use Rattle.messages.specs.Heard.{noneListed, listOf}
-use Rattle.carousel.specs.declared.Module.{Module}
-use Rattle.carousel.specs.Record.{listedIn}
+use Rattle.record.specs.declared.Module.{Module}
+use Rattle.record.specs.Record.{listedIn}
 use Rattle.carousel.specs.Step.{sameModules}
-use Rattle.carousel.proofs.Laws.Entries.{same-off, same-next, same-done}
+use Rattle.carousel.proofs.Laws.Sames.{same-off, same-next, same-done}
 use Rattle.carousel.proofs.announce.is_same_list.Statement.{statement}
 use Rattle.carousel.proofs.announce.is_same_list.Tie as tie
 

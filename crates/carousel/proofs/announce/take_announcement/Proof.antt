@@ -2,7 +2,7 @@
 -- Assumes nothing.
 use mathlib.Core.Path.{sym, ap, _∙_}
 use Rattle.messages.specs.Heard.{announcedIn}
-use Rattle.carousel.specs.Record.{recordOf}
+use Rattle.record.specs.Record.{recordOf}
 use Rattle.carousel.specs.Step.{Outcome, returning}
 use Rattle.carousel.proofs.Laws.Outcomes.{announced-same, announced-new}
 use borrow.Author.Needs.{needs}

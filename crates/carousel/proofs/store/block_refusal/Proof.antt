@@ -9,9 +9,9 @@ use lib.ListN.{length, getD, length-map}
 use borrow.Author.Tests.{not-true, not-false}
 use Rattle.messages.specs.declared.Listed.{Listed}
 use Rattle.messages.specs.Heard.{Announced, Arrived, arrivedIn}
-use Rattle.carousel.specs.Blocks.{blocksOf, lengthOf}
-use Rattle.carousel.specs.Record.{announcedBy, listedIn, moduleAt, placeOf, bytesOf, blockCount, blockLength, unused}
-use Rattle.carousel.proofs.Laws.Says.{says-count, says-module}
+use Rattle.record.specs.Blocks.{blocksOf, lengthOf}
+use Rattle.record.specs.Record.{announcedBy, listedIn, moduleAt, placeOf, bytesOf, blockCount, blockLength, unused}
+use Rattle.record.proofs.Laws.Says.{says-count, says-module}
 use Rattle.carousel.proofs.Laws.Outcomes.{is-12-none, is-12, is-13, is-14, is-15, is-16, is-matching}
 use borrow.Author.Needs.{needs}
 use Rattle.carousel.proofs.store.block_refusal.Statement.{statement}
@@ -24,59 +24,71 @@ a s = announcedBy (s .args .c)
 abbrev d : tie.Start → Arrived
 d s = arrivedIn (s .args .b) (s .args .bytes .now)
 
+abbrev from1 : tie.Else1 → tie.Start
+from1 c = c .before .before .before
+
+abbrev from2 : tie.Else2 → tie.Else1
+from2 c = c .before .before .before
+
+abbrev from3 : tie.Else3 → tie.Else2
+from3 c = c .before .before
+
+abbrev from4 : tie.Else4 → tie.Else3
+from4 c = c .before .before .before .before .before
+
+abbrev from5 : tie.Else5 → tie.Else4
+from5 c = c .before .before
+
+abbrev start3 : tie.Else3 → tie.Start
+start3 c = from1 (from2 (from3 c))
+
 sixteen : (s : tie.Start) → length (s .args .c .modules) ≡ 16
 sixteen s = sym (length-map (s .args .c .modules) _) ∙ s .good .0 .1 .1 .1 .1 .1 .0 .1 .0 .1
 
 count : (s : tie.Start) → length (a s .modules) ≡ s .args .c .count
 count s = says-count (s .args .c) (sixteen s) (s .pre)
 
-some : (c : tie.Else1) → length (a (c .before .before .before) .modules) ≡ 0 → ⊥
-some c e = c .if1 .left (sym (count (c .before .before .before)) ∙ e)
+some : (c : tie.Else1) → length (a (from1 c) .modules) ≡ 0 → ⊥
+some c e = c .if1 .left (sym (count (from1 c)) ∙ e)
 
-differs : (c : tie.Then2) → a (c .before .before .before .before .before .before) .download ≡ d (c .before .before .before .before .before .before) .download → ⊥
+differs : (c : tie.Then2) → let s = from1 (c .before .before .before) in a s .download ≡ d s .download → ⊥
 unfolding announcedBy arrivedIn
 differs c e = c .if2 .taken e
 
-its : (c : tie.Else2) → a (c .before .before .before .before .before .before) .download ≡ d (c .before .before .before .before .before .before) .download
+its : (c : tie.Else2) → let s = from1 (from2 c) in a s .download ≡ d s .download
 unfolding announcedBy arrivedIn
 its c = c .if2 .left
 
-place : (c : tie.After-place-from) → c .place-from .result ≡ placeOf (a (c .before .before .before .before .before .before .before .before)) (d (c .before .before .before .before .before .before .before .before) .number)
-unfolding announcedBy arrivedIn
-place c = let e = c .place-from .ensures .0 in omega arith
+place : (c : tie.After-place-of) → let s = from1 (from2 (c .before)) in c .place-of .result ≡ placeOf (a s) (d s .number)
+unfolding arrivedIn
+place c = c .place-of .ensures
 
-found : (c : tie.Else3) → placeOf (a (c .before .before .before .before .before .before .before .before .before)) (d (c .before .before .before .before .before .before .before .before .before) .number) < length (a (c .before .before .before .before .before .before .before .before .before) .modules)
-found c = let p = place (c .before) in let n = count (c .before .before .before .before .before .before .before .before .before) in omega (arith, c .if3 .left)
+found : (c : tie.Else3) → placeOf (a (start3 c)) (d (start3 c) .number) < length (a (start3 c) .modules)
+found c = let n = count (start3 c) in omega (arith, place (c .before), c .if3 .left)
 
 -- the module that was found
-module-of : (c : tie.Else3) → let s = c .before .before .before .before .before .before .before .before .before in
-    moduleAt (a s) (placeOf (a s) (d s .number)) ≡ listedIn (getD (s .args .c .modules) (c .before .place-from .result) unused)
+module-of : (c : tie.Else3) → let s = start3 c in moduleAt (a s) (placeOf (a s) (d s .number)) ≡ listedIn (getD (s .args .c .modules) (c .before .place-of .result) unused)
 module-of c =
-    let s = c .before .before .before .before .before .before .before .before .before in
-    ap (moduleAt (a s)) (sym (place (c .before))) ∙ says-module (s .args .c) (sixteen s) (s .pre) (c .before .place-from .result) (c .if3 .left)
+    let s = start3 c in
+    ap (moduleAt (a s)) (sym (place (c .before))) ∙ says-module (s .args .c) (sixteen s) (s .pre) (c .before .place-of .result) (c .if3 .left)
 
-version-of : (c : tie.Else3) → let s = c .before .before .before .before .before .before .before .before .before in
-    moduleAt (a s) (placeOf (a s) (d s .number)) .version ≡ getD (s .args .c .modules) (c .before .place-from .result) unused .version
+version-of : (c : tie.Else3) → let s = start3 c in moduleAt (a s) (placeOf (a s) (d s .number)) .version ≡ getD (s .args .c .modules) (c .before .place-of .result) unused .version
 version-of c = ap (λ (m : Listed). m .version) (module-of c)
 
-same : (c : tie.Else4) → let s = c .before .before .before .before .before .before .before .before .before .before .before .before .before in moduleAt (a s) (placeOf (a s) (d s .number)) .version ≡ d s .version
+same : (c : tie.Else4) → let s = start3 (from4 c) in moduleAt (a s) (placeOf (a s) (d s .number)) .version ≡ d s .version
 unfolding arrivedIn
-same c = version-of (c .before .before .before .before) ∙ c .if4 .left
+same c = version-of (from4 c) ∙ c .if4 .left
 
-sizes : (c : tie.After-total) → c .total .result ≡ bytesOf (a (c .before .before .before .before .before .before .before .before .before .before .before .before .before .before))
-unfolding announcedBy
-sizes c = c .total .ensures
+enough : (c : tie.Else5) → let s = start3 (from4 (from5 c)) in bytesOf (a s) ≤ s .args .room
+enough c = omega (arith, c .before .bytes-of .ensures, c .if5 .left)
 
-enough : (c : tie.Else5) → bytesOf (a (c .before .before .before .before .before .before .before .before .before .before .before .before .before .before .before)) ≤ c .before .before .before .before .before .before .before .before .before .before .before .before .before .before .before .args .room
-enough c = let z = sizes (c .before) in omega (arith, c .if5 .left)
-
-fits : (c : tie.After-is-block) → let s = c .before .before .before .before .before .before .before .before .before .before .before .before .before .before .before .before .before in
+fits : (c : tie.After-is-block) → let s = start3 (from4 (from5 (c .before .before))) in
     (ltb (d s .block) (blockCount (a s) (placeOf (a s) (d s .number))) && eqb (length (d s .bytes)) (blockLength (a s) (placeOf (a s) (d s .number)) (d s .block))) ≡ c .is-block .result
 unfolding announcedBy arrivedIn
 fits c =
-    let s = c .before .before .before .before .before .before .before .before .before .before .before .before .before .before .before .before .before in
-    ap (λ (m : Listed). ltb (d s .block) (blocksOf (a s .blockSize) (m .size)) && eqb (length (d s .bytes)) (lengthOf (a s .blockSize) (m .size) (d s .block))) (module-of (c .before .before .before .before .before .before .before .before))
-    ∙ sym (c .is-block .ensures)
+    let e = from4 (from5 (c .before .before)) in
+    let s = start3 e in
+    ap (λ (m : Listed). ltb (d s .block) (blocksOf (a s .blockSize) (m .size)) && eqb (length (d s .bytes)) (lengthOf (a s .blockSize) (m .size) (d s .block))) (module-of e) ∙ sym (c .is-block .ensures)
 
 cast-n : tie.Need-cast-n
 cast-n c = search needs
@@ -88,16 +100,18 @@ returns c =
 
 returns-2 : tie.Need-returns-2
 returns-2 c =
-    let s = c .before .before .before .before .before .before in
-    sym (is-12 (a s) (s .args .room) (d s) (some (c .before .before .before)) (differs c))
+    let e = c .before .before .before in
+    sym (is-12 (a (from1 e)) (from1 e .args .room) (d (from1 e)) (some e) (differs c))
 
-place-from-requires : tie.Need-place-from-requires
-place-from-requires c κs = search needs
+place-of-requires : tie.Need-place-of-requires
+place-of-requires c κs = search needs
 
 returns-3 : tie.Need-returns-3
 returns-3 c =
-    let s = c .before .before .before .before .before .before .before .before .before in
-    sym (is-13 (a s) (s .args .room) (d s) (some (c .before .before .before .before .before .before)) (its (c .before .before .before)) (let p = place (c .before) in let n = count s in omega (arith, c .if3 .taken)))
+    let e = c .before .before in
+    let s = from1 (from2 e) in
+    let n = count s in
+    sym (is-13 (a s) (s .args .room) (d s) (some (from2 e)) (its e) (omega (arith, place (c .before), c .if3 .taken)))
 
 mul-m : tie.Need-mul-m
 mul-m c = search needs
@@ -108,16 +122,19 @@ array-copy-out-m c = search needs
 returns-4 : tie.Need-returns-4
 unfolding arrivedIn
 returns-4 c =
-    let s = c .before .before .before .before .before .before .before .before .before .before .before .before .before in
-    sym (is-14 (a s) (s .args .room) (d s) (some (c .before .before .before .before .before .before .before .before .before .before)) (its (c .before .before .before .before .before .before .before)) (found (c .before .before .before .before)) (λ e. omega (arith, sym (version-of (c .before .before .before .before)) ∙ e, c .if4 .taken)))
+    let e = c .before .before .before .before .before in
+    let s = start3 e in
+    sym (is-14 (a s) (s .args .room) (d s) (some (from2 (from3 e))) (its (from3 e)) (found e) (λ v. omega (arith, sym (version-of e) ∙ v, c .if4 .taken)))
 
-total-requires : tie.Need-total-requires
-total-requires c κs = search needs
+bytes-of-requires : tie.Need-bytes-of-requires
+bytes-of-requires c κs = search needs
 
 returns-5 : tie.Need-returns-5
 returns-5 c =
-    let s = c .before .before .before .before .before .before .before .before .before .before .before .before .before .before .before in
-    sym (is-15 (a s) (s .args .room) (d s) (some (c .before .before .before .before .before .before .before .before .before .before .before .before)) (its (c .before .before .before .before .before .before .before .before .before)) (found (c .before .before .before .before .before .before)) (same (c .before .before)) (let z = sizes (c .before) in omega (arith, c .if5 .taken)))
+    let f = c .before .before in
+    let e = from4 f in
+    let s = start3 e in
+    sym (is-15 (a s) (s .args .room) (d s) (some (from2 (from3 e))) (its (from3 e)) (found e) (same f) (omega (arith, c .before .bytes-of .ensures, c .if5 .taken)))
 
 cast-is-block : tie.Need-cast-is-block
 cast-is-block c = search needs
@@ -127,13 +144,17 @@ is-block-requires c κs = search needs
 
 returns-6 : tie.Need-returns-6
 returns-6 c =
-    let s = c .before .before .before .before .before .before .before .before .before .before .before .before .before .before .before .before .before .before in
-    sym (is-16 (a s) (s .args .room) (d s) (some (c .before .before .before .before .before .before .before .before .before .before .before .before .before .before .before)) (its (c .before .before .before .before .before .before .before .before .before .before .before .before)) (found (c .before .before .before .before .before .before .before .before .before)) (same (c .before .before .before .before .before)) (enough (c .before .before .before)) (fits (c .before) ∙ not-true _ (c .if6 .taken)))
+    let g = c .before .before .before in
+    let e = from4 (from5 g) in
+    let s = start3 e in
+    sym (is-16 (a s) (s .args .room) (d s) (some (from2 (from3 e))) (its (from3 e)) (found e) (same (from5 g)) (enough g) (fits (c .before) ∙ not-true _ (c .if6 .taken)))
 
 returns-7 : tie.Need-returns-7
 returns-7 c =
-    let s = c .before .before .before .before .before .before .before .before .before .before .before .before .before .before .before .before .before .before in
-    sym (is-matching (a s) (s .args .room) (d s) (some (c .before .before .before .before .before .before .before .before .before .before .before .before .before .before .before)) (its (c .before .before .before .before .before .before .before .before .before .before .before .before)) (found (c .before .before .before .before .before .before .before .before .before)) (same (c .before .before .before .before .before)) (enough (c .before .before .before)) (fits (c .before) ∙ not-false _ (c .if6 .left)))
+    let g = c .before .before .before in
+    let e = from4 (from5 g) in
+    let s = start3 e in
+    sym (is-matching (a s) (s .args .room) (d s) (some (from2 (from3 e))) (its (from3 e)) (found e) (same (from5 g)) (enough g) (fits (c .before) ∙ not-false _ (c .if6 .left)))
 
 pub block-refusal-spec : {M : Type 1} → statement M
 block-refusal-spec =
@@ -142,12 +163,12 @@ block-refusal-spec =
     cast-n
     returns
     returns-2
-    place-from-requires
+    place-of-requires
     returns-3
     mul-m
     array-copy-out-m
     returns-4
-    total-requires
+    bytes-of-requires
     returns-5
     cast-is-block
     is-block-requires

@@ -8,7 +8,7 @@ use native.Mathlib.Omega.{arith}
 use mathlib.Core.List.{append-assoc}
 use lib.ListN.{length, take, drop, length-set}
 use lib.Seq.{paste, paste-zero, paste-suc, take-length}
-use Rattle.carousel.specs.Changes.{overwrite}
+use Rattle.record.specs.Changes.{overwrite}
 use Rattle.carousel.proofs.store.copy_at.Statement.{statement}
 use Rattle.carousel.proofs.store.copy_at.Tie as tie
 

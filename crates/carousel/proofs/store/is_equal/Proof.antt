@@ -5,7 +5,7 @@ use Prim.Native.Nat.{_-_, _≤_}
 use mathlib.Core.Path.{_≡_, sym, _∙_}
 use native.Mathlib.Omega.{arith}
 use lib.ListN.{length, drop}
-use Rattle.carousel.specs.Record.{sameNumbers}
+use Rattle.record.specs.Record.{sameNumbers}
 use Rattle.carousel.proofs.Laws.Bytes.{bytes-lengths, bytes-done, bytes-next, bytes-off}
 use Rattle.carousel.proofs.store.is_equal.Statement.{statement}
 use Rattle.carousel.proofs.store.is_equal.Tie as tie

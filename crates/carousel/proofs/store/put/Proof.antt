@@ -6,9 +6,9 @@ use mathlib.Core.Bool.{Bool, true, false}
 use native.Mathlib.Omega.{arith}
 use lib.ListN.{length, getD, take, drop, length-map}
 use Rattle.messages.specs.Heard.{Arrived, arrivedIn}
-use Rattle.carousel.specs.Record.{announcedBy, recordOf, blockAt, sameNumbers, unused}
-use Rattle.carousel.specs.Changes.{overwrite}
-use Rattle.carousel.proofs.Laws.Says.{says-start}
+use Rattle.record.specs.Record.{announcedBy, recordOf, blockAt, sameNumbers, unused}
+use Rattle.record.specs.Changes.{overwrite}
+use Rattle.record.proofs.Laws.Says.{says-start}
 use Rattle.carousel.proofs.Laws.Outcomes.{matched-clear, matched-same, matched-other}
 use borrow.Author.Needs.{needs}
 use Rattle.carousel.proofs.store.put.Statement.{statement}

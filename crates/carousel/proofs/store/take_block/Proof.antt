@@ -4,10 +4,10 @@ use mathlib.Core.Path.{_≡_, refl, sym, _∙_}
 use native.Mathlib.Omega.{arith}
 use lib.ListN.{length, length-map}
 use Rattle.messages.specs.Heard.{Arrived, arrivedIn}
-use Rattle.carousel.specs.Record.{Record, announcedBy, recordOf, placeOf}
+use Rattle.record.specs.Record.{Record, announcedBy, recordOf, placeOf}
 use Rattle.carousel.specs.Step.{blockRefusal}
-use Rattle.carousel.proofs.Laws.Rule.{Kept, kept, number-small, ruled-says, ruled-count}
-use Rattle.carousel.proofs.Laws.Says.{says-count}
+use Rattle.record.proofs.Laws.Rule.{Kept, kept, number-small, ruled-says, ruled-count}
+use Rattle.record.proofs.Laws.Says.{says-count}
 use Rattle.carousel.proofs.Laws.Outcomes.{arrived-bad, arrived-good}
 use Rattle.carousel.proofs.View.{Fits, fits, fits-in}
 use borrow.Author.Needs.{needs}
@@ -33,9 +33,9 @@ its c = fits _ _ _ (matches c)
 keeping : (c : tie.Else1) → Kept (says (c .before .before .before .before))
 keeping c = let s = c .before .before .before .before in let u = its c .found in kept (says s) (omega arith) (ruled-says (s .args .c) (s .pre))
 
-place : (c : tie.After-place-from) → c .place-from .result ≡ placeOf (announcedBy (c .before .before .before .before .before .before .before .args .c)) (d (c .before .before .before .before .before .before .before) .number)
-unfolding announcedBy arrivedIn
-place c = let e = c .place-from .ensures .0 in omega arith
+place : (c : tie.After-place-of) → let s = c .before .before .before .before .before in c .place-of .result ≡ placeOf (announcedBy (s .args .c)) (d s .number)
+unfolding arrivedIn
+place c = c .place-of .ensures
 
 block-refusal-requires : tie.Need-block-refusal-requires
 block-refusal-requires c κs = ruled-count (c .before .before .args .c) (c .before .before .pre)
@@ -50,18 +50,16 @@ returns c =
     let o = arrived-bad (says s) (s .args .image .now) (d s) (λ z. c .before .if1 .taken (e ∙ z)) in
     rw (o, c .refuse .ensures, e) (refl, refl)
 
-cast-place-from : tie.Need-cast-place-from
-cast-place-from c = search needs
-
-place-from-requires : tie.Need-place-from-requires
-place-from-requires c κs = (ruled-count (c .before .before .before .before .before .before .args .c) (c .before .before .before .before .before .before .pre), omega arith)
+place-of-requires : tie.Need-place-of-requires
+place-of-requires c κs = search needs
 
 put-requires : tie.Need-put-requires
 unfolding arrivedIn
 put-requires c κs =
-    let s = c .before .before .before .before .before .before .before .before in
-    let f = its (c .before .before .before .before) in
-    let k = keeping (c .before .before .before .before) in
+    let e = c .before .before in
+    let s = e .before .before .before .before in
+    let f = its e in
+    let k = keeping e in
     let p = place (c .before) in
     let n = count s in
     let u = f .found in
@@ -72,10 +70,11 @@ same-length c = search needs
 
 returns-2 : tie.Need-returns-2
 returns-2 c =
-    let s = c .before .before .before .before .before .before .before .before .before .before .before in
-    let o = arrived-good (says s) (s .args .image .now) (d s) (matches (c .before .before .before .before .before .before .before)) in
-    let p = place (c .before .before .before .before) in
-    rw (o, ← p) (c .before .before .put .ensures .0, c .before .before .put .ensures .1)
+    let p = c .before .before in
+    let e = p .before .before .before in
+    let s = e .before .before .before .before in
+    let o = arrived-good (says s) (s .args .image .now) (d s) (matches e) in
+    rw (o, ← place (p .before .before)) (p .put .ensures .0, p .put .ensures .1)
 
 pub take-block-spec : {M : Type 1} → statement M
 take-block-spec =
@@ -84,8 +83,7 @@ take-block-spec =
     block-refusal-requires
     refuse-requires
     returns
-    cast-place-from
-    place-from-requires
+    place-of-requires
     put-requires
     same-length
     returns-2)

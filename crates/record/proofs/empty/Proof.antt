@@ -1,0 +1,15 @@
+-- `record::empty` meets its contract: it is built so.
+-- Assumes nothing.
+use mathlib.Core.Path.{refl}
+use Rattle.record.specs.Changes.{emptyRecord}
+use Rattle.record.proofs.empty.Statement.{statement}
+use Rattle.record.proofs.empty.Tie as tie
+use Rattle.record.proofs.empty.Reads as reads
+use Rattle.record.proofs.empty.Lts as lts
+
+returns : tie.Need-returns
+unfolding emptyRecord
+returns c = refl
+
+pub empty-spec : {M : Type 1} → statement M
+empty-spec = tie.close (tie.spec returns)

@@ -1,0 +1,4 @@
+pub mod Blocks
+pub mod Marks
+pub mod Record
+pub mod Changes
