@@ -18,7 +18,7 @@ use Rattle.section.specs.Header.{tableOf, syntaxOf, lengthOf, currentOf, sectio
 use Rattle.section.specs.Refusals.{GoodSection}
 use Rattle.section.proofs.Laws.Crc.{own-crc}
 use Rattle.descriptors.specs.Contents.{known, known00}
-use Rattle.descriptors.specs.Body.{goodLoop, soleLoop, ownLoop, applicationLoop, WellFormed}
+use Rattle.body.specs.Body.{goodLoop, soleLoop, ownLoop, applicationLoop, WellFormed}
 use Rattle.descriptors.specs.Kinds.{application}
 use Rattle.applications.specs.declared.Class.the-variants.{Unsigned, Signed}
 use Rattle.applications.specs.declared.Control.the-variants.{Reserved}

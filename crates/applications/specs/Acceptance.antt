@@ -17,7 +17,7 @@ use Rattle.section.specs.declared.Checked.the-variants.{Refused, Accepted}
 use Rattle.section.specs.Refusals.{sectionTests, GoodSection}
 use Rattle.section.specs.Answer.{refused, checkedOf, onChecked}
 use Rattle.descriptors.specs.Kinds.{application}
-use Rattle.descriptors.specs.Body.{applicationLoop, ownLoop, soleLoop, bodyTests, bodyRefusal, WellFormed}
+use Rattle.body.specs.Body.{applicationLoop, ownLoop, soleLoop, bodyTests, bodyRefusal, WellFormed}
 
 -- the refusals of an application section, in the table's order: 2 to 7, 18
 abbrev pub applicationTests : List ℕ → Tests

@@ -14,7 +14,7 @@ use Rattle.descriptors.specs.declared.Kind.{Kind}
 use Rattle.descriptors.specs.declared.Kind.the-variants.{Application, Descriptor, Profile, Label, Name, Base, Extension, Identifier}
 use Rattle.descriptors.specs.Kinds.{sizeOf}
 use Rattle.descriptors.specs.Contents.{tagOf}
-use Rattle.descriptors.specs.Body.{commonLength}
+use Rattle.body.specs.Body.{commonLength}
 use Rattle.applications.specs.declared.Scope.{Scope}
 use Rattle.applications.specs.declared.Scope.the-variants as scope
 use Rattle.applications.specs.declared.steps.Step.{Step}

@@ -17,7 +17,7 @@ pub fn judge(s: &[u8]) -> Checked
         Checked::Refused(r) => Checked::Refused(r),
         Checked::Accepted(h) => {
             let e = s.len() - 4;
-            let number = descriptors::body_refusal(&s[8..e]);
+            let number = body::body_refusal(&s[8..e]);
             if number != 0 {
                 return Checked::Refused(Refusal { number: number });
             }

@@ -16,15 +16,15 @@ use Rattle.section.specs.declared.Refusal.{Refusal}
 use Rattle.record.specs.declared.Carousel.{Carousel}
 use Rattle.carousel.specs.declared.Answer.{Answer}
 use Rattle.carousel.specs.declared.Answer.the-variants as answer
-use Rattle.carousel.specs.declared.Handed.{Handed}
-use Rattle.carousel.specs.declared.Report.{Report}
-use Rattle.carousel.specs.declared.Report.the-variants as report
+use Rattle.handout.specs.declared.Handed.{Handed}
+use Rattle.handout.specs.declared.Report.{Report}
+use Rattle.handout.specs.declared.Report.the-variants as report
 use Rattle.record.specs.Record.{ruledOf}
 use Rattle.carousel.specs.Step as carousel
 use Rattle.carousel.specs.Step.{steppedOf, imageOf, stepTests}
-use Rattle.carousel.specs.Calls.{handoutNumber, handoutPlace, missingNumber, reportOf, numberOfReport}
+use Rattle.handout.specs.Calls.{handoutNumber, handoutPlace, missingNumber, reportOf, numberOfReport}
 use Rattle.carousel.proofs.Exact.{step-number}
-use Rattle.carousel.proofs.Laws.Calls.{report-number}
+use Rattle.handout.proofs.Laws.Calls.{report-number}
 use Rattle.applications.specs.declared.Scope.{Scope}
 use Rattle.applications.specs.declared.Repeated.the-variants as repeated
 use Rattle.applications.specs.declared.ReadAnswer.{ReadAnswer}
@@ -73,7 +73,7 @@ use Rattle.receiver.specs.declared.What.the-variants as what
 use Rattle.receiver.specs.Run.{stopAt, wholeAt, givenOf, stoppedBy, numberOf, numberTook, carouselFate, tookOf, tookNumber}
 use Rattle.receiver.proofs.Laws.Takes.{carousel-fate, took-number}
 use Rattle.receiver.proofs.Laws.Fates.{fate-tells}
-use Rattle.receiver.proofs.Demands.One.{step-refused, step-some, table-some, take-some}
+use Rattle.demands.proofs.One.{step-refused, step-some, table-some, take-some}
 use Rattle.box_api.specs.Box.{kindNumber, stopNumber, stepOut, whatOut, takeOut, partOut, lackOut}
 use Rattle.box_api.specs.Reading.{tableOut, applicationOut, describedOut, descriptorOut, noPlace, itemAsked, foundOut, itemOut, extensionOut, labelOut}
 

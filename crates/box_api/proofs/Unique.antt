@@ -6,7 +6,7 @@ use mathlib.Core.List.{List}
 use Rattle.wire.proofs.Once.{OneAnswer}
 use Rattle.record.specs.declared.Carousel.{Carousel}
 use Rattle.carousel.specs.Step.{imageOf}
-use Rattle.carousel.specs.Calls.{reportOf}
+use Rattle.handout.specs.Calls.{reportOf}
 use Rattle.receiver.specs.Run.{imageTook, imageRan}
 use Rattle.box_api.specs.declared.FateOut.{FateOut}
 use Rattle.box_api.specs.declared.TakenOut.{TakenOut}

@@ -3,11 +3,11 @@
 use Prim.Native.Nat.{ℕ}
 use mathlib.Core.List.{List}
 use Rattle.record.specs.declared.Carousel.{Carousel}
-use Rattle.carousel.specs.declared.Handed.{Handed}
-use Rattle.carousel.specs.declared.Report.{Report}
-use Rattle.carousel.specs.declared.Report.the-variants as report
+use Rattle.handout.specs.declared.Handed.{Handed}
+use Rattle.handout.specs.declared.Report.{Report}
+use Rattle.handout.specs.declared.Report.the-variants as report
 use Rattle.carousel.specs.Step.{steppedOf}
-use Rattle.carousel.specs.Calls.{handoutPlace}
+use Rattle.handout.specs.Calls.{handoutPlace}
 use Rattle.receiver.specs.declared.Stop.{Stop}
 use Rattle.receiver.specs.declared.Stop.the-variants as stop
 use Rattle.receiver.specs.declared.Fate.{Fate}

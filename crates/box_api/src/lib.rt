@@ -6,7 +6,7 @@
 
 mod reading;
 
-use carousel::Report;
+use handout::Report;
 pub use reading::nebosvar_application;
 pub use reading::nebosvar_descriptor;
 pub use reading::nebosvar_extension;
@@ -21,7 +21,7 @@ ghost use mathlib.Core.Path.{_≡_};
 ghost use lib.ListN.{take, drop};
 ghost use Rattle.record.specs.Changes.{emptyRecord};
 ghost use Rattle.carousel.specs.Step.{steppedOf, imageOf};
-ghost use Rattle.carousel.specs.Calls.{handedOut, reportOf};
+ghost use Rattle.handout.specs.Calls.{handedOut, reportOf};
 ghost use Rattle.receiver.specs.Run.{carouselFate, tookOf, imageTook, ranOf, imageRan};
 ghost use Rattle.box_api.specs.Box.{fateOut, stopNumber, stepOut, whatOut, takeOut, runOut, partOut, lackOut};
 
@@ -215,7 +215,7 @@ fn handout(c: Carousel, image: &[u8], number: u16) -> PartOut
     ensures { λ r. ⌜ (r ≡ partOut c (now (image .entry)) number)
         × (take (r .length) (drop (r .at) (now (image .entry))) ≡ handedOut c (now (image .entry)) number) ⌝ }
 {
-    let h = carousel::handout_place(c, image, number);
+    let h = handout::handout_place(c, image, number);
     PartOut {
         at: h.start,
         length: h.size,
@@ -226,7 +226,7 @@ fn handout(c: Carousel, image: &[u8], number: u16) -> PartOut
 fn missing(c: Carousel, number: u16) -> LackOut
     ensures { λ r. ⌜ r ≡ lackOut (reportOf c number) ⌝ }
 {
-    match carousel::missing(c, number) {
+    match handout::missing(c, number) {
         Report::Refused(r) => LackOut {
             count: 0,
             lowest: 0,

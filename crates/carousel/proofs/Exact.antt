@@ -1,4 +1,4 @@
--- When each answer is given: exactly the stated case, for a block, for the whole step, for the hand-out and the missing report.
+-- When each answer is given: exactly the stated case, for a block and for the whole step.
 -- Assumes nothing.
 use Prim.Native.Nat.{ℕ, zero, suc, _<_}
 use mathlib.Core.Path.{_≡_, refl, sym, ap, subst, _∙_}
@@ -30,10 +30,10 @@ use Rattle.messages.proofs.Exact.{refused-exactly, taken-exactly}
 use Rattle.record.specs.declared.Carousel.{Carousel}
 use Rattle.carousel.specs.declared.Answer.{Answer}
 use Rattle.carousel.specs.declared.Answer.the-variants as answer
-use Rattle.record.specs.Record.{Record, recordOf, announcedBy, placeOf, received, completeOf, ruledOf}
-use Rattle.carousel.specs.Step.{meets12, meets13, meets14, meets15, meets16, blockTests, blockRefusal, bytesDiffer, sameModules, sameAnnounced, Outcome, refusing, new, same, repeated, stored, matched}
+use Rattle.record.specs.Record.{Record, recordOf, announcedBy, placeOf, received, ruledOf}
+use Rattle.carousel.specs.Step.{meets12, meets14, meets16, blockTests, blockRefusal, bytesDiffer, sameModules, sameAnnounced, Outcome, refusing, new, same, repeated, stored, matched}
+use Rattle.record.specs.Refusals.{meets13, meets15}
 use Rattle.carousel.specs.Step.{onArrived, onAnnounced, onHeard, outcomeOf, answerOf, steppedOf, numberOf, meets17, heardTests, stepTests}
-use Rattle.carousel.specs.Calls.{handoutTests, handoutNumber, missingTests, missingNumber}
 use Rattle.record.proofs.Laws.Tests.{rising-numbered, numbered-both, none-both, met-before, met-after}
 use Rattle.carousel.proofs.Laws.Outcomes.{announced-same, announced-new, matched-clear, arrived-good}
 use Rattle.carousel.proofs.Simulation.{outcome-ruled}
@@ -286,44 +286,3 @@ same-means a b = (equal, λ e. rw (← e, eq-eqb (a .download) (a .download) ref
         ap (λ (x : ℕ). record { download = x; blockSize = a .blockSize; modules = a .modules }) d
         ∙ ap (λ (x : ℕ). record { download = b .download; blockSize = x; modules = a .modules }) z
         ∙ ap (λ (x : List Listed). record { download = b .download; blockSize = b .blockSize; modules = x }) m
-
--- THE HAND-OUT AND THE MISSING REPORT: n EXACTLY WHERE TEST n HOLDS AND NO LOWER ONE DOES, 0 EXACTLY WHERE NONE HOLDS
-module _ (c : Carousel) (image : List ℕ) (number : ℕ) where
-  handout-rising : RisingFrom 0 (handoutTests c image number)
-  handout-rising = (lit< tt, (lit< tt, (lit< tt, (lit< tt, tt))))
-
-  pub handout-exactly : (n : ℕ) → 0 < n
-      → (handoutNumber c image number ≡ n) ↔ ((holds n (handoutTests c image number) ≡ true) × ((m : ℕ) → m < n → holds m (handoutTests c image number) ≡ false))
-  unfolding handoutNumber
-  handout-exactly n p = lowest-met (handoutTests c image number) handout-rising n p
-
-  pub handout-tests : (holds 1 (handoutTests c image number) ≡ not (ruledOf c)) × (holds 13 (handoutTests c image number) ≡ meets13 (announcedBy c) number)
-      × (holds 15 (handoutTests c image number) ≡ meets15 (announcedBy c) (length image))
-      × (holds 20 (handoutTests c image number) ≡ not (completeOf (recordOf c) (placeOf (announcedBy c) number)))
-  unfolding holds
-  handout-tests = (
-    or-false (not (ruledOf c)),
-    or-false (meets13 (announcedBy c) number),
-    or-false (meets15 (announcedBy c) (length image)),
-    or-false (not (completeOf (recordOf c) (placeOf (announcedBy c) number))),
-  )
-
-  pub handout-given : (handoutNumber c image number ≡ 0) ↔ ((m : ℕ) → holds m (handoutTests c image number) ≡ false)
-  unfolding handoutNumber
-  handout-given = none-met (handoutTests c image number) handout-rising
-
-module _ (c : Carousel) (number : ℕ) where
-  missing-rising : RisingFrom 0 (missingTests c number)
-  missing-rising = (lit< tt, (lit< tt, tt))
-
-  pub missing-exactly : (n : ℕ) → 0 < n → (missingNumber c number ≡ n) ↔ ((holds n (missingTests c number) ≡ true) × ((m : ℕ) → m < n → holds m (missingTests c number) ≡ false))
-  unfolding missingNumber
-  missing-exactly n p = lowest-met (missingTests c number) missing-rising n p
-
-  pub missing-tests : (holds 1 (missingTests c number) ≡ not (ruledOf c)) × (holds 13 (missingTests c number) ≡ meets13 (announcedBy c) number)
-  unfolding holds
-  missing-tests = (or-false (not (ruledOf c)), or-false (meets13 (announcedBy c) number))
-
-  pub missing-given : (missingNumber c number ≡ 0) ↔ ((m : ℕ) → holds m (missingTests c number) ≡ false)
-  unfolding missingNumber
-  missing-given = none-met (missingTests c number) missing-rising

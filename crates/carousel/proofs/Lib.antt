@@ -5,7 +5,6 @@ pub mod Matching
 pub mod Simulation
 pub mod Steps
 pub mod Exact
-pub mod Complete
 pub mod Longest
 pub mod Soundings
 pub mod Unique

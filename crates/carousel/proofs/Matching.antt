@@ -13,7 +13,8 @@ use Rattle.wire.proofs.Laws.Tests.{both, clash}
 use Rattle.messages.specs.Limits.{twice11}
 use Rattle.messages.specs.Heard.{Announced, Arrived, Heard, refusal, announced, arrived}
 use Rattle.record.specs.Record.{numbersOf, moduleAt, placeOf, bytesOf, blockCount, blockLength}
-use Rattle.carousel.specs.Step.{meets12, meets13, meets14, meets15, meets16, blockRefusal}
+use Rattle.carousel.specs.Step.{meets12, meets14, meets16, blockRefusal}
+use Rattle.record.specs.Refusals.{meets13, meets15}
 use Rattle.carousel.specs.Matching.{blockFor, heardFor, blockMatches, heardMatches, Matching}
 use Rattle.record.proofs.Laws.Places.{place-is}
 use Rattle.carousel.proofs.View.{fits}

@@ -14,14 +14,15 @@ use Rattle.messages.specs.Heard.{Announced, Arrived, Heard, announced, arrived,
 use Rattle.messages.proofs.Soundings as messages
 use Rattle.record.specs.declared.Carousel.{Carousel}
 use Rattle.carousel.specs.declared.Answer.the-variants as answer
-use Rattle.carousel.specs.declared.Report.the-variants as report
+use Rattle.handout.specs.declared.Report.the-variants as report
 use Rattle.record.specs.Blocks.{blocksOf, lengthOf}
 use Rattle.record.specs.Marks.{isMarked, marksWith, clearFrom, marksWithin, clearAmong}
 use Rattle.record.specs.Record.{Record, announcedBy, startsBy, recordOf, placeIn, sums, blockAt, missingOf, completeOf, sameNumbers, withinLimits, ruled, allUnused, ruledOf}
 use Rattle.record.specs.Changes.{emptyRecord, entries, madeAfresh, withMark, afresh, marking, overwrite}
-use Rattle.carousel.specs.Step.{meets12, meets13, meets14, meets15, meets16, blockRefusal, bytesDiffer, sameModules, sameAnnounced, refusing, new, same, repeated, stored}
+use Rattle.carousel.specs.Step.{meets12, meets14, meets16, blockRefusal, bytesDiffer, sameModules, sameAnnounced, refusing, new, same, repeated, stored}
+use Rattle.record.specs.Refusals.{meets13, meets15}
 use Rattle.carousel.specs.Step.{matched, onArrived, onAnnounced, onHeard, outcomeOf, recordAfter, imageAfter, Outcome, returning, steppedOf, imageOf}
-use Rattle.carousel.specs.Calls.{reportOn}
+use Rattle.handout.specs.Calls.{reportOn}
 use Rattle.carousel.proofs.Simulation.{outcome-ruled, empty-ruled}
 
 -- download 5 of one module 7, version 1, of this size in blocks of this size; two modules; and a block of module 7

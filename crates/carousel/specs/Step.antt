@@ -16,24 +16,17 @@ use Rattle.carousel.specs.declared.Answer.{Answer}
 use Rattle.carousel.specs.declared.Answer.the-variants as answer
 use Rattle.carousel.specs.declared.Stepped.{Stepped}
 use Rattle.record.specs.Marks.{markOf}
-use Rattle.record.specs.Record.{Record, recordOf, moduleAt, placeOf, bytesOf, blockCount, blockLength, received, blockAt, sameNumbers, ruledOf}
+use Rattle.record.specs.Record.{Record, recordOf, moduleAt, placeOf, blockCount, blockLength, received, blockAt, sameNumbers, ruledOf}
+use Rattle.record.specs.Refusals.{meets13, meets15}
 use Rattle.record.specs.Changes.{madeAfresh, withMark, afresh, marking, overwrite}
 
 -- 12: "DDB: no announcement, or downloadId differs"
 unfoldable pub meets12 : Announced → Arrived → Bool
 meets12 a d = eqb (length (a .modules)) 0 || not (eqb (a .download) (d .download))
 
--- 13: "module not announced"
-unfoldable pub meets13 : Announced → ℕ → Bool
-meets13 a number = not (ltb (placeOf a number) (length (a .modules)))
-
 -- 14: "version differs"
 unfoldable pub meets14 : Announced → Arrived → Bool
 meets14 a d = not (eqb (moduleAt a (placeOf a (d .number)) .version) (d .version))
-
--- 15: "image shorter than the record's sizes together", the image being of length n
-unfoldable pub meets15 : Announced → ℕ → Bool
-meets15 a n = ltb n (bytesOf a)
 
 -- 16: "block number or block length wrong"
 unfoldable pub meets16 : Announced → Arrived → Bool

@@ -16,7 +16,7 @@ ghost use lib.ListN.{length};
 ghost use Rattle.section.specs.Answer.{refused};
 ghost use Rattle.messages.specs.Limits.{mostModules, mostBlocks};
 ghost use Rattle.messages.specs.Heard.{arrivedIn};
-ghost use Rattle.record.specs.Record.{announcedBy, recordOf, blockAt, placeOf, sameNumbers, ruledOf};
+ghost use Rattle.record.specs.Record.{announcedBy, recordOf, blockAt, sameNumbers, ruledOf};
 ghost use Rattle.record.specs.Changes.{overwrite};
 ghost use Rattle.carousel.specs.Step.{refusing, blockRefusal, matched, onArrived, returning, imageAfter};
 

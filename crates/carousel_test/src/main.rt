@@ -12,7 +12,7 @@
 //   m number 16                       missing report
 ghost use Prim.Native.Nat.{_≤_};
 use carousel::Answer;
-use carousel::Report;
+use handout::Report;
 use record::Carousel;
 use record::Module;
 
@@ -239,8 +239,8 @@ fn hand_out(c: Carousel, n: usize, s: &[u8], memory: &[u8]) {
     let image = &memory[0..n];
     let number = wire::sixteen_at(s, 1);
     io::write_all(1, b"handout");
-    print_number(carousel::handout_number(c, image, number) as u64);
-    let part = carousel::handout(c, image, number);
+    print_number(handout::handout_number(c, image, number) as u64);
+    let part = handout::handout(c, image, number);
     print_number(part.len() as u64);
     print_digest(digest(part));
     io::write_all(1, b"\n");
@@ -248,7 +248,7 @@ fn hand_out(c: Carousel, n: usize, s: &[u8], memory: &[u8]) {
 
 fn report(c: Carousel, s: &[u8]) {
     io::write_all(1, b"missing");
-    match carousel::missing(c, wire::sixteen_at(s, 1)) {
+    match handout::missing(c, wire::sixteen_at(s, 1)) {
         Report::Refused(r) => {
             print_number(r.number as u64);
         }

@@ -1,4 +1,2 @@
 pub mod Kinds
 pub mod Contents
-pub mod Body
-pub mod Exact

@@ -12,8 +12,6 @@ use Rattle.descriptors.proofs.lists.number_of.Kinds as number-of-kinds
 use Rattle.descriptors.proofs.lists.number_of.Reads as number-of-reads
 use Rattle.descriptors.proofs.lists.find.Kinds as find-kinds
 use Rattle.descriptors.proofs.lists.find.Reads as find-reads
-use Rattle.descriptors.proofs.body.body_refusal.Kinds as body-refusal-kinds
-use Rattle.descriptors.proofs.body.body_refusal.Reads as body-refusal-reads
 
 size-of : OneAnswer 1 size-of-kinds.ps size-of-kinds.r size-of-reads.Post
 size-of κs a x y s t p q = p ∙ sym q
@@ -29,6 +27,3 @@ number-of κs a x y s t p q = p ∙ sym q
 
 find : OneAnswer 1 find-kinds.ps find-kinds.r find-reads.Post
 find κs a x y s t p q = p ∙ sym q
-
-body-refusal : OneAnswer 1 body-refusal-kinds.ps body-refusal-kinds.r body-refusal-reads.Post
-body-refusal κs a x y s t p q = p ∙ sym q

@@ -1,15 +1,11 @@
-// The kinds of descriptor and application, their contents, and the acceptance of a body
-// (refusals 7 and 18).
+// The kinds of descriptor and application, and their contents.
 //
 // A kind of item is its size function (specs/Kinds.antt); one loop for each question goes over items
-// of every kind (src/lists.rt). What well-formed contents are is said in specs/Contents.antt, and
-// what a well-formed body is in specs/Body.antt.
-mod body;
+// of every kind (src/lists.rt). What well-formed contents are is said in specs/Contents.antt.
 mod contents;
 mod kinds;
 mod lists;
 
-pub use body::body_refusal;
 pub use kinds::size_of;
 pub use lists::fills;
 pub use lists::find;
@@ -35,11 +31,4 @@ pub enum Test {
     Malformed,
     Tagged(u8),
     Labelled(u8),
-}
-
-// What an application may be asked: whether its descriptors are well made; whether exactly one of
-// them is a 0x00.
-pub enum Clause {
-    WellMade,
-    Sole,
 }

@@ -20,7 +20,7 @@ use applications::Repeated;
 use applications::Resolved;
 use applications::Scope;
 use applications::Table;
-use carousel::Report;
+use handout::Report;
 use receiver::Fate;
 use receiver::Stop;
 use receiver::What;
@@ -585,7 +585,7 @@ fn put_module(
     m: Module,
 ) -> usize {
     let mut end = begin(out, at, b"module");
-    let answer = carousel::handout_number(c, image, m.number);
+    let answer = handout::handout_number(c, image, m.number);
     let numbers = [
         place as u64,
         m.number as u64,
@@ -595,8 +595,8 @@ fn put_module(
         answer as u64,
     ];
     end = put_fields(out, end, &numbers);
-    end = put_missing(out, end, carousel::missing(c, m.number));
-    end = put_crc(out, end, answer, carousel::handout(c, image, m.number));
+    end = put_missing(out, end, handout::missing(c, m.number));
+    end = put_crc(out, end, answer, handout::handout(c, image, m.number));
     end_line(out, end)
 }
 

@@ -1,4 +1,3 @@
 pub mod Laws
 pub mod Runs
 pub mod Unique
-pub mod Demands

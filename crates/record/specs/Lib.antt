@@ -2,3 +2,4 @@ pub mod Blocks
 pub mod Marks
 pub mod Record
 pub mod Changes
+pub mod Refusals

@@ -17,7 +17,7 @@ use Rattle.receiver.specs.declared.Stop.the-variants as stop
 use Rattle.receiver.specs.declared.Fate.{Fate}
 use Rattle.receiver.specs.declared.Fate.the-variants as fate
 use Rattle.receiver.specs.Run.{numberOf, wholeAt, givenOf, imageGiven, runOf, fatesOf}
-use Rattle.receiver.proofs.Demands.One.{take-known}
+use Rattle.demands.proofs.One.{take-known}
 use Rattle.receiver.proofs.Runs.{fates-counted, taken-most, taken-third}
 use Rattle.report.specs.Report.{kindOf, stopName, header, lineOf, linesFrom, lastLine, budget, printed}
 

@@ -20,7 +20,7 @@ use Rattle.section.specs.Header.{headerOf, bodyOf}
 use Rattle.section.specs.Refusals.{GoodSection}
 use Rattle.section.specs.Answer.{refused, checkedOf, onChecked}
 use Rattle.section.proofs.Laws.Exact.{accepted-has}
-use Rattle.descriptors.specs.Body.{bodyRefusal}
+use Rattle.body.specs.Body.{bodyRefusal}
 use Rattle.applications.specs.declared.Located.{Located}
 use Rattle.applications.specs.declared.Located.the-variants as located
 use Rattle.applications.specs.Acceptance.{judgedOf}

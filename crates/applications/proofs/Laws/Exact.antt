@@ -19,8 +19,8 @@ use Rattle.section.specs.Header.{headerOf, bodyOf}
 use Rattle.section.specs.Refusals.{sectionTests, refusalOf}
 use Rattle.section.specs.Answer.{numberOf, refused, checkedOf, onChecked}
 use Rattle.section.proofs.Laws.Exact as section
-use Rattle.descriptors.specs.Body.{bodyTests, bodyRefusal}
-use Rattle.descriptors.proofs.Laws.Exact as body
+use Rattle.body.specs.Body.{bodyTests, bodyRefusal}
+use Rattle.body.proofs.Laws.Exact as body
 use Rattle.applications.specs.declared.Scope.{Scope}
 use Rattle.applications.specs.declared.Repeated.{Repeated}
 use Rattle.applications.specs.declared.ReadAnswer.the-variants as read

@@ -20,9 +20,9 @@ use Rattle.section.specs.declared.Checked.the-variants.{Accepted}
 use Rattle.descriptors.specs.declared.Kind.the-variants as kind
 use Rattle.descriptors.specs.Kinds.{application, descriptor, sizeOf}
 use Rattle.descriptors.specs.Contents.{wellMade}
-use Rattle.descriptors.specs.Body.{commonLength, loopLength, commonLoop, applicationLoop, ownLoop, WellFormed}
+use Rattle.body.specs.Body.{commonLength, loopLength, commonLoop, applicationLoop, ownLoop, WellFormed}
 use Rattle.descriptors.proofs.Laws.Kinds as kinds
-use Rattle.descriptors.proofs.Laws.Exact as body
+use Rattle.body.proofs.Laws.Exact as body
 use Rattle.applications.specs.declared.Scope.{Scope}
 use Rattle.applications.specs.declared.Scope.the-variants.{Common, Own}
 use Rattle.applications.specs.declared.steps.Step.the-variants.{CommonLoop, ApplicationLoop}

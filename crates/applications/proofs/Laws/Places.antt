@@ -19,7 +19,7 @@ use Rattle.descriptors.specs.declared.Kind.the-variants as kind
 use Rattle.descriptors.specs.declared.Test.the-variants.{Any}
 use Rattle.descriptors.specs.Kinds.{sizeOf}
 use Rattle.descriptors.specs.Contents.{tagOf, testOf}
-use Rattle.descriptors.specs.Body.{commonLength}
+use Rattle.body.specs.Body.{commonLength}
 use Rattle.descriptors.proofs.Laws.Kinds as kinds
 use Rattle.applications.specs.declared.Scope.{Scope}
 use Rattle.applications.specs.declared.Scope.the-variants.{Common, Own}

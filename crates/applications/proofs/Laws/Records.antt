@@ -1,6 +1,6 @@
 -- What is read of a descriptor, from the facts that code learns on its ways.
 -- Assumes nothing.
-use Prim.Native.Nat.{ℕ, _≤_, _<_}
+use Prim.Native.Nat.{ℕ, _+_, _/_, _^_, _<_}
 use mathlib.Core.Path.{_≡_, refl, sym, ap, _∙_}
 use mathlib.Core.List.{List}
 use native.Mathlib.Omega.{arith}
@@ -13,6 +13,14 @@ use Rattle.applications.specs.declared.Repeated.{Repeated}
 use Rattle.applications.specs.declared.Repeated.the-variants.{Names, Bases, Identifiers}
 use Rattle.applications.specs.Places.{repeatedCount}
 use Rattle.applications.specs.Records.{restOf, described00, described1, described02, describedOf, itemOf}
+
+-- a byte k past a place that was read
+pub byte-past : (x : List ℕ) (k : ℕ) {n m b : ℕ} → b ≡ byteAt x (k + n) → n ≡ m → b ≡ byteAt x (k + m)
+byte-past x k e f = e ∙ ap (λ (n : ℕ). byteAt x (k + n)) f
+
+-- the top bit of a byte that was read
+pub top-is : {x b : ℕ} → (x ≡ b) × (x < 256) → x / 2 ^ 7 ≡ bits 7 1 b
+top-is e = omega arith
 
 module _ (d : List ℕ) where
   pub is-remote : bits 7 1 (byteAt d 5) ≡ 1

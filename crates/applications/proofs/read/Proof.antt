@@ -1,16 +1,19 @@
 -- `applications::read` meets its contract.
 -- Assumes nothing.
-use mathlib.Core.Path.{_≡_, refl, sym, ap, ap₂, _∙_}
+use mathlib.Core.Path.{_≡_, sym, ap, _∙_}
 use native.Mathlib.Omega.{arith}
-use Prim.Native.Nat.{ℕ, _/_, _^_}
+use Prim.Native.Nat.{ℕ, _/_, _^_, _<_}
 use mathlib.Core.List.{List}
-use lib.Bits.{bitAnd}
 use Rattle.wire.specs.declared.Place.{Place}
 use Rattle.wire.specs.Fields.{bits}
 use Rattle.wire.proofs.Laws.Fields.{masked-low}
+use Rattle.section.specs.declared.Refusal.{Refusal}
+use Rattle.section.specs.declared.Header.{Header}
 use Rattle.section.specs.declared.Checked.the-variants.{Refused, Accepted}
 use Rattle.descriptors.specs.declared.Kind.the-variants.{Application, Descriptor}
+use Rattle.applications.specs.declared.Table.{Table}
 use Rattle.applications.specs.declared.ReadAnswer.{ReadAnswer}
+use Rattle.applications.specs.declared.ReadAnswer.the-variants as read
 use Rattle.applications.specs.Acceptance.{judgedOf}
 use Rattle.applications.specs.Places.{commonAt, loopAt, countAt}
 use Rattle.applications.specs.Answers.{readAnswer, tableOf, numberOfRead, readNumber}
@@ -45,22 +48,36 @@ count-within-requires-2 c κs = inside-of loopAt sound-loop _ (c .before .before
 numbered : (s : List ℕ) (r : ReadAnswer) → r ≡ readAnswer s → (r ≡ readAnswer s) × (numberOfRead r ≡ readNumber s)
 numbered s r e = (e, ap numberOfRead e ∙ read-number s)
 
+module _ (s : List ℕ) where
+  is-refused : (r : Refusal) → judgedOf s ≡ Refused r → read.Refused r ≡ readAnswer s
+  unfolding readAnswer
+  is-refused r e = rw e
+
+  is-accepted : (h : Header) (t : Table) → judgedOf s ≡ Accepted h → t ≡ tableOf h s → read.Accepted t ≡ readAnswer s
+  unfolding readAnswer
+  is-accepted h t e f = rw (e, f)
+
+test-flag : (x : ℕ) → x < 2 ^ 16 → x / 2 ^ 15 ≡ bits 15 1 x
+test-flag x k = omega arith
+
 returns : tie.Need-returns
-unfolding readAnswer
-returns c =
-    let e : judgedOf (c .before .before .before .before .before .args .s .now) ≡ Refused (c .before .r .given .0 .0) = sym (c .before .before .before .judge .ensures) ∙ c .before .r .given .1 in
-    numbered (c .before .before .before .before .before .args .s .now) _ (rw e)
+returns c = numbered _ _ (is-refused _ _ (sym (c .before .before .before .judge .ensures) ∙ c .before .r .given .1))
 
 returns-2 : tie.Need-returns-2
-unfolding readAnswer tableOf
+unfolding tableOf
 returns-2 c =
-    let h = c .before .before .before .before .before .before .before .h .given .0 .0 in
-    let e : judgedOf (c .before .before .before .before .before .before .before .before .before .before .before .args .s .now) ≡ Accepted h = sym (c .before .before .before .before .before .before .before .before .before .judge .ensures) ∙ c .before .before .before .before .before .before .before .h .given .1 in
-    let u : h .extension / 2 ^ 15 ≡ bits 15 1 (h .extension) = omega arith in
-    let v : bitAnd (h .extension) 0x7FFF ≡ bits 0 15 (h .extension) = masked-low 15 (h .extension) in
-    let m : c .before .before .count-within .result ≡ countAt Descriptor (commonAt (c .before .before .before .before .before .before .before .before .before .before .before .args .s .now)) (c .before .before .before .before .before .before .before .before .before .before .before .args .s .now) = c .before .before .count-within .ensures ∙ ap (λ (p : Place). countAt Descriptor p (c .before .before .before .before .before .before .before .before .before .before .before .args .s .now)) (c .before .before .before .common-place .ensures) in
-    let n : c .count-within2 .result ≡ countAt Application (loopAt (c .before .before .before .before .before .before .before .before .before .before .before .args .s .now)) (c .before .before .before .before .before .before .before .before .before .before .before .args .s .now) = c .count-within2 .ensures ∙ ap (λ (p : Place). countAt Application p (c .before .before .before .before .before .before .before .before .before .before .before .args .s .now)) (c .before .loop-place .ensures) in
-    numbered (c .before .before .before .before .before .before .before .before .before .before .before .args .s .now) _ (rw e (cc))
+    let k = c .before .before .before .before .before in
+    let s = k .before .before .before .before .before .before .args .s .now in
+    let h = k .before .before .h .given .0 .0 in
+    numbered s _ (is-accepted s h _ (sym (k .before .before .before .before .judge .ensures) ∙ k .before .before .h .given .1) (λ i. record {
+      test = test-flag (h .extension) (k .struct-known .given .1 .0 .fits) i;
+      application = masked-low 15 (h .extension) i;
+      version = h .version;
+      section = h .section;
+      last = h .last;
+      common = (c .before .before .count-within .ensures ∙ ap (λ (p : Place). countAt Descriptor p s) (c .before .before .before .common-place .ensures)) i;
+      applications = (c .count-within2 .ensures ∙ ap (λ (p : Place). countAt Application p s) (c .before .loop-place .ensures)) i;
+    }))
 
 pub read-spec : {M : Type 1} → statement M
 read-spec =

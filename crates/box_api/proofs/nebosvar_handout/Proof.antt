@@ -40,7 +40,7 @@ use denote.Triple.Walked.{says, Stays, stay-none-ref, stay-dropped, walkOf, AllG
 use denote.Exit.{yes}
 use Rattle.record.specs.declared.Carousel.{Carousel}
 use Rattle.box_api.specs.declared.PartOut.{PartOut}
-use Rattle.carousel.specs.Calls.{handedOut}
+use Rattle.handout.specs.Calls.{handedOut}
 use Rattle.box_api.specs.Box.{partOut}
 use Rattle.record.proofs.Carousel as T
 use Rattle.record.proofs.Carousel.Laws as T′

@@ -38,7 +38,7 @@ use denote.Triple.Walked.{says, Stays, stay-none-ref, stay-dropped, walkOf, AllG
 use denote.Exit.{yes}
 use Rattle.record.specs.declared.Carousel.{Carousel}
 use Rattle.box_api.specs.declared.LackOut.{LackOut}
-use Rattle.carousel.specs.Calls.{reportOf}
+use Rattle.handout.specs.Calls.{reportOf}
 use Rattle.box_api.specs.Box.{lackOut}
 use Rattle.record.proofs.Carousel as T
 use Rattle.record.proofs.Carousel.Laws as T′

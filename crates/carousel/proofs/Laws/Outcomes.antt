@@ -18,7 +18,8 @@ use Rattle.messages.specs.Heard.{Announced, Arrived, announcedIn, arrivedIn, sp
 use Rattle.record.specs.declared.Carousel.{Carousel}
 use Rattle.record.specs.Marks.{markOf}
 use Rattle.record.specs.Record.{Record, recordOf, moduleAt, placeOf, bytesOf, blockCount, blockLength, received, blockAt, sameNumbers, ruledOf}
-use Rattle.carousel.specs.Step.{Outcome, refusing, new, same, repeated, stored, meets12, meets13, meets14, meets15, meets16, blockRefusal, bytesDiffer, matched, sameAnnounced, onAnnounced, onArrived, onHeard, outcomeOf, imageAfter, returning, steppedOf, imageOf}
+use Rattle.carousel.specs.Step.{Outcome, refusing, new, same, repeated, stored, meets12, meets14, meets16, blockRefusal, bytesDiffer, matched, sameAnnounced, onAnnounced, onArrived, onHeard, outcomeOf, imageAfter, returning, steppedOf, imageOf}
+use Rattle.record.specs.Refusals.{meets13, meets15}
 
 -- 12 to 16, one after another
 module _ (a : Announced) (n : ℕ) (d : Arrived) where

@@ -1,9 +1,9 @@
 -- Words of marks one at a time, as the loops over them take them.
 -- Assumes nothing.
 use Prim.Native.Nat.{ℕ, zero, suc, _+_, _-_, _*_, _/_, _%_, _^_, _≤_, _<_}
-use mathlib.Core.Path.{_≡_, refl, sym, ap, _∙_}
-use mathlib.Core.Bool.{Bool, true, false, cond}
-use mathlib.Core.List.{List, [], _∷_}
+use mathlib.Core.Path.{_≡_}
+use mathlib.Core.Bool.{true, false}
+use mathlib.Core.List.{List}
 use native.Mathlib.Numerals.{add-one}
 use native.Mathlib.Nat.{one-mul, mod-eq-of-lt, div-zero, div-le-self}
 use native.Mathlib.Omega.{arith}
@@ -12,7 +12,7 @@ use lib.Pow.{pow-lt}
 use lib.ListN.{length, getD, drop, drop-of-length-le}
 use lib.Seq.{drop-cons}
 use Rattle.record.specs.Blocks.{blocksOf}
-use Rattle.record.specs.Marks.{isMarked, clearFrom, clearAmong}
+use Rattle.record.specs.Marks.{clearFrom}
 
 -- one bit, as code shifts it
 pub one-shl : (b : ℕ) → b < 32 → 1 * 2 ^ b % 2 ^ 32 ≡ 2 ^ b

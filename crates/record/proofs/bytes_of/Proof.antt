@@ -1,6 +1,6 @@
 -- `record::bytes_of` meets its contract: the entries in use are those that the record says.
 -- Assumes nothing.
-use mathlib.Core.Path.{_≡_, ap, _∙_}
+use mathlib.Core.Path.{ap, _∙_}
 use mathlib.Core.List.{List, map}
 use Rattle.messages.specs.Limits as limits
 use Rattle.record.specs.declared.Module.{Module}

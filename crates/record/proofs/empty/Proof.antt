@@ -4,8 +4,6 @@ use mathlib.Core.Path.{refl}
 use Rattle.record.specs.Changes.{emptyRecord}
 use Rattle.record.proofs.empty.Statement.{statement}
 use Rattle.record.proofs.empty.Tie as tie
-use Rattle.record.proofs.empty.Reads as reads
-use Rattle.record.proofs.empty.Lts as lts
 
 returns : tie.Need-returns
 unfolding emptyRecord

@@ -1,7 +1,6 @@
 -- `record::place_of` meets its contract: the entries in use are those that the record says.
 -- Assumes nothing.
-use Prim.Native.Nat.{_+_}
-use mathlib.Core.Path.{_≡_, ap, _∙_}
+use mathlib.Core.Path.{ap}
 use mathlib.Core.List.{List, map}
 use native.Mathlib.Omega.{arith}
 use Rattle.record.specs.declared.Module.{Module}

@@ -9,7 +9,7 @@ use Rattle.section.specs.Header.{bodyOf}
 use Rattle.section.specs.declared.Rules.the-variants.{Application}
 use Rattle.section.specs.declared.Checked.the-variants.{Refused, Accepted}
 use Rattle.section.specs.Answer.{refused, checkedOf}
-use Rattle.descriptors.specs.Body.{bodyRefusal}
+use Rattle.body.specs.Body.{bodyRefusal}
 use Rattle.applications.proofs.Laws.Acceptance.{sized, judged-refused, judged-bad, judged-good}
 use borrow.Author.Needs.{needs}
 use Rattle.applications.proofs.acceptance.judge.Statement.{statement}

@@ -1,6 +1,7 @@
 -- `applications::records::application_of` meets its contract: each field is what its reader answers.
 -- Assumes nothing.
-use Rattle.applications.specs.Records.{applicationOf}
+use mathlib.Core.Path.{ap, _∙_}
+use Rattle.applications.specs.Records.{classOf, controlOf, applicationOf}
 use borrow.Author.Needs.{needs}
 use Rattle.applications.proofs.records.application_of.Statement.{statement}
 use Rattle.applications.proofs.records.application_of.Tie as tie
@@ -25,7 +26,17 @@ own-count-requires c κs = search needs
 
 returns : tie.Need-returns
 unfolding applicationOf
-returns c = cc
+returns c =
+    let number = c .before .before .before .before .before .sixteen-at .ensures .0 in
+    let code = c .before .before .before .byte-at .ensures .0 in
+    λ i. record {
+      organisation = c .before .thirty-two-at .ensures .0 i;
+      number = number i;
+      class = (c .before .before .before .before .class-of .ensures ∙ ap classOf number) i;
+      code = code i;
+      control = (c .before .before .control-of .ensures ∙ ap controlOf code) i;
+      descriptors = c .own-count .ensures i;
+    }
 
 pub application-of-spec : {M : Type 1} → statement M
 application-of-spec =

@@ -1,6 +1,8 @@
 -- `applications::records::base_of` meets its contract: each field is what its reader answers.
 -- Assumes nothing.
+use Prim.Native.Nat.{_+_}
 use Rattle.applications.specs.Records.{baseOf}
+use Rattle.applications.proofs.Laws.Records.{byte-past}
 use borrow.Author.Needs.{needs}
 use Rattle.applications.proofs.records.base_of.Statement.{statement}
 use Rattle.applications.proofs.records.base_of.Tie as tie
@@ -19,7 +21,12 @@ eight-at-requires-2 c κs = search needs
 
 returns : tie.Need-returns
 unfolding baseOf
-returns c = cc
+returns c =
+    let n = c .before .eight-at .ensures .0 in
+    λ i. record {
+      text = record { start = c .before .before .before .args .a + 1; size = n i };
+      extensions = byte-past (c .before .before .before .args .x .now) 1 (c .eight-at2 .ensures .0) n i;
+    }
 
 pub base-of-spec : {M : Type 1} → statement M
 base-of-spec =

@@ -1,12 +1,11 @@
 -- `applications::records::described_00` meets its contract.
 -- Assumes nothing.
-use Prim.Native.Nat.{_/_, _^_}
-use mathlib.Core.Path.{_≡_}
-use lib.Bits.{bitAnd}
+use mathlib.Core.Path.{ap, _∙_}
 use Rattle.wire.specs.Fields.{bits}
 use Rattle.wire.proofs.Laws.Fields.{masked}
-use native.Mathlib.Omega.{arith}
+use Rattle.applications.specs.declared.Described.the-variants as described
 use Rattle.applications.specs.Records.{described00}
+use Rattle.applications.proofs.Laws.Records.{byte-past, top-is}
 use borrow.Author.Needs.{needs}
 use Rattle.applications.proofs.records.described_00.Statement.{statement}
 use Rattle.applications.proofs.records.described_00.Tie as tie
@@ -35,10 +34,15 @@ repeated-count-requires-2 c κs = search needs
 returns : tie.Need-returns
 unfolding described00
 returns c =
-    let x = c .before .before .before .byte-at .result in
-    let u : x / 2 ^ 7 ≡ bits 7 1 x = omega arith in
-    let v : bitAnd (x / 2 ^ 5) 3 ≡ bits 5 2 x = masked 5 2 x in
-    cc
+    let d = c .before .before .before .before .before .before .args .d .now in
+    let n = c .before .before .before .before .eight-at .ensures .0 in
+    let flags = byte-past d 3 (c .before .before .before .byte-at .ensures .0) n in
+    λ i.
+    described.Application (c .before .before .repeated-count .ensures i)
+    (top-is (flags, c .before .before .before .byte-at .ensures .1) i)
+    ((masked 5 2 _ ∙ ap (bits 5 2) flags) i)
+    (byte-past d 4 (c .before .byte-at2 .ensures .0) n i)
+    (c .repeated-count2 .ensures i)
 
 pub described-00-spec : {M : Type 1} → statement M
 described-00-spec =

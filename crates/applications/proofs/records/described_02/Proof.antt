@@ -1,7 +1,7 @@
 -- `applications::records::described_02` meets its contract.
 -- Assumes nothing.
-use mathlib.Core.Path.{_≡_, refl, sym, ap, ap₂, _∙_}
-use native.Mathlib.Omega.{arith}
+use mathlib.Core.Path.{sym, ap₂, _∙_}
+use Rattle.applications.specs.declared.Described.the-variants as described
 use Rattle.applications.proofs.Laws.Records.{is-1, is-3, is-other}
 use borrow.Author.Needs.{needs}
 use Rattle.applications.proofs.records.described_02.Statement.{statement}
@@ -29,13 +29,13 @@ returns : tie.Need-returns
 returns c = c .described-1 .ensures ∙ is-1 _ _ (sym (c .before .before .sixteen-at .ensures .0) ∙ c .before .match .keys1)
 
 returns-2 : tie.Need-returns-2
-returns-2 c = cc (is-3 (c .before .before .before .before .before .args .d .now) (c .before .before .before .before .before .args .a) (sym (c .before .before .before .sixteen-at .ensures .0) ∙ c .before .before .match .keys2))
+returns-2 c = ap₂ described.Http (c .before .byte-at .ensures .0) (c .repeated-count .ensures) ∙ is-3 _ _ (sym (c .before .before .before .sixteen-at .ensures .0) ∙ c .before .before .match .keys2)
 
 returns-3 : tie.Need-returns-3
 returns-3 c =
     let t = c .before .before .before .sixteen-at .ensures .0 in
     let n = c .before .before .match .rest in
-    cc (is-other (c .before .before .before .before .before .args .d .now) (c .before .before .before .before .before .args .a) (λ e. n .0 .1 (t ∙ e)) (λ e. n .1 (t ∙ e)))
+    (λ i. described.Transport (t i) (c .before .byte-at2 .ensures .0 i) (c .rest-of .ensures i)) ∙ is-other _ _ (λ e. n .0 .1 (t ∙ e)) (λ e. n .1 (t ∙ e))
 
 pub described-02-spec : {M : Type 1} → statement M
 described-02-spec =

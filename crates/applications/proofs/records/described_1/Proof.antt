@@ -1,8 +1,8 @@
 -- `applications::records::described_1` meets its contract.
 -- Assumes nothing.
-use mathlib.Core.Path.{_≡_, refl, sym, ap, ap₂, _∙_}
-use native.Mathlib.Omega.{arith}
-use Rattle.applications.proofs.Laws.Records.{is-remote, is-local}
+use mathlib.Core.Path.{sym, ap₂, _∙_}
+use Rattle.applications.specs.declared.Described.the-variants as described
+use Rattle.applications.proofs.Laws.Records.{top-is, is-remote, is-local}
 use borrow.Author.Needs.{needs}
 use Rattle.applications.proofs.records.described_1.Statement.{statement}
 use Rattle.applications.proofs.records.described_1.Tie as tie
@@ -26,13 +26,21 @@ byte-at-requires-3 : tie.Need-byte-at-requires-3
 byte-at-requires-3 c κs = search needs
 
 returns : tie.Need-returns
-returns c = cc (is-remote (c .before .before .before .before .before .before .before .before .args .d .now) (omega arith))
+returns c =
+    let k = c .before .before .before .before .before in
+    (λ i.
+    described.Remote (k .before .byte-at .ensures .0 i)
+    (c .before .before .before .sixteen-at .ensures .0 i)
+    (c .before .before .sixteen-at2 .ensures .0 i)
+    (c .before .sixteen-at3 .ensures .0 i)
+    (c .byte-at3 .ensures .0 i))
+    ∙ is-remote _ (sym (top-is (k .byte-at2 .ensures)) ∙ c .before .before .before .before .if1 .taken)
 
 byte-at-requires-4 : tie.Need-byte-at-requires-4
 byte-at-requires-4 c κs = search needs
 
 returns-2 : tie.Need-returns-2
-returns-2 c = cc (is-local (c .before .before .before .before .before .args .d .now) (λ e. omega (arith, c .before .if1 .left)))
+returns-2 c = ap₂ described.Local (c .before .before .before .byte-at .ensures .0) (c .byte-at4 .ensures .0) ∙ is-local _ (λ e. c .before .if1 .left (top-is (c .before .before .byte-at2 .ensures) ∙ e))
 
 pub described-1-spec : {M : Type 1} → statement M
 described-1-spec =

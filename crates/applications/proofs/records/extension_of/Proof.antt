@@ -1,4 +1,4 @@
--- `applications::records::extension_of` meets its contract: each field is what its reader answers.
+-- `applications::records::extension_of` meets its contract.
 -- Assumes nothing.
 use Rattle.applications.specs.Records.{extensionOf}
 use borrow.Author.Needs.{needs}
@@ -10,7 +10,7 @@ rest-of-requires c κs = search needs
 
 returns : tie.Need-returns
 unfolding extensionOf
-returns c = cc
+returns c = c .rest-of .ensures
 
 pub extension-of-spec : {M : Type 1} → statement M
 extension-of-spec = tie.close (tie.spec rest-of-requires returns)

@@ -16,7 +16,12 @@ byte-at-requires c κs = search needs
 
 returns : tie.Need-returns
 unfolding identifierOf
-returns c = cc
+returns c =
+    λ i. record {
+      organisation = c .before .before .thirty-two-at .ensures .0 i;
+      number = c .before .sixteen-at .ensures .0 i;
+      priority = c .byte-at .ensures .0 i;
+    }
 
 pub identifier-of-spec : {M : Type 1} → statement M
 identifier-of-spec =

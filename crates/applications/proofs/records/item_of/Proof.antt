@@ -1,8 +1,8 @@
 -- `applications::records::item_of` meets its contract.
 -- Assumes nothing.
-use mathlib.Core.Path.{_≡_, refl, sym, ap, ap₂, _∙_}
-use native.Mathlib.Omega.{arith}
+use mathlib.Core.Path.{ap, _∙_}
 use Rattle.applications.specs.declared.Repeated.the-variants.{Profiles, Labels, Names, Bases, Identifiers}
+use Rattle.applications.specs.declared.Item.the-variants as item
 use Rattle.applications.specs.Records.{itemOf}
 use Rattle.applications.proofs.Laws.Records.{item-is}
 use borrow.Author.Needs.{needs}
@@ -41,23 +41,23 @@ identifier-of-requires c κs = search needs
 
 returns : tie.Need-returns
 unfolding itemOf
-returns c = cc (item-is Profiles (c .before .before .before .before .args .what) (c .before .before .before .before .args .x .now) (c .before .before .before .before .args .a) (c .before .enum-told .given .1))
+returns c = ap item.Profile (c .profile-of .ensures) ∙ item-is Profiles _ _ _ (c .before .enum-told .given .1)
 
 returns-2 : tie.Need-returns-2
 unfolding itemOf
-returns-2 c = cc (item-is Labels (c .before .before .before .before .args .what) (c .before .before .before .before .args .x .now) (c .before .before .before .before .args .a) (c .before .enum-told2 .given .1))
+returns-2 c = ap item.Label (c .byte-at .ensures .0) ∙ item-is Labels _ _ _ (c .before .enum-told2 .given .1)
 
 returns-3 : tie.Need-returns-3
 unfolding itemOf
-returns-3 c = cc (item-is Names (c .before .before .before .before .args .what) (c .before .before .before .before .args .x .now) (c .before .before .before .before .args .a) (c .before .enum-told3 .given .1))
+returns-3 c = ap item.Name (c .name-of .ensures) ∙ item-is Names _ _ _ (c .before .enum-told3 .given .1)
 
 returns-4 : tie.Need-returns-4
 unfolding itemOf
-returns-4 c = cc (item-is Bases (c .before .before .before .before .args .what) (c .before .before .before .before .args .x .now) (c .before .before .before .before .args .a) (c .before .enum-told4 .given .1))
+returns-4 c = ap item.Base (c .base-of .ensures) ∙ item-is Bases _ _ _ (c .before .enum-told4 .given .1)
 
 returns-5 : tie.Need-returns-5
 unfolding itemOf
-returns-5 c = cc (item-is Identifiers (c .before .before .before .before .args .what) (c .before .before .before .before .args .x .now) (c .before .before .before .before .args .a) (c .before .enum-told5 .given .1))
+returns-5 c = ap item.Identifier (c .identifier-of .ensures) ∙ item-is Identifiers _ _ _ (c .before .enum-told5 .given .1)
 
 pub item-of-spec : {M : Type 1} → statement M
 item-of-spec =

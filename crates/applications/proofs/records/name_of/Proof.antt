@@ -19,7 +19,13 @@ byte-at-requires-3 c κs = search needs
 
 returns : tie.Need-returns
 unfolding nameOf
-returns c = cc
+returns c =
+    λ i. record {
+      first = c .before .before .byte-at .ensures .0 i;
+      second = c .before .byte-at2 .ensures .0 i;
+      third = c .byte-at3 .ensures .0 i;
+      text = c .before .before .before .rest-of .ensures i;
+    }
 
 pub name-of-spec : {M : Type 1} → statement M
 name-of-spec =

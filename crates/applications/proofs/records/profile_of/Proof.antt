@@ -19,7 +19,13 @@ byte-at-requires-3 c κs = search needs
 
 returns : tie.Need-returns
 unfolding profileOf
-returns c = cc
+returns c =
+    λ i. record {
+      number = c .before .before .before .sixteen-at .ensures .0 i;
+      major = c .before .before .byte-at .ensures .0 i;
+      minor = c .before .byte-at2 .ensures .0 i;
+      micro = c .byte-at3 .ensures .0 i;
+    }
 
 pub profile-of-spec : {M : Type 1} → statement M
 profile-of-spec =

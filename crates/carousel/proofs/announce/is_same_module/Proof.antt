@@ -3,8 +3,6 @@
 use borrow.Author.Tests.{eq-eqb, ne-eqb}
 use Rattle.carousel.proofs.announce.is_same_module.Statement.{statement}
 use Rattle.carousel.proofs.announce.is_same_module.Tie as tie
-use Rattle.carousel.proofs.announce.is_same_module.Reads as reads
-use Rattle.carousel.proofs.announce.is_same_module.Lts as lts
 
 returns : tie.Need-returns
 returns c = rw (ne-eqb _ _ (c .if1 .taken))

@@ -1,6 +1,6 @@
 -- `descriptors::contents::meets` meets its contract.
 -- Assumes nothing.
-use mathlib.Core.Path.{sym, _∙_}
+use mathlib.Core.Path.{_∙_}
 use native.Mathlib.Omega.{arith}
 use Rattle.descriptors.specs.declared.Test.the-variants.{Any, Malformed, Tagged, Labelled}
 use Rattle.descriptors.proofs.Laws.Contents.{test-is, any-is, malformed-is, tagged-is, labelled-other, labelled-is}

@@ -1,8 +1,7 @@
 -- `descriptors::contents::meets_at` meets its contract.
 -- Assumes nothing.
 use borrow.Author.Needs.{needs}
-use mathlib.Core.Path.{_≡_, refl, sym, ap, _∙_}
-use native.Mathlib.Omega.{arith}
+use mathlib.Core.Path.{ap, _∙_}
 use Rattle.wire.proofs.Laws.Finders.{part}
 use Rattle.descriptors.specs.Contents.{testOf}
 use Rattle.descriptors.proofs.contents.meets_at.Statement.{statement}

@@ -1,7 +1,6 @@
 -- `descriptors::kinds::size_at` meets its contract.
 -- Assumes nothing.
-use mathlib.Core.Path.{_≡_, refl, sym, ap, _∙_}
-use native.Mathlib.Omega.{arith}
+use mathlib.Core.Path.{ap, _∙_}
 use Rattle.wire.proofs.Laws.Loops.{tail, item-fits}
 use Rattle.descriptors.specs.Kinds.{sizeOf}
 use Rattle.descriptors.proofs.Laws.Kinds.{kind-of}

@@ -1,6 +1,6 @@
 -- `descriptors::kinds::size_of` meets its contract: one line for each kind.
 -- Assumes nothing.
-use mathlib.Core.Path.{_≡_, refl, sym, _∙_}
+use mathlib.Core.Path.{refl, sym, _∙_}
 use native.Mathlib.Omega.{arith}
 use Rattle.wire.specs.Fields.{twelveAt}
 use Rattle.wire.proofs.Laws.Frames.{framed-read}

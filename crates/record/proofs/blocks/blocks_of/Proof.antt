@@ -8,8 +8,6 @@ use native.Mathlib.Omega.{arith}
 use borrow.Author.Needs.{needs}
 use Rattle.record.proofs.blocks.blocks_of.Statement.{statement}
 use Rattle.record.proofs.blocks.blocks_of.Tie as tie
-use Rattle.record.proofs.blocks.blocks_of.Reads as reads
-use Rattle.record.proofs.blocks.blocks_of.Lts as lts
 
 returns : tie.Need-returns
 unfolding blocksOf

@@ -7,8 +7,6 @@ use lib.ListN.{List·getD-eq-default}
 use borrow.Author.Needs.{needs}
 use Rattle.record.proofs.marks.is_marked.Statement.{statement}
 use Rattle.record.proofs.marks.is_marked.Tie as tie
-use Rattle.record.proofs.marks.is_marked.Reads as reads
-use Rattle.record.proofs.marks.is_marked.Lts as lts
 
 returns : tie.Need-returns
 unfolding isMarked

@@ -9,8 +9,6 @@ use borrow.Author.Tests.{eq-eqb}
 use borrow.Author.Needs.{needs}
 use Rattle.record.proofs.marks.is_word_clear.Statement.{statement}
 use Rattle.record.proofs.marks.is_word_clear.Tie as tie
-use Rattle.record.proofs.marks.is_word_clear.Reads as reads
-use Rattle.record.proofs.marks.is_word_clear.Lts as lts
 
 returns : tie.Need-returns
 returns c =

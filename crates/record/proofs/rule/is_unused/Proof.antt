@@ -3,8 +3,6 @@
 use borrow.Author.Tests.{eq-eqb, ne-eqb}
 use Rattle.record.proofs.rule.is_unused.Statement.{statement}
 use Rattle.record.proofs.rule.is_unused.Tie as tie
-use Rattle.record.proofs.rule.is_unused.Reads as reads
-use Rattle.record.proofs.rule.is_unused.Lts as lts
 
 returns : tie.Need-returns
 returns c = rw (ne-eqb _ 0 (c .if1 .taken))

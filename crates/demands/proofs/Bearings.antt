@@ -1,0 +1,42 @@
+-- THE PAPER'S FALSE BEARINGS (01), each as what the theorems exclude.
+-- Assumes nothing.
+use Prim.Native.Nat.{ℕ, _<_}
+use mathlib.Core.Path.{_≡_, sym, ap}
+use mathlib.Core.Bool.{true, false}
+use mathlib.Core.List.{List}
+use Rattle.wire.proofs.Laws.Tests.{clash}
+use Rattle.section.specs.Header.{bodyOf}
+use Rattle.section.specs.Answer.{refused}
+use Rattle.messages.specs.Message.{payloadOf}
+use Rattle.messages.specs.Contents.{dataOf}
+use Rattle.messages.specs.Heard.{Arrived, arrived, heardOf}
+use Rattle.messages.proofs.Good.{block-heard}
+use Rattle.record.specs.declared.Carousel.{Carousel}
+use Rattle.carousel.specs.declared.Answer.the-variants as answer
+use Rattle.carousel.specs.Step.{steppedOf, imageOf}
+use Rattle.record.specs.Blocks.{blocksOf, lengthOf}
+use Rattle.record.proofs.Laws.Blocks.{length-pos}
+use Rattle.carousel.proofs.Steps.{refusal-changes-nothing}
+use Rattle.receiver.specs.Run.{Held, walk}
+use Rattle.demands.specs.Demand.{Begun, NoNew, modules, blocks, matches, isComplete, Holds}
+use Rattle.demands.proofs.Three.{completeness}
+
+-- "Counting arrivals and not distinct blocks: two copies of block 0 "complete" a two-block module." However many sections come: where none of them matches block b, the module is
+-- not complete.
+pub arrivals-do-not-count : (x : Held) (start : Begun x) (i : ℕ) (there : i < modules x) (ss : List (List ℕ)) → NoNew x ss
+    → (b : ℕ) → b < blocks x i → ((s : List ℕ) → Holds ss s → matches x i b s ≡ false) → isComplete (walk x ss) i ≡ true → ⊥
+arrivals-do-not-count x start i there ss n b l none c =
+    let h = completeness x start i there ss n .0 c b l in
+    clash _ (h .2) (none (h .0) (h .1))
+
+-- "A last block of 0 bytes when the size divides evenly." Every block of a module has bytes.
+pub no-empty-block : (blockSize size b : ℕ) → 0 < blockSize → b < blocksOf blockSize size → 0 < lengthOf blockSize size b
+no-empty-block bs z b p l = length-pos bs z p b l
+
+-- "Adaptation bytes stored as data." The data of a block are its payload's, after the payload's six bytes; the payload begins after the adaptation bytes.
+pub adaptation-is-no-data : (s : List ℕ) (d : Arrived) → heardOf s ≡ arrived d → d .bytes ≡ dataOf (payloadOf (bodyOf s))
+adaptation-is-no-data s d e = ap (λ (x : Arrived). x .bytes) (sym (block-heard s d .0 e .1))
+
+-- "Overwriting on 17: a late bad copy moves a buoy." It changes neither record nor image.
+pub no-overwriting : (c : Carousel) (s image : List ℕ) → steppedOf c s image .answer ≡ answer.Refused (refused 17) → (steppedOf c s image .state ≡ c) × (imageOf c s image ≡ image)
+no-overwriting c s image e = refusal-changes-nothing c s image (refused 17) e

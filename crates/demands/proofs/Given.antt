@@ -1,0 +1,163 @@
+-- One section, whichever rules it goes by: the record and image that it leaves are those of the carousel's step, and by the paper's record; its fate; what "new" leaves.
+-- Assumes nothing.
+use Prim.Native.Nat.{ℕ}
+use mathlib.Core.Path.{_≡_, refl, sym, ap, _∙_}
+use mathlib.Core.Bool.{Bool, true, false, cond}
+use mathlib.Core.List.{List}
+use lib.Dec.{eqb}
+use borrow.Author.Tests.{eqb-true}
+use Rattle.wire.specs.Fields.{byteAt}
+use Rattle.wire.proofs.Laws.Tests.{clash}
+use Rattle.section.specs.declared.Refusal.{Refusal}
+use Rattle.section.specs.Header.{applicationTable}
+use Rattle.section.specs.Answer.{refused}
+use Rattle.messages.specs.declared.Judged.{Judged}
+use Rattle.messages.specs.declared.Judged.the-variants as judged
+use Rattle.messages.specs.Judged.{judgedOf, numberOfJudged}
+use Rattle.messages.specs.Heard.{Announced, Heard, refusal, heardIn, heardOf}
+use Rattle.messages.proofs.Exact.{good-exactly}
+use Rattle.applications.specs.declared.ReadAnswer.{ReadAnswer}
+use Rattle.applications.specs.declared.ReadAnswer.the-variants as reading
+use Rattle.applications.specs.Answers.{readAnswer}
+use Rattle.record.specs.declared.Carousel.{Carousel}
+use Rattle.carousel.specs.declared.Answer.{Answer}
+use Rattle.carousel.specs.declared.Answer.the-variants as answer
+use Rattle.record.specs.Marks.{markWords, markOf, isMarked}
+use Rattle.record.specs.Record.{Record, recordOf, received, ruledOf}
+use Rattle.record.specs.Changes.{madeAfresh}
+use Rattle.carousel.specs.Step.{Outcome, refusing, new, same, repeated, stored, onHeard, outcomeOf, answerOf, carouselAfter, imageAfter, steppedOf, imageOf}
+use Rattle.carousel.specs.Matching.{heardFor}
+use Rattle.carousel.proofs.Views.{Held as Said, after, isNew as madeNew}
+use Rattle.record.proofs.Laws.Marks.{clear}
+use Rattle.carousel.proofs.Simulation.{says-after, outcome-ruled}
+use Rattle.carousel.proofs.Steps.{Renewing, new-changes}
+use Rattle.receiver.specs.declared.Given.{Given}
+use Rattle.receiver.specs.declared.Fate.the-variants as fate
+use Rattle.receiver.specs.Run.{readFate, tableFate, carouselFate, givenOf, imageGiven, Held, given}
+use Rattle.demands.specs.Demand.{Begun, isNew}
+use Rattle.receiver.proofs.Runs.{given-rule}
+use Rattle.receiver.proofs.Laws.Fates.{fate-table, fate-other, fate-tells}
+
+-- what the record says, and the image
+abbrev pub saying : Held → Said
+saying x = record { says = recordOf (x .state); image = x .image }
+
+-- an application table is no carousel section: 2 or 3 meets it
+table-refused : (s : List ℕ) → byteAt s 0 ≡ applicationTable → (r : Refusal) × (heardOf s ≡ refusal r)
+unfolding heardOf heardIn
+table-refused s e = go (judgedOf s) refl
+  where
+    never : numberOfJudged (judgedOf s) ≡ 0 → ⊥
+    never z = clash _ (good-exactly s .0 z .0 .table) (rw e)
+
+    go : (j : Judged) → judgedOf s ≡ j → (r : Refusal) × (heardIn s j ≡ refusal r)
+    go (judged.Refused r) f = (r, refl)
+    go (judged.Announced a) f = absurd (never (ap numberOfJudged f))
+    go (judged.Carried b) f = absurd (never (ap numberOfJudged f))
+
+table-outcome : (c : Carousel) (s image : List ℕ) → byteAt s 0 ≡ applicationTable → (r : Refusal) × (outcomeOf c s image ≡ refusing r)
+unfolding outcomeOf onHeard
+table-outcome c s image e = go (ruledOf c)
+  where
+    go : (t : Bool) → (r : Refusal) × (cond t (onHeard (recordOf c) image (heardOf s)) (refusing (refused 1)) ≡ refusing r)
+    go true = let h = table-refused s e in (h .0, ap (λ (x : Heard). onHeard (recordOf c) image x) (h .1))
+    go false = (refused 1, refl)
+
+-- ONE SECTION IS ONE STEP, of the record and the image: a table, which the receiver keeps from the carousel, the carousel would refuse
+pub given-steps : (x : Held) (s : List ℕ) → given x s ≡ record { state = steppedOf (x .state) s (x .image) .state; image = imageOf (x .state) s (x .image) }
+unfolding givenOf imageGiven steppedOf imageOf
+given-steps x s = go (eqb (byteAt s 0) applicationTable) refl
+  where
+    left : Outcome → Held
+    left o = record { state = carouselAfter (x .state) o; image = imageAfter (x .image) o }
+
+    go : (t : Bool) → eqb (byteAt s 0) applicationTable ≡ t
+        → _≡_ {A = Held} (record {
+          state = cond {A = Given} t (record { fate = tableFate s; state = x .state })
+              (record { fate = carouselFate (steppedOf (x .state) s (x .image) .answer); state = steppedOf (x .state) s (x .image) .state }) .state;
+          image = cond t (x .image) (imageOf (x .state) s (x .image));
+        })
+        (left (outcomeOf (x .state) s (x .image)))
+    go true e = sym (ap (λ (o : Outcome). left o) (table-outcome (x .state) s (x .image) (eqb-true _ _ e) .1))
+    go false e = refl
+
+-- what a section comes to, of a record that keeps its rule
+abbrev pub came : Held → List ℕ → Outcome
+came x s = onHeard (recordOf (x .state)) (x .image) (heardOf s)
+
+pub given-says : (x : Held) (s : List ℕ) → ruledOf (x .state) ≡ true → saying (given x s) ≡ after (saying x) (came x s)
+unfolding steppedOf imageOf
+given-says x s r =
+    ap saying (given-steps x s)
+    ∙ ap (λ (u : Record). record { says = u; image = imageAfter (x .image) (outcomeOf (x .state) s (x .image)) }) (says-after (x .state) (outcomeOf (x .state) s (x .image)))
+    ∙ ap (λ (o : Outcome). after (saying x) o) (outcome-ruled (x .state) s (x .image) r)
+
+-- THE FATE of a section for a module is the step's answer, as no table is for one
+for-other : (a : Announced) (i : ℕ) (s : List ℕ) → heardFor a i (heardOf s) ≡ true → eqb (byteAt s 0) applicationTable ≡ false
+unfolding heardFor
+for-other a i s e = go (eqb (byteAt s 0) applicationTable) refl
+  where
+    go : (t : Bool) → eqb (byteAt s 0) applicationTable ≡ t → eqb (byteAt s 0) applicationTable ≡ false
+    go true f = absurd (clash _ e (ap (λ (h : Heard). heardFor a i h) (table-refused s (eqb-true _ _ f) .1)))
+    go false f = f
+
+pub for-fate : (c : Carousel) (s image : List ℕ) (a : Announced) (i : ℕ) → heardFor a i (heardOf s) ≡ true → givenOf c s image .fate ≡ carouselFate (steppedOf c s image .answer)
+for-fate c s image a i e = fate-other c s image (for-other a i s e)
+
+pub for-came : (x : Held) (s : List ℕ) → ruledOf (x .state) ≡ true → (a : Announced) (i : ℕ) → heardFor a i (heardOf s) ≡ true
+    → givenOf (x .state) s (x .image) .fate ≡ carouselFate (answerOf (came x s))
+unfolding steppedOf
+for-came x s r a i e = for-fate (x .state) s (x .image) a i e ∙ ap (λ (o : Outcome). carouselFate (answerOf o)) (outcome-ruled (x .state) s (x .image) r)
+
+-- WHO ANSWERS "NEW": no table, and of the carousel's outcomes the new announcement
+read-old : (a : ReadAnswer) → isNew (readFate a) ≡ false
+unfolding readFate
+read-old (reading.Refused r) = refl
+read-old (reading.Accepted t) = refl
+
+new-outcome : (o : Outcome) → isNew (carouselFate (answerOf o)) ≡ madeNew o
+unfolding carouselFate madeNew
+new-outcome (refusing n) = refl
+new-outcome (new a) = refl
+new-outcome same = refl
+new-outcome repeated = refl
+new-outcome (stored k at bytes) = refl
+
+pub given-old : (x : Held) (s : List ℕ) → ruledOf (x .state) ≡ true → isNew (givenOf (x .state) s (x .image) .fate) ≡ false → madeNew (came x s) ≡ false
+unfolding steppedOf onHeard madeNew
+given-old x s r n = go (eqb (byteAt s 0) applicationTable) refl
+  where
+    go : (t : Bool) → eqb (byteAt s 0) applicationTable ≡ t → madeNew (came x s) ≡ false
+    go true e = ap (λ (h : Heard). madeNew (onHeard (recordOf (x .state)) (x .image) h)) (table-refused s (eqb-true _ _ e) .1)
+    go false e =
+        sym (new-outcome (came x s))
+        ∙ sym (ap (λ (o : Outcome). isNew (carouselFate (answerOf o))) (outcome-ruled (x .state) s (x .image) r))
+        ∙ sym (ap isNew (fate-other (x .state) s (x .image) e)) ∙ n
+
+-- THE START: a call that answered "new" left a record that keeps its rule, with all marks clear
+fate-new : (c : Carousel) (s image : List ℕ) → givenOf c s image .fate ≡ fate.New → steppedOf c s image .answer ≡ answer.New
+unfolding carouselFate
+fate-new c s image e = go (eqb (byteAt s 0) applicationTable) refl
+  where
+    go : (t : Bool) → eqb (byteAt s 0) applicationTable ≡ t → steppedOf c s image .answer ≡ answer.New
+    go true f = absurd (clash _ (ap isNew e) (ap isNew (fate-table c s image f) ∙ read-old (readAnswer s)))
+    go false f = fate-tells (steppedOf c s image .answer) answer.New (sym (fate-other c s image f) ∙ e)
+
+afresh-clear : (c : Carousel) (a : Announced) (k : ℕ) → isMarked (madeAfresh c a .marks) k ≡ false
+unfolding madeAfresh
+afresh-clear c a k = clear markWords k
+
+module _ (x : Held) (start : Begun x) where
+  abbrev before : Held
+  before = start .0
+
+  renewed : Renewing (before .state) (start .1) (before .image)
+  renewed = new-changes (before .state) (start .1) (before .image) (fate-new (before .state) (start .1) (before .image) (start .2))
+
+  pub begun-ruled : ruledOf (x .state) ≡ true
+  begun-ruled = ap (λ (z : Held). ruledOf (z .state)) (sym (start .3)) ∙ given-rule (before .state) (start .1) (before .image) (renewed .ruled)
+
+  pub begun-clear : (i b : ℕ) → received (recordOf (x .state)) i b ≡ false
+  begun-clear i b =
+      let e = ap (λ (z : Held). z .state) (sym (start .3) ∙ given-steps before (start .1)) ∙ renewed .state in
+      ap (λ (c : Carousel). isMarked (c .marks) (markOf i b)) e ∙ afresh-clear (before .state) (renewed .told) (markOf i b)

@@ -1,0 +1,93 @@
+-- THE PAPER'S SOUNDINGS, the starred ones, as one table and one theorem. 01, "Soundings (* to be proved together, as one table)".
+-- Assumes nothing.
+use Prim.Native.Nat.{ℕ}
+use mathlib.Core.Path.{_≡_, ap₂, _∙_}
+use mathlib.Core.Bool.{true, false}
+use mathlib.Core.List.{List, [], _∷_}
+use lib.ListN.{length}
+use Rattle.wire.proofs.Laws.Tests.{clash}
+use Rattle.section.specs.declared.Header.{Header}
+use Rattle.section.specs.declared.Checked.the-variants.{Accepted}
+use Rattle.section.specs.Header.{headerOf, bodyOf}
+use Rattle.section.specs.Header.{lengthOf as saidLength}
+use Rattle.applications.specs.declared.Class.the-variants.{Unsigned, Signed}
+use Rattle.applications.specs.declared.Control.the-variants.{Reserved}
+use Rattle.applications.specs.Acceptance.{judgedOf}
+use Rattle.applications.specs.Records.{classOf, controlOf}
+use Rattle.applications.proofs.Soundings as tables
+use Rattle.messages.specs.declared.Table.the-variants.{Announcements, Blocks}
+use Rattle.messages.specs.Message.{adaptationOf, payloadOf}
+use Rattle.messages.specs.Contents.{blockSizeOf}
+use Rattle.messages.specs.Limits.{beyond10}
+use Rattle.messages.specs.Good.{announcedSizes}
+use Rattle.messages.specs.Refusals.{meets10, messageRefusal}
+use Rattle.messages.specs.Heard.{Arrived, arrived, heardOf}
+use Rattle.messages.proofs.Exact.{Passed, exactly-10}
+use Rattle.messages.proofs.Soundings as messages
+use Rattle.handout.specs.declared.Report.the-variants as report
+use Rattle.record.specs.Blocks.{blocksOf, lengthOf}
+use Rattle.record.specs.Record.{missingOf}
+use Rattle.carousel.specs.Step.{blockRefusal}
+use Rattle.handout.specs.Calls.{reportOn}
+use Rattle.carousel.proofs.Soundings as carousel
+use Rattle.carousel.proofs.Longest.{longest-block, longest}
+
+-- a message body b announces modules of these sizes in blocks of this size, and passes 7 and 8
+abbrev pub Announces : List ℕ → (blockSize : ℕ) → (sizes : List ℕ) → Type 0
+Announces b bs zs = Passed Announcements b × (blockSizeOf (payloadOf b) ≡ bs) × (announcedSizes (payloadOf b) ≡ zs)
+
+-- it gives 10 exactly where what it announces is beyond the limits
+beyond : (b : List ℕ) (bs : ℕ) (zs : List ℕ) → Announces b bs zs → meets10 (payloadOf b) ≡ beyond10 bs zs
+unfolding meets10
+beyond b bs zs a = ap₂ beyond10 (a .1) (a .2)
+
+gives-10 : (h : Header) (b : List ℕ) (bs : ℕ) (zs : List ℕ) → beyond10 bs zs ≡ true → Announces b bs zs → messageRefusal Announcements h b ≡ 10
+gives-10 h b bs zs e a = exactly-10 h b .1 (a .0, beyond b bs zs a ∙ e)
+
+not-10 : (h : Header) (b : List ℕ) (bs : ℕ) (zs : List ℕ) → beyond10 bs zs ≡ false → Announces b bs zs → messageRefusal Announcements h b ≡ 10 → ⊥
+not-10 h b bs zs e a f = clash (meets10 (payloadOf b)) (exactly-10 h b .0 f .1) (beyond b bs zs a ∙ e)
+
+pub soundings :
+    -- "Size 1,000, blockSize 400: blocks of 400, 400, 200."
+    ((blocksOf 400 1000 ≡ 3) × (lengthOf 400 1000 0 ≡ 400) × (lengthOf 400 1000 1 ≡ 400) × (lengthOf 400 1000 2 ≡ 200))
+    -- "Size 800: two blocks, block 2 gives 16", whatever it carries
+    × ((blocksOf 400 800 ≡ 2) × ((bytes : List ℕ) → blockRefusal (carousel.one 400 800) 800 (carousel.block 2 bytes) ≡ 16))
+    -- "Size 65,536, blockSize 4,066: 17 blocks, last 480."
+    × ((blocksOf 4066 65536 ≡ 17) × (lengthOf 4066 65536 16 ≡ 480))
+    -- "blockSize 1: size 256 taken, 257 gives 10."
+    × ((h : Header) (b : List ℕ) → (Announces b 1 (256 ∷ []) → messageRefusal Announcements h b ≡ 10 → ⊥) × (Announces b 1 (257 ∷ []) → messageRefusal Announcements h b ≡ 10))
+    -- "blockSize 400: sizes 65,535 and 1 taken; 65,536 and 1 give 10."
+    × ((h : Header) (b : List ℕ) → (Announces b 400 (65535 ∷ 1 ∷ []) → messageRefusal Announcements h b ≡ 10 → ⊥) × (Announces b 400 (65536 ∷ 1 ∷ []) → messageRefusal Announcements h b ≡ 10))
+    -- "A 4,066-byte block without adaptation has L = 4,093", every one that is heard; and for any 4,066 bytes there is one
+    × (((s : List ℕ) (d : Arrived) → heardOf s ≡ arrived d → adaptationOf (bodyOf s) ≡ 0 → length (d .bytes) ≡ 4066 → saidLength s ≡ 4093)
+    × ((ds : List ℕ) → length ds ≡ 4066
+    → (heardOf (longest ds) ≡ arrived (record { download = 1; number = 1; version = 0; block = 0; bytes = ds })) × (adaptationOf (bodyOf (longest ds)) ≡ 0) × (saidLength (longest ds) ≡ 4093)))
+    -- "Blocks 0 and 2 of three: missing 1, lowest 1."
+    × (reportOn (missingOf (carousel.marked (carousel.one 400 1000) 5) 0) ≡ report.Lacking (record { count = 1; lowest = 1 }))
+    -- "An empty AIT has L = 13", and is accepted
+    × ((saidLength (tables.whole tables.emptyFront) ≡ 13) × (judgedOf (tables.whole tables.emptyFront) ≡ Accepted (headerOf (tables.whole tables.emptyFront))))
+    -- "72 applications of the least length, 14 bytes, without common descriptors give L = 1,021", and are accepted
+    × ((length tables.least ≡ 14) × (saidLength (tables.whole tables.fullFront) ≡ 1021) × (judgedOf (tables.whole tables.fullFront) ≡ Accepted (headerOf (tables.whole tables.fullFront))))
+    -- "Application 0x3FFF unsigned, 0x4000 signed."
+    × ((classOf 0x3FFF ≡ Unsigned) × (classOf 0x4000 ≡ Signed))
+    -- "Control code 5 reserved."
+    × (controlOf 5 ≡ Reserved)
+    -- "Block 300 of a three-block module, with section number 44, passes check 9, then gives 16", whatever it carries
+    × ((messageRefusal Blocks (messages.headed 44) messages.block300 ≡ 0) × ((bytes : List ℕ) → blockRefusal (carousel.one 400 1000) 1000 (carousel.block 300 bytes) ≡ 16))
+soundings =
+    let c = carousel.soundings in
+    let t = tables.soundings in
+    let z = messages.sizes in (
+      (c .0, c .1, c .2, c .3),
+      (c .4, c .7),
+      (c .8, c .9),
+      (λ h b. (not-10 h b 1 (256 ∷ []) (z .0), gives-10 h b 1 (257 ∷ []) (z .1))),
+      (λ h b. (not-10 h b 400 (65535 ∷ 1 ∷ []) (z .2), gives-10 h b 400 (65536 ∷ 1 ∷ []) (z .3))),
+      (longest-block .0, longest-block .1),
+      c .14,
+      (t .0, t .1),
+      (t .2, t .3, t .4),
+      (t .5, t .6),
+      t .7,
+      (messages.blocks .0, c .15),
+    )

@@ -1,0 +1,4 @@
+pub mod Laws
+pub mod Complete
+pub mod Exact
+pub mod Unique
