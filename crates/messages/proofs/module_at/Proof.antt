@@ -54,7 +54,12 @@ returns-3 c =
     let p = c .before .before .before .before .before .before .before .before .args in
     let n = there (p .list .now) _ (λ z. c .before .before .before .before .if2 .left (c .before .before .before .before .before .measured-end .ensures ∙ z)) in
     let e = listed-is (p .list .now) (p .place) _ (c .before .before .before .measured-end2 .ensures) n in
-    cc
+    (λ i. record {
+      number = c .before .before .sixteen-at .ensures .0 i;
+      size = c .before .thirty-two-at .ensures .0 i;
+      version = c .byte-at .ensures .0 i;
+    })
+    ∙ e
 
 pub module-at-spec : {M : Type 1} → statement M
 module-at-spec =

@@ -1,5 +1,8 @@
 -- `messages::message::announcement_of` meets its contract: each field is what its reader answers.
 -- Assumes nothing.
+use Prim.Native.Nat.{_+_, _-_}
+use mathlib.Core.Path.{ap, ap₂, _∙_}
+use Rattle.messages.specs.Contents.{downloadOf, blockSizeOf, moduleCountOf, modulesStart, modulesEnd}
 use Rattle.messages.specs.Judged.{announcementOf}
 use borrow.Author.Needs.{needs}
 use Rattle.messages.proofs.message.announcement_of.Statement.{statement}
@@ -37,7 +40,19 @@ less-requires c κs = search needs
 
 returns : tie.Need-returns
 unfolding announcementOf
-returns c = cc
+returns c =
+    let sixteen = c .before .before .before .before in
+    let start = sixteen .before .before in
+    let payload = start .before .payload .ensures in
+    let from = start .modules-start .ensures .0 ∙ ap modulesStart payload in
+    let to = c .before .modules-end .ensures ∙ ap modulesEnd payload in
+    λ i. record {
+      download = (sixteen .before .thirty-two-at .ensures .0 ∙ ap downloadOf payload) i;
+      «block_size» = (sixteen .sixteen-at .ensures .0 ∙ ap blockSizeOf payload) i;
+      count = (c .before .before .before .module-count .ensures .0 ∙ ap moduleCountOf payload) i;
+      start = 20 + c .before .before .eight-at .ensures .0 i + from i;
+      size = (c .less .ensures ∙ ap₂ _-_ to from) i;
+    }
 
 pub announcement-of-spec : {M : Type 1} → statement M
 announcement-of-spec =

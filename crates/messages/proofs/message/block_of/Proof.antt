@@ -1,5 +1,10 @@
 -- `messages::message::block_of` meets its contract: each field is what its reader answers.
 -- Assumes nothing.
+use Prim.Native.Nat.{ℕ, _+_, _-_}
+use mathlib.Core.Path.{ap, _∙_}
+use mathlib.Core.List.{List}
+use lib.ListN.{length}
+use Rattle.messages.specs.Contents.{blockModuleOf, blockVersionOf, blockNumberOf}
 use Rattle.messages.specs.Judged.{blockOf}
 use borrow.Author.Needs.{needs}
 use Rattle.messages.proofs.message.block_of.Statement.{statement}
@@ -34,7 +39,19 @@ less-requires c κs = search needs
 
 returns : tie.Need-returns
 unfolding blockOf
-returns c = cc
+returns c =
+    let two = c .before .before in
+    let version = two .before in
+    let number = version .before in
+    let payload = number .before .before .payload .ensures in
+    λ i. record {
+      download = number .before .thirty-two-at .ensures .0 i;
+      number = (number .sixteen-at .ensures .0 ∙ ap blockModuleOf payload) i;
+      version = (version .byte-at .ensures .0 ∙ ap blockVersionOf payload) i;
+      block = (two .sixteen-at2 .ensures .0 ∙ ap blockNumberOf payload) i;
+      start = 20 + c .before .eight-at .ensures .0 i + 6;
+      size = (c .less .ensures ∙ ap (λ (p : List ℕ). length p - 6) payload) i;
+    }
 
 pub block-of-spec : {M : Type 1} → statement M
 block-of-spec =

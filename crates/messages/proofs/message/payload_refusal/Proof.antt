@@ -1,5 +1,8 @@
 -- `messages::message::payload_refusal` meets its contract.
 -- Assumes nothing.
+use mathlib.Core.Path.{sym, ap, _∙_}
+use Rattle.messages.specs.declared.Table.{Table}
+use Rattle.messages.specs.Refusals.{payloadRefusal}
 use borrow.Author.Needs.{needs}
 use Rattle.messages.proofs.message.payload_refusal.Statement.{statement}
 use Rattle.messages.proofs.message.payload_refusal.Tie as tie
@@ -17,10 +20,10 @@ block-refusal-requires : tie.Need-block-refusal-requires
 block-refusal-requires c κs = search needs
 
 returns : tie.Need-returns
-returns c = cc
+returns c = let s = c .before .before .before .before in c .announcement-refusal .ensures ∙ ap (λ (t : Table). payloadRefusal t (s .args .h) (s .args .p .now)) (sym (c .before .enum-told .given .1))
 
 returns-2 : tie.Need-returns-2
-returns-2 c = cc
+returns-2 c = let s = c .before .before .before .before in c .block-refusal .ensures ∙ ap (λ (t : Table). payloadRefusal t (s .args .h) (s .args .p .now)) (sym (c .before .enum-told2 .given .1))
 
 pub payload-refusal-spec : {M : Type 1} → statement M
 payload-refusal-spec =
