@@ -14,7 +14,6 @@ use Rattle.messages.specs.Heard.{Announced, Arrived, Heard, announced, arrived,
 use Rattle.messages.proofs.Soundings as messages
 use Rattle.record.specs.declared.Carousel.{Carousel}
 use Rattle.carousel.specs.declared.Answer.the-variants as answer
-use Rattle.handout.specs.declared.Report.the-variants as report
 use Rattle.record.specs.Blocks.{blocksOf, lengthOf}
 use Rattle.record.specs.Marks.{isMarked, marksWith, clearFrom, marksWithin, clearAmong}
 use Rattle.record.specs.Record.{Record, announcedBy, startsBy, recordOf, placeIn, sums, blockAt, missingOf, completeOf, sameNumbers, withinLimits, ruled, allUnused, ruledOf}
@@ -22,7 +21,6 @@ use Rattle.record.specs.Changes.{emptyRecord, entries, madeAfresh, withMark, af
 use Rattle.carousel.specs.Step.{meets12, meets14, meets16, blockRefusal, bytesDiffer, sameModules, sameAnnounced, refusing, new, same, repeated, stored}
 use Rattle.record.specs.Refusals.{meets13, meets15}
 use Rattle.carousel.specs.Step.{matched, onArrived, onAnnounced, onHeard, outcomeOf, recordAfter, imageAfter, Outcome, returning, steppedOf, imageOf}
-use Rattle.handout.specs.Calls.{reportOn}
 use Rattle.carousel.proofs.Simulation.{outcome-ruled, empty-ruled}
 
 -- download 5 of one module 7, version 1, of this size in blocks of this size; two modules; and a block of module 7
@@ -51,10 +49,10 @@ pub soundings :
     -- "blockSize 400: sizes 65,535 and 1 taken; 65,536 and 1 give 10."
     × (withinLimits (two 400 65535 1) ≡ true) × (withinLimits (two 400 65536 1) ≡ false)
     -- "Blocks 0 and 2 of three: missing 1, lowest 1."
-    × (reportOn (missingOf (marked (one 400 1000) 5) 0) ≡ report.Lacking (record { count = 1; lowest = 1 }))
+    × (missingOf (marked (one 400 1000) 5) 0 ≡ 1 ∷ [])
     -- "Block 300 of a three-block module, with section number 44, passes check 9, then gives 16" (that it passes 9 is computed among the messages)
     × ((bytes : List ℕ) → blockRefusal (one 400 1000) 1000 (block 300 bytes) ≡ 16)
-unfolding blocksOf lengthOf blockRefusal firstMet meets12 meets13 meets14 meets15 meets16 placeIn total withinLimits beyond10 someBad twice11 among missingOf clearAmong isMarked reportOn
+unfolding blocksOf lengthOf blockRefusal firstMet meets12 meets13 meets14 meets15 meets16 placeIn total withinLimits beyond10 someBad twice11 among missingOf clearAmong isMarked
 soundings = (refl, refl, refl, refl, refl, refl, refl, λ bytes. refl, refl, refl, refl, refl, refl, refl, refl, λ bytes. refl)
 
 -- "two copies of block 0 "complete" a two-block module" is a false bearing: the second is "repeated", and block 1 is missing still
@@ -74,8 +72,8 @@ abbrev twice : Record
 twice = recordAfter once (onHeard once onceImage copy)
 
 pub two-copies : (onHeard started (replicate 8 0) copy ≡ stored 0 0 (65 ∷ 66 ∷ 67 ∷ 68 ∷ [])) × (onHeard once onceImage copy ≡ repeated)
-    × (completeOf twice 0 ≡ false) × (reportOn (missingOf twice 0) ≡ report.Lacking (record { count = 1; lowest = 1 }))
-unfolding afresh sums blocksOf lengthOf onHeard onArrived matched blockRefusal firstMet meets12 meets13 meets14 meets15 meets16 placeIn total blockAt bytesDiffer sameNumbers isMarked marksWith marking overwrite missingOf clearAmong reportOn
+    × (completeOf twice 0 ≡ false) × (missingOf twice 0 ≡ 1 ∷ [])
+unfolding afresh sums blocksOf lengthOf onHeard onArrived matched blockRefusal firstMet meets12 meets13 meets14 meets15 meets16 placeIn total blockAt bytesDiffer sameNumbers isMarked marksWith marking overwrite missingOf clearAmong
 two-copies = (refl, refl, refl, refl)
 
 -- The two whole sections of the messages' soundings: an announcement of download 1 with one module of 6 bytes in blocks of 4, and its block 0, "ABCD".

@@ -1,7 +1,7 @@
 -- THE PAPER'S SOUNDINGS, the starred ones, as one table and one theorem. 01, "Soundings (* to be proved together, as one table)".
 -- Assumes nothing.
 use Prim.Native.Nat.{ℕ}
-use mathlib.Core.Path.{_≡_, ap₂, _∙_}
+use mathlib.Core.Path.{_≡_, ap, ap₂, _∙_}
 use mathlib.Core.Bool.{true, false}
 use mathlib.Core.List.{List, [], _∷_}
 use lib.ListN.{length}
@@ -74,6 +74,7 @@ pub soundings :
     × (controlOf 5 ≡ Reserved)
     -- "Block 300 of a three-block module, with section number 44, passes check 9, then gives 16", whatever it carries
     × ((messageRefusal Blocks (messages.headed 44) messages.block300 ≡ 0) × ((bytes : List ℕ) → blockRefusal (carousel.one 400 1000) 1000 (carousel.block 300 bytes) ≡ 16))
+unfolding reportOn
 soundings =
     let c = carousel.soundings in
     let t = tables.soundings in
@@ -84,7 +85,7 @@ soundings =
       (λ h b. (not-10 h b 1 (256 ∷ []) (z .0), gives-10 h b 1 (257 ∷ []) (z .1))),
       (λ h b. (not-10 h b 400 (65535 ∷ 1 ∷ []) (z .2), gives-10 h b 400 (65536 ∷ 1 ∷ []) (z .3))),
       (longest-block .0, longest-block .1),
-      c .14,
+      ap reportOn (c .14),
       (t .0, t .1),
       (t .2, t .3, t .4),
       (t .5, t .6),
