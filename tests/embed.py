@@ -13,7 +13,7 @@ import program
 import receiver
 from second import ROOT
 
-SOURCES = [ROOT / "crates" / "box_api" / "src" / f for f in ("lib.rt", "reading.rt")]
+SOURCES = [ROOT / "crates" / c / "src" / "lib.rt" for c in ("box_api", "reading", "record")]
 HEADER = ROOT / "include" / "nebosvar.h"
 C_TYPES = {"uint8_t": "u8", "uint16_t": "u16", "uint32_t": "u32", "size_t": "usize"}
 
@@ -27,7 +27,7 @@ def text_of(path):
 
 def rattle():
     """The exported functions, and the fields of each struct that is laid out as C does."""
-    text = "".join(text_of(p) for p in SOURCES + [ROOT / "crates" / "record" / "src" / "lib.rt"])
+    text = "".join(text_of(p) for p in SOURCES)
     structs = {}
     for name, body in re.findall(r"#\[repr\(C\)\]\s*pub struct (\w+) \{(.*?)\}", text, re.S):
         structs[name] = [t for _, t in re.findall(r"pub (\w+): ([^,\n]+),", body)]

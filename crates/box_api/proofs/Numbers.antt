@@ -75,7 +75,7 @@ use Rattle.receiver.proofs.Laws.Takes.{carousel-fate, took-number}
 use Rattle.receiver.proofs.Laws.Fates.{fate-tells}
 use Rattle.demands.proofs.One.{step-refused, step-some, table-some, take-some}
 use Rattle.box_api.specs.Box.{kindNumber, stopNumber, stepOut, whatOut, takeOut, partOut, lackOut}
-use Rattle.box_api.specs.Reading.{tableOut, applicationOut, describedOut, descriptorOut, noPlace, itemAsked, foundOut, itemOut, extensionOut, labelOut}
+use Rattle.reading.specs.Reading.{tableOut, applicationOut, describedOut, descriptorOut, noPlace, itemAsked, foundOut, itemOut, extensionOut, labelOut}
 
 -- exactly one of refusal and kind is 0, where no refusal is
 abbrev pub OneOfTwo : (refusal kind : ℕ) → Type 0

@@ -11,23 +11,23 @@ use Rattle.receiver.specs.Run.{imageTook, imageRan}
 use Rattle.box_api.specs.declared.FateOut.{FateOut}
 use Rattle.box_api.specs.declared.TakenOut.{TakenOut}
 use Rattle.box_api.specs.declared.PassageOut.{PassageOut}
-use Rattle.box_api.specs.declared.PartOut.{PartOut}
+use Rattle.reading.specs.declared.PartOut.{PartOut}
 use Rattle.box_api.specs.declared.LackOut.{LackOut}
 use Rattle.box_api.specs.Box.{stepOut, takeOut, runOut, partOut, lackOut}
 use Rattle.box_api.proofs.nebosvar_start.Kinds as nebosvar-start-kinds
 use Rattle.box_api.proofs.nebosvar_start.Reads as nebosvar-start-reads
-use Rattle.box_api.proofs.reading.nebosvar_table.Kinds as nebosvar-table-kinds
-use Rattle.box_api.proofs.reading.nebosvar_table.Reads as nebosvar-table-reads
-use Rattle.box_api.proofs.reading.nebosvar_application.Kinds as nebosvar-application-kinds
-use Rattle.box_api.proofs.reading.nebosvar_application.Reads as nebosvar-application-reads
-use Rattle.box_api.proofs.reading.nebosvar_descriptor.Kinds as nebosvar-descriptor-kinds
-use Rattle.box_api.proofs.reading.nebosvar_descriptor.Reads as nebosvar-descriptor-reads
-use Rattle.box_api.proofs.reading.nebosvar_item.Kinds as nebosvar-item-kinds
-use Rattle.box_api.proofs.reading.nebosvar_item.Reads as nebosvar-item-reads
-use Rattle.box_api.proofs.reading.nebosvar_extension.Kinds as nebosvar-extension-kinds
-use Rattle.box_api.proofs.reading.nebosvar_extension.Reads as nebosvar-extension-reads
-use Rattle.box_api.proofs.reading.nebosvar_label.Kinds as nebosvar-label-kinds
-use Rattle.box_api.proofs.reading.nebosvar_label.Reads as nebosvar-label-reads
+use Rattle.box_api.proofs.nebosvar_table.Kinds as nebosvar-table-kinds
+use Rattle.box_api.proofs.nebosvar_table.Reads as nebosvar-table-reads
+use Rattle.box_api.proofs.nebosvar_application.Kinds as nebosvar-application-kinds
+use Rattle.box_api.proofs.nebosvar_application.Reads as nebosvar-application-reads
+use Rattle.box_api.proofs.nebosvar_descriptor.Kinds as nebosvar-descriptor-kinds
+use Rattle.box_api.proofs.nebosvar_descriptor.Reads as nebosvar-descriptor-reads
+use Rattle.box_api.proofs.nebosvar_item.Kinds as nebosvar-item-kinds
+use Rattle.box_api.proofs.nebosvar_item.Reads as nebosvar-item-reads
+use Rattle.box_api.proofs.nebosvar_extension.Kinds as nebosvar-extension-kinds
+use Rattle.box_api.proofs.nebosvar_extension.Reads as nebosvar-extension-reads
+use Rattle.box_api.proofs.nebosvar_label.Kinds as nebosvar-label-kinds
+use Rattle.box_api.proofs.nebosvar_label.Reads as nebosvar-label-reads
 
 nebosvar-start : OneAnswer 0 nebosvar-start-kinds.ps nebosvar-start-kinds.r nebosvar-start-reads.Post
 nebosvar-start κs a x y s t p q = p ∙ sym q

@@ -17,7 +17,7 @@ use Rattle.receiver.specs.declared.What.the-variants as what
 use Rattle.receiver.specs.Run.{numberOf, carouselFate, tookOf, ranOf}
 use Rattle.box_api.specs.declared.FateOut.{FateOut}
 use Rattle.box_api.specs.declared.TakenOut.{TakenOut}
-use Rattle.box_api.specs.declared.PartOut.{PartOut}
+use Rattle.reading.specs.declared.PartOut.{PartOut}
 use Rattle.box_api.specs.declared.LackOut.{LackOut}
 use Rattle.box_api.specs.declared.SteppedOut.{SteppedOut}
 use Rattle.box_api.specs.declared.TookOut.{TookOut}

@@ -1,2 +1,1 @@
 pub mod Box
-pub mod Reading

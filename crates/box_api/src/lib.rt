@@ -2,27 +2,27 @@
 // is include/nebosvar.h, which names every number.
 //
 // Nothing is decided here. Each call is one of the library's, its answer laid out as a struct of
-// numbers; specs/Box.antt and specs/Reading.antt say how.
-
-mod reading;
+// numbers; specs/Box.antt says how, and of tables the specs/ of crate `reading`.
 
 use handout::Report;
-pub use reading::nebosvar_application;
-pub use reading::nebosvar_descriptor;
-pub use reading::nebosvar_extension;
-pub use reading::nebosvar_item;
-pub use reading::nebosvar_label;
-pub use reading::nebosvar_table;
+use reading::ApplicationOut;
+use reading::DescriptorOut;
+use reading::ItemOut;
+use reading::LabelOut;
+use reading::PartOut;
+use reading::TableOut;
 use receiver::Fate;
 use receiver::Stop;
 use receiver::What;
 use record::Carousel;
 ghost use mathlib.Core.Path.{_≡_};
 ghost use lib.ListN.{take, drop};
+ghost use Rattle.applications.specs.Answers.{readAnswer, applicationAnswer, descriptorAnswer, extensionAnswer, resolveAnswer};
 ghost use Rattle.record.specs.Changes.{emptyRecord};
-ghost use Rattle.carousel.specs.Step.{steppedOf, imageOf};
+ghost use Rattle.carousel.specs.Step.{imageOf};
 ghost use Rattle.handout.specs.Calls.{handedOut, reportOf};
-ghost use Rattle.receiver.specs.Run.{carouselFate, tookOf, imageTook, ranOf, imageRan};
+ghost use Rattle.receiver.specs.Run.{imageTook, imageRan};
+ghost use Rattle.reading.specs.Reading.{tableOut, applicationOut, descriptorOut, itemAsked, itemOut, extensionOut, labelOut, scopeOf};
 ghost use Rattle.box_api.specs.Box.{fateOut, stopNumber, stepOut, whatOut, takeOut, runOut, partOut, lackOut};
 
 // The kinds of a section.
@@ -60,14 +60,6 @@ pub struct PassageOut {
     pub taken: usize,
     pub passed: usize,
     pub stop: u8,
-}
-
-// Where a part lies in the bytes that were lent; at and length are 0 on a refusal.
-#[repr(C)]
-pub struct PartOut {
-    pub at: usize,
-    pub length: usize,
-    pub refusal: u8,
 }
 
 // How many blocks are missing, and the lowest of them; both 0 for none, and on a refusal.
@@ -163,6 +155,54 @@ pub extern "C" fn nebosvar_missing(c: &Carousel, number: u16) -> LackOut
     ensures { λ r. ⌜ r ≡ lackOut (reportOf (now (c .entry)) number) ⌝ }
 {
     missing(*c, number)
+}
+
+// The section's header, and how many common descriptors and applications it has.
+#[no_mangle]
+pub extern "C" fn nebosvar_table(s: &[u8]) -> TableOut
+    ensures { λ r. ⌜ r ≡ tableOut (readAnswer (now (s .entry))) ⌝ }
+{
+    reading::table(s)
+}
+
+// The application at place i.
+#[no_mangle]
+pub extern "C" fn nebosvar_application(s: &[u8], i: usize) -> ApplicationOut
+    ensures { λ r. ⌜ r ≡ applicationOut (applicationAnswer (now (s .entry)) i) ⌝ }
+{
+    reading::application(s, i)
+}
+
+// The descriptor at place j of the application at place i, or of the common loop.
+#[no_mangle]
+pub extern "C" fn nebosvar_descriptor(s: &[u8], i: usize, j: usize) -> DescriptorOut
+    ensures { λ r. ⌜ r ≡ descriptorOut (descriptorAnswer (now (s .entry)) (scopeOf i) j) ⌝ }
+{
+    reading::descriptor(s, i, j)
+}
+
+// The item at place k of those of a kind in that descriptor. A kind that is none of the five has no place.
+#[no_mangle]
+pub extern "C" fn nebosvar_item(s: &[u8], i: usize, j: usize, kind: u8, k: usize) -> ItemOut
+    ensures { λ r. ⌜ r ≡ itemOut (itemAsked (now (s .entry)) (scopeOf i) j kind k) ⌝ }
+{
+    reading::item(s, i, j, kind, k)
+}
+
+// The extension at place m of the base at place k in that descriptor.
+#[no_mangle]
+pub extern "C" fn nebosvar_extension(s: &[u8], i: usize, j: usize, k: usize, m: usize) -> PartOut
+    ensures { λ r. ⌜ r ≡ extensionOut (extensionAnswer (now (s .entry)) (scopeOf i) j k m) ⌝ }
+{
+    reading::extension(s, i, j, k, m)
+}
+
+// Where the descriptor stands that label k of the application at place i names.
+#[no_mangle]
+pub extern "C" fn nebosvar_label(s: &[u8], i: usize, k: usize) -> LabelOut
+    ensures { λ r. ⌜ r ≡ labelOut (resolveAnswer (now (s .entry)) i k) ⌝ }
+{
+    reading::label(s, i, k)
 }
 
 fn step(c: Carousel, s: &[u8], image: &mut [u8]) -> SteppedOut

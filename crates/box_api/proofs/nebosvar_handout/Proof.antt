@@ -39,13 +39,13 @@ use denote.Triple.Table.{entered, cited}
 use denote.Triple.Walked.{says, Stays, stay-none-ref, stay-dropped, walkOf, AllGo, goes-dropped, goes-none-ref, Walks, ends-at, walked, walk-meets}
 use denote.Exit.{yes}
 use Rattle.record.specs.declared.Carousel.{Carousel}
-use Rattle.box_api.specs.declared.PartOut.{PartOut}
+use Rattle.reading.specs.declared.PartOut.{PartOut}
 use Rattle.handout.specs.Calls.{handedOut}
 use Rattle.box_api.specs.Box.{partOut}
 use Rattle.record.proofs.Carousel as T
 use Rattle.record.proofs.Carousel.Laws as T′
-use Rattle.box_api.proofs.PartOut as N
-use Rattle.box_api.proofs.PartOut.Laws as N′
+use Rattle.reading.proofs.PartOut as N
+use Rattle.reading.proofs.PartOut.Laws as N′
 use Rattle.box_api.proofs.handout as callee
 use Rattle.box_api.proofs.handout.Symbol as callee-def
 use Rattle.box_api.proofs.handout.Symbol.{name as #box_api·handout}

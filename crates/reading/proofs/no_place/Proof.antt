@@ -1,9 +1,9 @@
--- `box_api::reading::no_place` meets its contract, case by case.
+-- `reading::no_place` meets its contract, case by case.
 -- Assumes nothing.
 use mathlib.Core.Path.{sym, _∙_}
 use borrow.Author.Needs.{needs}
-use Rattle.box_api.proofs.reading.no_place.Statement.{statement}
-use Rattle.box_api.proofs.reading.no_place.Tie as tie
+use Rattle.reading.proofs.no_place.Statement.{statement}
+use Rattle.reading.proofs.no_place.Tie as tie
 
 read-requires : tie.Need-read-requires
 read-requires c κs = search needs

@@ -1,10 +1,10 @@
--- `box_api::reading::item_asked` meets its contract, kind by kind.
+-- `reading::item_asked` meets its contract, kind by kind.
 -- Assumes nothing.
 use borrow.Author.Tests.{ne-eqb}
-use Rattle.box_api.specs.Reading.{itemAsked}
+use Rattle.reading.specs.Reading.{itemAsked}
 use borrow.Author.Needs.{needs}
-use Rattle.box_api.proofs.reading.item_asked.Statement.{statement}
-use Rattle.box_api.proofs.reading.item_asked.Tie as tie
+use Rattle.reading.proofs.item_asked.Statement.{statement}
+use Rattle.reading.proofs.item_asked.Tie as tie
 
 item-at-requires : tie.Need-item-at-requires
 item-at-requires c κs = search needs

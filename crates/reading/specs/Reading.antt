@@ -30,12 +30,12 @@ use Rattle.applications.specs.declared.ExtensionAnswer.the-variants as extensio
 use Rattle.applications.specs.declared.Resolved.{Resolved}
 use Rattle.applications.specs.declared.Resolved.the-variants as resolved
 use Rattle.applications.specs.Answers.{readAnswer, itemAnswer}
-use Rattle.box_api.specs.declared.PartOut.{PartOut}
-use Rattle.box_api.specs.declared.reading.TableOut.{TableOut}
-use Rattle.box_api.specs.declared.reading.ApplicationOut.{ApplicationOut}
-use Rattle.box_api.specs.declared.reading.DescriptorOut.{DescriptorOut}
-use Rattle.box_api.specs.declared.reading.ItemOut.{ItemOut}
-use Rattle.box_api.specs.declared.reading.LabelOut.{LabelOut}
+use Rattle.reading.specs.declared.PartOut.{PartOut}
+use Rattle.reading.specs.declared.TableOut.{TableOut}
+use Rattle.reading.specs.declared.ApplicationOut.{ApplicationOut}
+use Rattle.reading.specs.declared.DescriptorOut.{DescriptorOut}
+use Rattle.reading.specs.declared.ItemOut.{ItemOut}
+use Rattle.reading.specs.declared.LabelOut.{LabelOut}
 
 -- the header, and how much there is
 abbrev pub tableOut : ReadAnswer → TableOut

@@ -1,8 +1,8 @@
--- `box_api::reading::described_out` meets its contract, case by case.
+-- `reading::described_out` meets its contract, case by case.
 -- Assumes nothing.
 use borrow.Author.Needs.{needs}
-use Rattle.box_api.proofs.reading.described_out.Statement.{statement}
-use Rattle.box_api.proofs.reading.described_out.Tie as tie
+use Rattle.reading.proofs.described_out.Statement.{statement}
+use Rattle.reading.proofs.described_out.Tie as tie
 
 enum-known-d : tie.Need-enum-known-d
 enum-known-d c = search needs

@@ -1,9 +1,9 @@
--- `box_api::reading::nebosvar_descriptor` meets its contract, case by case.
+-- `reading::descriptor` meets its contract, case by case.
 -- Assumes nothing.
 use mathlib.Core.Path.{sym, _∙_}
 use borrow.Author.Needs.{needs}
-use Rattle.box_api.proofs.reading.nebosvar_descriptor.Statement.{statement}
-use Rattle.box_api.proofs.reading.nebosvar_descriptor.Tie as tie
+use Rattle.reading.proofs.descriptor.Statement.{statement}
+use Rattle.reading.proofs.descriptor.Tie as tie
 
 scope-of-requires : tie.Need-scope-of-requires
 scope-of-requires c κs = search needs
@@ -29,8 +29,8 @@ returns c = rw (sym (c .before .before .before .before .before .scope-of .ensure
 returns-2 : tie.Need-returns-2
 returns-2 c = rw (sym (c .before .before .before .before .before .scope-of .ensures), sym (c .before .before .before .before .descriptor-at .ensures .0) ∙ c .before .before .d .given .1) (c .described-out .ensures)
 
-pub nebosvar-descriptor-spec : {M : Type 1} → statement M
-nebosvar-descriptor-spec =
+pub descriptor-spec : {M : Type 1} → statement M
+descriptor-spec =
     tie.close
     (tie.spec
     scope-of-requires

@@ -1,9 +1,9 @@
--- `box_api::reading::nebosvar_table` meets its contract, case by case.
+-- `reading::table` meets its contract, case by case.
 -- Assumes nothing.
 use mathlib.Core.Path.{sym, _∙_}
 use borrow.Author.Needs.{needs}
-use Rattle.box_api.proofs.reading.nebosvar_table.Statement.{statement}
-use Rattle.box_api.proofs.reading.nebosvar_table.Tie as tie
+use Rattle.reading.proofs.table.Statement.{statement}
+use Rattle.reading.proofs.table.Tie as tie
 
 read-requires : tie.Need-read-requires
 read-requires c κs = search needs
@@ -20,6 +20,6 @@ returns c = rw (sym (c .before .before .before .read .ensures .0) ∙ c .before 
 returns-2 : tie.Need-returns-2
 returns-2 c = rw (sym (c .before .before .before .read .ensures .0) ∙ c .before .t .given .1)
 
-pub nebosvar-table-spec : {M : Type 1} → statement M
-nebosvar-table-spec =
+pub table-spec : {M : Type 1} → statement M
+table-spec =
     tie.close (tie.spec read-requires enum-known-r enum-known-t returns returns-2)

@@ -1,8 +1,8 @@
--- `box_api::reading::found_out` meets its contract, case by case.
+-- `reading::found_out` meets its contract, case by case.
 -- Assumes nothing.
 use borrow.Author.Needs.{needs}
-use Rattle.box_api.proofs.reading.found_out.Statement.{statement}
-use Rattle.box_api.proofs.reading.found_out.Tie as tie
+use Rattle.reading.proofs.found_out.Statement.{statement}
+use Rattle.reading.proofs.found_out.Tie as tie
 
 enum-known-x : tie.Need-enum-known-x
 enum-known-x c = search needs

@@ -1,9 +1,9 @@
--- `box_api::reading::nebosvar_application` meets its contract, case by case.
+-- `reading::application` meets its contract, case by case.
 -- Assumes nothing.
 use mathlib.Core.Path.{sym, _∙_}
 use borrow.Author.Needs.{needs}
-use Rattle.box_api.proofs.reading.nebosvar_application.Statement.{statement}
-use Rattle.box_api.proofs.reading.nebosvar_application.Tie as tie
+use Rattle.reading.proofs.application.Statement.{statement}
+use Rattle.reading.proofs.application.Tie as tie
 
 application-at-requires : tie.Need-application-at-requires
 application-at-requires c κs = search needs
@@ -26,8 +26,8 @@ returns c = rw (sym (c .before .before .before .application-at .ensures .0) ∙ 
 returns-2 : tie.Need-returns-2
 returns-2 c = rw (sym (c .before .before .before .before .before .application-at .ensures .0) ∙ c .before .before .before .x .given .1, c .before .class-number .ensures, c .control-number .ensures)
 
-pub nebosvar-application-spec : {M : Type 1} → statement M
-nebosvar-application-spec =
+pub application-spec : {M : Type 1} → statement M
+application-spec =
     tie.close
     (tie.spec
     application-at-requires

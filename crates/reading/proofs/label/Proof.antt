@@ -1,9 +1,9 @@
--- `box_api::reading::nebosvar_label` meets its contract, case by case.
+-- `reading::label` meets its contract, case by case.
 -- Assumes nothing.
 use mathlib.Core.Path.{sym, _∙_}
 use borrow.Author.Needs.{needs}
-use Rattle.box_api.proofs.reading.nebosvar_label.Statement.{statement}
-use Rattle.box_api.proofs.reading.nebosvar_label.Tie as tie
+use Rattle.reading.proofs.label.Statement.{statement}
+use Rattle.reading.proofs.label.Tie as tie
 
 resolve-requires : tie.Need-resolve-requires
 resolve-requires c κs = search needs
@@ -32,8 +32,8 @@ returns-3 c = rw (sym (c .before .before .before .resolve .ensures .0) ∙ c .be
 returns-4 : tie.Need-returns-4
 returns-4 c = rw (sym (c .before .before .resolve .ensures .0) ∙ c .enum-told .given .1)
 
-pub nebosvar-label-spec : {M : Type 1} → statement M
-nebosvar-label-spec =
+pub label-spec : {M : Type 1} → statement M
+label-spec =
     tie.close
     (tie.spec
     resolve-requires

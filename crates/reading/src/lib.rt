@@ -1,5 +1,6 @@
-// The application section, for C and Rust.
-use crate::PartOut;
+// What is read of an application section, as structs of numbers: what `box_api` hands to programs in C and Rust.
+//
+// Nothing is decided here. Each call is one of `applications`, its answer laid out; specs/Reading.antt says how.
 use applications::ApplicationAnswer;
 use applications::Base;
 use applications::Class;
@@ -21,7 +22,7 @@ use section::Refusal;
 ghost use mathlib.Core.Path.{_≡_};
 ghost use Rattle.applications.specs.declared.Item.the-variants as item;
 ghost use Rattle.applications.specs.Answers.{readAnswer, applicationAnswer, descriptorAnswer, extensionAnswer, resolveAnswer};
-ghost use Rattle.box_api.specs.Reading.{tableOut, applicationOut, classNumber, controlNumber, descriptorOut, describedOut, itemAsked, itemOut, foundOut, extensionOut, labelOut, scopeOf, noDescriptor, describedBy, countedBy, carriedBy, placedBy, noPlace, noItem};
+ghost use Rattle.reading.specs.Reading.{tableOut, applicationOut, classNumber, controlNumber, descriptorOut, describedOut, itemAsked, itemOut, foundOut, extensionOut, labelOut, scopeOf, noDescriptor, describedBy, countedBy, carriedBy, placedBy, noPlace, noItem};
 
 // Stands for the common loop where an application's place is asked for.
 const COMMON: usize = 0xFFFF_FFFF_FFFF_FFFF;
@@ -90,6 +91,14 @@ pub struct ItemOut {
     pub refusal: u8,
 }
 
+// Where a part lies in the bytes that were lent; at and length are 0 on a refusal.
+#[repr(C)]
+pub struct PartOut {
+    pub at: usize,
+    pub length: usize,
+    pub refusal: u8,
+}
+
 #[repr(C)]
 pub struct LabelOut {
     pub common: usize,
@@ -99,8 +108,7 @@ pub struct LabelOut {
 }
 
 // The section's header, and how many common descriptors and applications it has.
-#[no_mangle]
-pub extern "C" fn nebosvar_table(s: &[u8]) -> TableOut
+pub fn table(s: &[u8]) -> TableOut
     ensures { λ r. ⌜ r ≡ tableOut (readAnswer (now (s .entry))) ⌝ }
 {
     match applications::read(s) {
@@ -128,8 +136,7 @@ pub extern "C" fn nebosvar_table(s: &[u8]) -> TableOut
 }
 
 // The application at place i.
-#[no_mangle]
-pub extern "C" fn nebosvar_application(s: &[u8], i: usize) -> ApplicationOut
+pub fn application(s: &[u8], i: usize) -> ApplicationOut
     ensures { λ r. ⌜ r ≡ applicationOut (applicationAnswer (now (s .entry)) i) ⌝ }
 {
     match applications::application_at(s, i) {
@@ -159,8 +166,7 @@ pub extern "C" fn nebosvar_application(s: &[u8], i: usize) -> ApplicationOut
 }
 
 // The descriptor at place j of the application at place i, or of the common loop.
-#[no_mangle]
-pub extern "C" fn nebosvar_descriptor(s: &[u8], i: usize, j: usize) -> DescriptorOut
+pub fn descriptor(s: &[u8], i: usize, j: usize) -> DescriptorOut
     ensures { λ r. ⌜ r ≡ descriptorOut (descriptorAnswer (now (s .entry)) (scopeOf i) j) ⌝ }
 {
     match applications::descriptor_at(s, scope_of(i), j) {
@@ -170,8 +176,7 @@ pub extern "C" fn nebosvar_descriptor(s: &[u8], i: usize, j: usize) -> Descripto
 }
 
 // The item at place k of those of a kind in that descriptor. A kind that is none of the five has no place.
-#[no_mangle]
-pub extern "C" fn nebosvar_item(s: &[u8], i: usize, j: usize, kind: u8, k: usize) -> ItemOut
+pub fn item(s: &[u8], i: usize, j: usize, kind: u8, k: usize) -> ItemOut
     ensures { λ r. ⌜ r ≡ itemOut (itemAsked (now (s .entry)) (scopeOf i) j kind k) ⌝ }
 {
     match item_asked(s, scope_of(i), j, kind, k) {
@@ -181,8 +186,7 @@ pub extern "C" fn nebosvar_item(s: &[u8], i: usize, j: usize, kind: u8, k: usize
 }
 
 // The extension at place m of the base at place k in that descriptor.
-#[no_mangle]
-pub extern "C" fn nebosvar_extension(s: &[u8], i: usize, j: usize, k: usize, m: usize) -> PartOut
+pub fn extension(s: &[u8], i: usize, j: usize, k: usize, m: usize) -> PartOut
     ensures { λ r. ⌜ r ≡ extensionOut (extensionAnswer (now (s .entry)) (scopeOf i) j k m) ⌝ }
 {
     match applications::extension_at(s, scope_of(i), j, k, m) {
@@ -200,8 +204,7 @@ pub extern "C" fn nebosvar_extension(s: &[u8], i: usize, j: usize, k: usize, m: 
 }
 
 // Where the descriptor stands that label k of the application at place i names.
-#[no_mangle]
-pub extern "C" fn nebosvar_label(s: &[u8], i: usize, k: usize) -> LabelOut
+pub fn label(s: &[u8], i: usize, k: usize) -> LabelOut
     ensures { λ r. ⌜ r ≡ labelOut (resolveAnswer (now (s .entry)) i k) ⌝ }
 {
     match applications::resolve(s, i, k) {

@@ -1,9 +1,9 @@
--- `box_api::reading::nebosvar_item` meets its contract, case by case.
+-- `reading::item` meets its contract, case by case.
 -- Assumes nothing.
 use mathlib.Core.Path.{sym, _∙_}
 use borrow.Author.Needs.{needs}
-use Rattle.box_api.proofs.reading.nebosvar_item.Statement.{statement}
-use Rattle.box_api.proofs.reading.nebosvar_item.Tie as tie
+use Rattle.reading.proofs.item.Statement.{statement}
+use Rattle.reading.proofs.item.Tie as tie
 
 scope-of-requires : tie.Need-scope-of-requires
 scope-of-requires c κs = search needs
@@ -29,8 +29,8 @@ returns c = rw (sym (c .before .before .before .before .before .scope-of .ensure
 returns-2 : tie.Need-returns-2
 returns-2 c = rw (sym (c .before .before .before .before .before .scope-of .ensures), sym (c .before .before .before .before .item-asked .ensures) ∙ c .before .before .x .given .1) (c .found-out .ensures)
 
-pub nebosvar-item-spec : {M : Type 1} → statement M
-nebosvar-item-spec =
+pub item-spec : {M : Type 1} → statement M
+item-spec =
     tie.close
     (tie.spec
     scope-of-requires

@@ -1,9 +1,9 @@
--- `box_api::reading::nebosvar_extension` meets its contract, case by case.
+-- `reading::extension` meets its contract, case by case.
 -- Assumes nothing.
 use mathlib.Core.Path.{sym, _∙_}
 use borrow.Author.Needs.{needs}
-use Rattle.box_api.proofs.reading.nebosvar_extension.Statement.{statement}
-use Rattle.box_api.proofs.reading.nebosvar_extension.Tie as tie
+use Rattle.reading.proofs.extension.Statement.{statement}
+use Rattle.reading.proofs.extension.Tie as tie
 
 scope-of-requires : tie.Need-scope-of-requires
 scope-of-requires c κs = search needs
@@ -23,7 +23,7 @@ returns c = rw (sym (c .before .before .before .before .scope-of .ensures), sym 
 returns-2 : tie.Need-returns-2
 returns-2 c = rw (sym (c .before .before .before .before .scope-of .ensures), sym (c .before .before .before .extension-at .ensures .0) ∙ c .before .x .given .1)
 
-pub nebosvar-extension-spec : {M : Type 1} → statement M
-nebosvar-extension-spec =
+pub extension-spec : {M : Type 1} → statement M
+extension-spec =
     tie.close
     (tie.spec scope-of-requires extension-at-requires enum-known-r enum-known-x returns returns-2)

@@ -1,8 +1,8 @@
--- `box_api::reading::scope_of` meets its contract, case by case.
+-- `reading::scope_of` meets its contract, case by case.
 -- Assumes nothing.
 use borrow.Author.Tests.{eq-eqb, ne-eqb}
-use Rattle.box_api.proofs.reading.scope_of.Statement.{statement}
-use Rattle.box_api.proofs.reading.scope_of.Tie as tie
+use Rattle.reading.proofs.scope_of.Statement.{statement}
+use Rattle.reading.proofs.scope_of.Tie as tie
 
 returns : tie.Need-returns
 returns c = rw (eq-eqb (c .before .args .i) 0xFFFFFFFFFFFFFFFF (c .if1 .taken))
