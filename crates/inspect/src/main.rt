@@ -19,7 +19,9 @@ use applications::ReadAnswer;
 use applications::Repeated;
 use applications::Resolved;
 use applications::Scope;
+use applications::Span;
 use applications::Table;
+use handout::Lack;
 use handout::Report;
 use receiver::Fate;
 use receiver::Stop;
@@ -39,7 +41,7 @@ fn main() {
 }
 
 // Runs an empty record over a stretch; what is printed goes by way of `out`.
-fn inspect(stretch: &[u8], image: &mut [u8], out: &mut [u8]) {
+fn inspect(stretch: &[u8], image: &mut [u8], out: &mut Page) {
     let mut c = record::empty();
     let mut at: usize = 0;
     let mut index: usize = 0;
@@ -61,7 +63,8 @@ fn inspect(stretch: &[u8], image: &mut [u8], out: &mut [u8]) {
                 passed = next;
             }
         }
-        if is_closed(at) {
+        // nothing more can be printed
+        if at == CLOSED {
             return;
         }
         index += 1;
@@ -69,97 +72,101 @@ fn inspect(stretch: &[u8], image: &mut [u8], out: &mut [u8]) {
 }
 
 // The lines below the last section, and what is left of `out`.
-fn finish(out: &mut [u8], at: usize, stop: Stop, c: Carousel, image: &[u8]) {
-    let end = put_stop(out, at, stop);
+fn finish(out: &mut Page, at: usize, stop: Stop, c: Carousel, image: &[u8]) {
+    let end = put_line(out, at, stop_line(stop));
     let last = put_record(out, end, c, image);
     write_out(out, last);
 }
 
+fn stop_line(stop: Stop) -> Line {
+    let word = match stop {
+        Stop::End => END,
+        Stop::Stuffing => STUFFING,
+        Stop::Short => SHORT,
+        Stop::Budget => OVER_BUDGET,
+        Stop::State => STATE,
+    };
+    [STOP, word, NIL, NIL, NIL, NIL, NIL, NIL, NIL, NIL, NIL]
+}
+
 // A section's line and, below an accepted table's, all that is read of it.
 fn put_section(
-    out: &mut [u8],
+    out: &mut Page,
     at: usize,
     index: usize,
     offset: usize,
     s: &[u8],
     fate: Fate,
 ) -> usize {
-    let mut end = begin(out, at, b"section");
-    let answer = number(fate) as u64;
-    let table = wire::byte_at(s, 0) as u64;
-    let numbers = [index as u64, offset as u64, s.len() as u64, table, answer];
-    end = put_fields(out, end, &numbers);
-    end = put_kind(out, end, fate);
-    end = end_line(out, end);
+    let table = wire::byte_at(s, 0) as usize;
+    let line = [
+        SECTION,
+        index,
+        offset,
+        s.len(),
+        table,
+        answer(fate),
+        kind_word(fate),
+        NIL,
+        NIL,
+        NIL,
+        NIL,
+    ];
+    let end = put_line(out, at, line);
     if let Fate::Table = fate {
         return put_table(out, end, s);
     }
     end
 }
 
-fn number(fate: Fate) -> u8 {
+fn answer(fate: Fate) -> usize {
     match fate {
-        Fate::Refused(r) => r.number,
+        Fate::Refused(r) => r.number as usize,
         _ => 0,
     }
 }
 
-fn put_kind(out: &mut [u8], at: usize, fate: Fate) -> usize {
+fn kind_word(fate: Fate) -> usize {
     match fate {
-        Fate::Table => text::put(out, at, b",table"),
-        Fate::New => text::put(out, at, b",new"),
-        Fate::Same => text::put(out, at, b",same"),
-        Fate::Stored => text::put(out, at, b",stored"),
-        Fate::Repeated => text::put(out, at, b",repeated"),
-        Fate::Refused(_) => text::put(out, at, b",none"),
-    }
-}
-
-fn put_stop(out: &mut [u8], at: usize, stop: Stop) -> usize {
-    let mut end = begin(out, at, b"stop");
-    end = put_stop_name(out, end, stop);
-    end_line(out, end)
-}
-
-fn put_stop_name(out: &mut [u8], at: usize, stop: Stop) -> usize {
-    match stop {
-        Stop::End => text::put(out, at, b",end"),
-        Stop::Stuffing => text::put(out, at, b",stuffing"),
-        Stop::Short => text::put(out, at, b",short"),
-        Stop::Budget => text::put(out, at, b",budget"),
-        Stop::State => text::put(out, at, b",state"),
+        Fate::Table => KIND_TABLE,
+        Fate::New => NEW,
+        Fate::Same => SAME,
+        Fate::Stored => STORED,
+        Fate::Repeated => REPEATED,
+        Fate::Refused(_) => NONE,
     }
 }
 
 // An accepted table: its header, its common descriptors and its applications.
 
-fn put_table(out: &mut [u8], at: usize, s: &[u8]) -> usize {
+fn put_table(out: &mut Page, at: usize, s: &[u8]) -> usize {
     match applications::read(s) {
         ReadAnswer::Refused(_) => at,
         ReadAnswer::Accepted(t) => {
-            let mut end = put_header(out, at, t);
+            let mut end = put_line(out, at, table_line(t));
             end = put_descriptors(out, end, s, Scope::Common, t.common);
             put_applications(out, end, s, t.applications)
         }
     }
 }
 
-fn put_header(out: &mut [u8], at: usize, t: Table) -> usize {
-    let mut end = begin(out, at, b"table");
-    let numbers = [
-        t.test as u64,
-        t.application as u64,
-        t.version as u64,
-        t.section as u64,
-        t.last as u64,
-        t.common as u64,
-        t.applications as u64,
-    ];
-    end = put_fields(out, end, &numbers);
-    end_line(out, end)
+fn table_line(t: Table) -> Line {
+    [
+        TABLE,
+        t.test as usize,
+        t.application as usize,
+        t.version as usize,
+        t.section as usize,
+        t.last as usize,
+        t.common,
+        t.applications,
+        NIL,
+        NIL,
+        NIL,
+    ]
 }
 
-fn put_applications(out: &mut [u8], at: usize, s: &[u8], count: usize) -> usize {
+fn put_applications(out: &mut Page, at: usize, s: &[u8], count: usize) -> usize {
     let mut end = at;
     let mut i: usize = 0;
     while i < count {
@@ -170,46 +177,51 @@ fn put_applications(out: &mut [u8], at: usize, s: &[u8], count: usize) -> usize 
 }
 
 // The application at place i, and its descriptors.
-fn put_application(out: &mut [u8], at: usize, s: &[u8], i: usize) -> usize {
+fn put_application(out: &mut Page, at: usize, s: &[u8], i: usize) -> usize {
     match applications::application_at(s, i) {
         ApplicationAnswer::Refused(_) => at,
         ApplicationAnswer::Found(a) => {
-            let end = put_application_line(out, at, i, a);
+            let end = put_line(out, at, application_line(i, a));
             put_descriptors(out, end, s, Scope::Own(i), a.descriptors)
         }
     }
 }
 
-fn put_application_line(out: &mut [u8], at: usize, i: usize, a: Application) -> usize {
-    let mut end = begin(out, at, b"application");
-    let numbers = [i as u64, a.organisation as u64, a.number as u64];
-    end = put_fields(out, end, &numbers);
+fn application_line(i: usize, a: Application) -> Line {
     let class = a.class;
-    end = put_class(out, end, class);
-    end = put_field(out, end, a.code as u64);
     let control = a.control;
-    end = put_control(out, end, control);
-    end = put_field(out, end, a.descriptors as u64);
-    end_line(out, end)
+    [
+        APPLICATION,
+        i,
+        a.organisation as usize,
+        a.number as usize,
+        class_word(class),
+        a.code as usize,
+        control_word(control),
+        a.descriptors,
+        NIL,
+        NIL,
+        NIL,
+    ]
 }
 
-fn put_class(out: &mut [u8], at: usize, class: Class) -> usize {
+fn class_word(class: Class) -> usize {
     match class {
-        Class::Unsigned => text::put(out, at, b",unsigned"),
-        Class::Signed => text::put(out, at, b",signed"),
-        Class::Other => text::put(out, at, b",other"),
-        Class::Wildcard => text::put(out, at, b",wildcard"),
+        Class::Unsigned => UNSIGNED,
+        Class::Signed => SIGNED,
+        Class::Other => OTHER,
+        Class::Wildcard => WILDCARD,
     }
 }
 
-fn put_control(out: &mut [u8], at: usize, control: Control) -> usize {
+fn control_word(control: Control) -> usize {
     match control {
-        Control::Autostart => text::put(out, at, b",autostart"),
-        Control::Present => text::put(out, at, b",present"),
-        Control::Destroy => text::put(out, at, b",destroy"),
-        Control::Kill => text::put(out, at, b",kill"),
-        Control::Remote => text::put(out, at, b",remote"),
-        Control::Reserved => text::put(out, at, b",reserved"),
+        Control::Autostart => AUTOSTART,
+        Control::Present => PRESENT,
+        Control::Destroy => DESTROY,
+        Control::Kill => KILL,
+        Control::Remote => REMOTE,
+        Control::Reserved => RESERVED,
     }
 }
 
@@ -221,7 +233,7 @@ pub struct Holder {
     pub place: usize,
 }
 
-fn put_descriptors(out: &mut [u8], at: usize, s: &[u8], scope: Scope, count: usize) -> usize {
+fn put_descriptors(out: &mut Page, at: usize, s: &[u8], scope: Scope, count: usize) -> usize {
     let mut end = at;
     let mut j: usize = 0;
     while j < count {
@@ -232,181 +244,165 @@ fn put_descriptors(out: &mut [u8], at: usize, s: &[u8], scope: Scope, count: usi
     end
 }
 
-// A descriptor's line, and its items.
-fn put_descriptor(out: &mut [u8], at: usize, s: &[u8], holder: Holder) -> usize {
+// A descriptor's line, and its items. Labels come after profiles: no other has two kinds of them.
+fn put_descriptor(out: &mut Page, at: usize, s: &[u8], holder: Holder) -> usize {
     let scope = holder.scope;
     match applications::descriptor_at(s, scope, holder.place) {
         DescriptorAnswer::Refused(_) => at,
         DescriptorAnswer::Found(d) => {
-            let mut end = begin(out, at, b"descriptor");
-            end = put_holder(out, end, holder);
-            end = put_tag(out, end, d);
-            end = put_described(out, end, d);
-            end = end_line(out, end);
-            put_repeated(out, end, s, holder, d)
+            let line = held_line(DESCRIPTOR, holder, descriptor_fields(d));
+            let mut end = put_line(out, at, line);
+            end = put_items(out, end, s, holder, first_items(d));
+            put_items(out, end, s, holder, label_items(d))
         }
     }
 }
 
-// Which descriptor: its loop, by name or by the application's place, and its place there.
-fn put_holder(out: &mut [u8], at: usize, holder: Holder) -> usize {
-    let scope = holder.scope;
-    let end = put_scope(out, at, scope);
-    put_field(out, end, holder.place as u64)
-}
-
-fn put_scope(out: &mut [u8], at: usize, scope: Scope) -> usize {
-    match scope {
-        Scope::Common => text::put(out, at, b",common"),
-        Scope::Own(i) => put_field(out, at, i as u64),
-    }
-}
-
-fn put_tag(out: &mut [u8], at: usize, d: Described) -> usize {
-    let tag: u8 = match d {
-        Described::Application { .. } => 0x00,
-        Described::Names { .. } => 0x01,
-        Described::Identifiers { .. } => 0x05,
-        Described::Path { .. } => 0x15,
-        Described::Raw { tag, .. } => tag,
-        _ => 0x02,
-    };
-    put_field(out, at, tag as u64)
-}
-
-// The kind, and what is read of it.
-fn put_described(out: &mut [u8], at: usize, d: Described) -> usize {
+// The tag, the kind, and what is read of it.
+fn descriptor_fields(d: Described) -> Fields {
     match d {
-        Described::Names { names } => {
-            let end = text::put(out, at, b",names");
-            put_field(out, end, names as u64)
-        }
-        Described::Identifiers { identifiers } => {
-            let end = text::put(out, at, b",identifiers");
-            put_field(out, end, identifiers as u64)
-        }
-        Described::Path { path } => {
-            let end = text::put(out, at, b",path");
-            put_fields(out, end, &[path.start as u64, path.size as u64])
-        }
-        Described::Raw { tag: _, contents } => {
-            let end = text::put(out, at, b",raw");
-            put_fields(out, end, &[contents.start as u64, contents.size as u64])
-        }
-        Described::Application { .. } => put_application_descriptor(out, at, d),
-        _ => put_transport(out, at, d),
+        Described::Application {
+            profiles,
+            bound,
+            visibility,
+            priority,
+            labels,
+        } => [
+            0x00,
+            KIND_APPLICATION,
+            profiles,
+            bound as usize,
+            visibility as usize,
+            priority as usize,
+            labels,
+            NIL,
+        ],
+        Described::Names { names } => [0x01, NAMES, names, NIL, NIL, NIL, NIL, NIL],
+        Described::Identifiers { identifiers } => [
+            0x05,
+            IDENTIFIERS,
+            identifiers,
+            NIL,
+            NIL,
+            NIL,
+            NIL,
+            NIL,
+        ],
+        Described::Path { path } => [0x15, PATH, path.start, path.size, NIL, NIL, NIL, NIL],
+        Described::Raw { tag, contents } => raw_fields(tag, contents),
+        _ => transport_fields(d),
     }
 }
 
-fn put_application_descriptor(out: &mut [u8], at: usize, d: Described) -> usize {
-    let Described::Application {
-        profiles,
-        bound,
-        visibility,
-        priority,
-        labels,
-    } = d
-    else {
-        return at;
-    };
-    let numbers = [
-        profiles as u64,
-        bound as u64,
-        visibility as u64,
-        priority as u64,
-        labels as u64,
-    ];
-    let end = text::put(out, at, b",application");
-    put_fields(out, end, &numbers)
+fn raw_fields(tag: u8, at: Span) -> Fields {
+    [tag as usize, RAW, at.start, at.size, NIL, NIL, NIL, NIL]
 }
 
-// A 0x02 descriptor, by its protocol.
-fn put_transport(out: &mut [u8], at: usize, d: Described) -> usize {
+// A 0x02 descriptor, by its protocol. A carousel's three numbers are there only where it is remote.
+fn transport_fields(d: Described) -> Fields {
     match d {
-        Described::Http { label, bases } => {
-            let end = text::put(out, at, b",bases");
-            put_fields(out, end, &[label as u64, bases as u64])
-        }
+        Described::Http { label, bases } => [
+            0x02,
+            BASES,
+            label as usize,
+            bases,
+            NIL,
+            NIL,
+            NIL,
+            NIL,
+        ],
         Described::Transport {
             protocol,
             label,
             selector,
-        } => {
-            let numbers = [
-                protocol as u64,
-                label as u64,
-                selector.start as u64,
-                selector.size as u64,
-            ];
-            let end = text::put(out, at, b",selector");
-            put_fields(out, end, &numbers)
-        }
-        _ => put_carousel(out, at, d),
-    }
-}
-
-// A carousel's three numbers are there only where it is remote.
-fn put_carousel(out: &mut [u8], at: usize, d: Described) -> usize {
-    let mut end = text::put(out, at, b",carousel");
-    match d {
-        Described::Local { label, component } => {
-            end = put_field(out, end, label as u64);
-            end = text::put(out, end, b",0,,,");
-            put_field(out, end, component as u64)
-        }
+        } => [
+            0x02,
+            SELECTOR,
+            protocol as usize,
+            label as usize,
+            selector.start,
+            selector.size,
+            NIL,
+            NIL,
+        ],
+        Described::Local { label, component } => [
+            0x02,
+            CAROUSEL,
+            label as usize,
+            0,
+            EMPTY,
+            EMPTY,
+            EMPTY,
+            component as usize,
+        ],
         Described::Remote {
             label,
             network,
             transport,
             service,
             component,
-        } => {
-            let numbers = [
-                label as u64,
-                1,
-                network as u64,
-                transport as u64,
-                service as u64,
-                component as u64,
-            ];
-            put_fields(out, end, &numbers)
-        }
-        _ => end,
-    }
-}
-
-// What repeats within a descriptor.
-fn put_repeated(out: &mut [u8], at: usize, s: &[u8], holder: Holder, d: Described) -> usize {
-    match d {
-        Described::Application {
-            profiles,
-            labels,
-            ..
-        } => {
-            let end = put_items(out, at, s, holder, Repeated::Profiles, profiles);
-            put_items(out, end, s, holder, Repeated::Labels, labels)
-        }
-        Described::Names { names } => put_items(out, at, s, holder, Repeated::Names, names),
-        Described::Http { label: _, bases } => {
-            put_items(out, at, s, holder, Repeated::Bases, bases)
-        }
-        Described::Identifiers { identifiers } => {
-            put_items(out, at, s, holder, Repeated::Identifiers, identifiers)
-        }
-        _ => at,
+        } => [
+            0x02,
+            CAROUSEL,
+            label as usize,
+            1,
+            network as usize,
+            transport as usize,
+            service as usize,
+            component as usize,
+        ],
+        _ => [NIL; 8],
     }
 }
 
 // The items repeated within a descriptor.
 
-fn put_items(
-    out: &mut [u8],
-    at: usize,
-    s: &[u8],
-    holder: Holder,
-    what: Repeated,
-    count: usize,
-) -> usize {
+// Items of a kind, and how many there are.
+pub struct Items {
+    pub what: Repeated,
+    pub count: usize,
+}
+
+// All items but labels.
+fn first_items(d: Described) -> Items {
+    match d {
+        Described::Application { profiles, .. } => Items {
+            what: Repeated::Profiles,
+            count: profiles,
+        },
+        Described::Names { names } => Items {
+            what: Repeated::Names,
+            count: names,
+        },
+        Described::Http { label: _, bases } => Items {
+            what: Repeated::Bases,
+            count: bases,
+        },
+        Described::Identifiers { identifiers } => Items {
+            what: Repeated::Identifiers,
+            count: identifiers,
+        },
+        _ => Items {
+            what: Repeated::Profiles,
+            count: 0,
+        },
+    }
+}
+
+fn label_items(d: Described) -> Items {
+    let count = match d {
+        Described::Application { labels, .. } => labels,
+        _ => 0,
+    };
+    Items {
+        what: Repeated::Labels,
+        count,
+    }
+}
+
+fn put_items(out: &mut Page, at: usize, s: &[u8], holder: Holder, items: Items) -> usize {
+    let what = items.what;
+    let count = items.count;
     let mut end = at;
     let mut k: usize = 0;
     while k < count {
@@ -417,7 +413,7 @@ fn put_items(
 }
 
 fn put_item_at(
-    out: &mut [u8],
+    out: &mut Page,
     at: usize,
     s: &[u8],
     holder: Holder,
@@ -431,88 +427,134 @@ fn put_item_at(
     }
 }
 
-fn put_item(out: &mut [u8], at: usize, s: &[u8], holder: Holder, k: usize, x: Item) -> usize {
+// An item's line and, below a base's, its extensions.
+fn put_item(out: &mut Page, at: usize, s: &[u8], holder: Holder, k: usize, x: Item) -> usize {
+    let scope = holder.scope;
+    let line = held_line(item_word(x), holder, item_fields(s, scope, k, x));
+    let end = put_line(out, at, line);
+    put_extensions(out, end, s, holder, k, extension_count(x))
+}
+
+fn item_word(x: Item) -> usize {
     match x {
-        Item::Profile(p) => put_profile(out, at, holder, k, p),
-        Item::Label(label) => put_label(out, at, s, holder, k, label),
-        Item::Name(n) => put_name(out, at, holder, k, n),
-        Item::Base(b) => put_base(out, at, s, holder, k, b),
-        Item::Identifier(i) => put_identifier(out, at, holder, k, i),
+        Item::Profile(_) => PROFILE,
+        Item::Label(_) => LABEL,
+        Item::Name(_) => NAME,
+        Item::Base(_) => BASE,
+        Item::Identifier(_) => IDENTIFIER,
     }
 }
 
-// A line's beginning: what it is of, in which descriptor, and at which place there.
-fn begin_item(out: &mut [u8], at: usize, word: &[u8], holder: Holder, k: usize) -> usize {
-    let mut end = begin(out, at, word);
-    end = put_holder(out, end, holder);
-    put_field(out, end, k as u64)
+fn extension_count(x: Item) -> usize {
+    match x {
+        Item::Base(b) => b.extensions,
+        _ => 0,
+    }
 }
 
-fn put_profile(out: &mut [u8], at: usize, holder: Holder, k: usize, p: Profile) -> usize {
-    let mut end = begin_item(out, at, b"profile", holder, k);
-    let numbers = [
-        p.number as u64,
-        p.major as u64,
-        p.minor as u64,
-        p.micro as u64,
-    ];
-    end = put_fields(out, end, &numbers);
-    end_line(out, end)
+// The item's place in its descriptor, and what is read of it.
+fn item_fields(s: &[u8], scope: Scope, k: usize, x: Item) -> Fields {
+    match x {
+        Item::Profile(p) => profile_fields(k, p),
+        Item::Label(label) => label_fields(s, scope, k, label),
+        Item::Name(n) => name_fields(k, n),
+        Item::Base(b) => base_fields(k, b),
+        Item::Identifier(i) => identifier_fields(k, i),
+    }
 }
 
-fn put_label(out: &mut [u8], at: usize, s: &[u8], holder: Holder, k: usize, label: u8) -> usize {
-    let mut end = begin_item(out, at, b"label", holder, k);
-    end = put_field(out, end, label as u64);
-    let scope = holder.scope;
-    end = put_look_up(out, end, s, scope, k);
-    end_line(out, end)
+fn profile_fields(k: usize, p: Profile) -> Fields {
+    [
+        k,
+        p.number as usize,
+        p.major as usize,
+        p.minor as usize,
+        p.micro as usize,
+        NIL,
+        NIL,
+        NIL,
+    ]
+}
+
+fn label_fields(s: &[u8], scope: Scope, k: usize, label: u8) -> Fields {
+    let found = look_up(s, scope, k);
+    [
+        k,
+        label as usize,
+        found.scope,
+        found.place,
+        NIL,
+        NIL,
+        NIL,
+        NIL,
+    ]
+}
+
+// Where a label's 0x02 descriptor stands, as fields: in which loop, and at which place there.
+pub struct Found {
+    pub scope: usize,
+    pub place: usize,
 }
 
 // Only an application's labels are looked up.
-fn put_look_up(out: &mut [u8], at: usize, s: &[u8], scope: Scope, k: usize) -> usize {
+fn look_up(s: &[u8], scope: Scope, k: usize) -> Found {
     match scope {
-        Scope::Common => text::put(out, at, b",,"),
-        Scope::Own(i) => put_resolved(out, at, applications::resolve(s, i, k)),
+        Scope::Common => Found {
+            scope: EMPTY,
+            place: EMPTY,
+        },
+        Scope::Own(i) => found_at(applications::resolve(s, i, k)),
     }
 }
 
-// Where a label's 0x02 descriptor stands: in which loop, and at which place there.
-fn put_resolved(out: &mut [u8], at: usize, r: Resolved) -> usize {
+fn found_at(r: Resolved) -> Found {
     match r {
-        Resolved::Refused(_) => text::put(out, at, b",,"),
-        Resolved::Own(j) => {
-            let end = text::put(out, at, b",own");
-            put_field(out, end, j as u64)
-        }
-        Resolved::Common(_, j) => {
-            let end = text::put(out, at, b",common");
-            put_field(out, end, j as u64)
-        }
-        Resolved::Unresolved => text::put(out, at, b",unresolved,"),
+        Resolved::Refused(_) => Found {
+            scope: EMPTY,
+            place: EMPTY,
+        },
+        Resolved::Own(j) => Found {
+            scope: OWN,
+            place: j,
+        },
+        Resolved::Common(_, j) => Found {
+            scope: COMMON,
+            place: j,
+        },
+        Resolved::Unresolved => Found {
+            scope: UNRESOLVED,
+            place: EMPTY,
+        },
     }
 }
 
 // A name's language is printed as one number of 24 bits.
-fn put_name(out: &mut [u8], at: usize, holder: Holder, k: usize, n: Name) -> usize {
-    let language = n.first as u64 * 65_536 + n.second as u64 * 256 + n.third as u64;
+fn name_fields(k: usize, n: Name) -> Fields {
+    let language = n.first as usize * 65_536 + n.second as usize * 256 + n.third as usize;
     let text = n.text;
-    let mut end = begin_item(out, at, b"name", holder, k);
-    end = put_fields(out, end, &[language, text.start as u64, text.size as u64]);
-    end_line(out, end)
+    [k, language, text.start, text.size, NIL, NIL, NIL, NIL]
 }
 
-// A base, and its extensions below it.
-fn put_base(out: &mut [u8], at: usize, s: &[u8], holder: Holder, k: usize, b: Base) -> usize {
+fn base_fields(k: usize, b: Base) -> Fields {
     let text = b.text;
-    let mut end = begin_item(out, at, b"base", holder, k);
-    let numbers = [text.start as u64, text.size as u64, b.extensions as u64];
-    end = put_fields(out, end, &numbers);
-    end = end_line(out, end);
-    put_extensions(out, end, s, holder, k, b.extensions)
+    [k, text.start, text.size, b.extensions, NIL, NIL, NIL, NIL]
+}
+
+fn identifier_fields(k: usize, i: Identifier) -> Fields {
+    [
+        k,
+        i.organisation as usize,
+        i.number as usize,
+        i.priority as usize,
+        NIL,
+        NIL,
+        NIL,
+        NIL,
+    ]
 }
 
 fn put_extensions(
-    out: &mut [u8],
+    out: &mut Page,
     at: usize,
     s: &[u8],
     holder: Holder,
@@ -528,40 +570,45 @@ fn put_extensions(
     end
 }
 
-fn put_extension(out: &mut [u8], at: usize, s: &[u8], holder: Holder, k: usize, m: usize) -> usize {
+fn put_extension(out: &mut Page, at: usize, s: &[u8], holder: Holder, k: usize, m: usize) -> usize {
     let scope = holder.scope;
     match applications::extension_at(s, scope, holder.place, k, m) {
         ExtensionAnswer::Refused(_) => at,
         ExtensionAnswer::Found(x) => {
-            let mut end = begin_item(out, at, b"extension", holder, k);
-            end = put_fields(out, end, &[m as u64, x.start as u64, x.size as u64]);
-            end_line(out, end)
+            let fields = [k, m, x.start, x.size, NIL, NIL, NIL, NIL];
+            put_line(out, at, held_line(EXTENSION, holder, fields))
         }
     }
-}
-
-fn put_identifier(out: &mut [u8], at: usize, holder: Holder, k: usize, i: Identifier) -> usize {
-    let mut end = begin_item(out, at, b"identifier", holder, k);
-    let numbers = [i.organisation as u64, i.number as u64, i.priority as u64];
-    end = put_fields(out, end, &numbers);
-    end_line(out, end)
 }
 
 // The carousel record after the last section: its announcement, and each module.
 
 // Nothing is put where there is no announcement.
-fn put_record(out: &mut [u8], at: usize, c: Carousel, image: &[u8]) -> usize {
+fn put_record(out: &mut Page, at: usize, c: Carousel, image: &[u8]) -> usize {
     if c.count == 0 {
         return at;
     }
-    let mut end = begin(out, at, b"record");
-    let numbers = [c.download as u64, c.block_size as u64, c.count as u64];
-    end = put_fields(out, end, &numbers);
-    end = end_line(out, end);
+    let end = put_line(out, at, record_line(c));
     put_modules(out, end, c, image)
 }
 
-fn put_modules(out: &mut [u8], at: usize, c: Carousel, image: &[u8]) -> usize {
+fn record_line(c: Carousel) -> Line {
+    [
+        RECORD,
+        c.download as usize,
+        c.block_size as usize,
+        c.count as usize,
+        NIL,
+        NIL,
+        NIL,
+        NIL,
+        NIL,
+        NIL,
+        NIL,
+    ]
+}
+
+fn put_modules(out: &mut Page, at: usize, c: Carousel, image: &[u8]) -> usize {
     let mut end = at;
     let mut i: usize = 0;
     while i < messages::MOST_MODULES {
@@ -569,59 +616,246 @@ fn put_modules(out: &mut [u8], at: usize, c: Carousel, image: &[u8]) -> usize {
             return end;
         }
         let m = c.modules[i];
-        end = put_module(out, end, c, image, i, m);
+        end = put_line(out, end, module_line(c, image, i, m));
         i += 1;
     }
     end
 }
 
-// A module's line: as announced, and how much of it has come.
-fn put_module(
-    out: &mut [u8],
-    at: usize,
-    c: Carousel,
-    image: &[u8],
-    place: usize,
-    m: Module,
-) -> usize {
-    let mut end = begin(out, at, b"module");
-    let answer = handout::handout_number(c, image, m.number);
-    let numbers = [
-        place as u64,
-        m.number as u64,
-        m.size as u64,
-        m.version as u64,
-        m.start as u64,
-        answer as u64,
-    ];
-    end = put_fields(out, end, &numbers);
-    end = put_missing(out, end, handout::missing(c, m.number));
-    end = put_crc(out, end, answer, handout::handout(c, image, m.number));
-    end_line(out, end)
+// A module as announced, and how much of it has come.
+fn module_line(c: Carousel, image: &[u8], place: usize, m: Module) -> Line {
+    let lack = lack_of(handout::missing(c, m.number));
+    [
+        MODULE,
+        place,
+        m.number as usize,
+        m.size as usize,
+        m.version as usize,
+        m.start as usize,
+        handout::handout_number(c, image, m.number) as usize,
+        lack.count,
+        lack.lowest,
+        crc_of(c, image, m.number),
+        NIL,
+    ]
 }
 
 // How many blocks are missing, and the lowest of them, if any.
-fn put_missing(out: &mut [u8], at: usize, report: Report) -> usize {
+fn lack_of(report: Report) -> Lack {
     match report {
-        Report::Refused(_) => text::put(out, at, b",,"),
-        Report::Whole => text::put(out, at, b",0,"),
-        Report::Lacking(lack) => {
-            let end = put_field(out, at, lack.count as u64);
-            put_field(out, end, lack.lowest as u64)
-        }
+        Report::Refused(_) => Lack {
+            count: EMPTY,
+            lowest: EMPTY,
+        },
+        Report::Whole => Lack {
+            count: 0,
+            lowest: EMPTY,
+        },
+        Report::Lacking(lack) => lack,
     }
 }
 
-// The CRC register over what was handed out; nothing where the hand-out was refused.
-fn put_crc(out: &mut [u8], at: usize, answer: u8, part: &[u8]) -> usize {
-    if answer != 0 {
-        return text::put(out, at, b",");
+// The CRC register over what is handed out; nothing where the hand-out is refused.
+fn crc_of(c: Carousel, image: &[u8], number: u16) -> usize {
+    if handout::handout_number(c, image, number) != 0 {
+        return EMPTY;
     }
-    put_field(out, at, section::crc(part) as u64)
+    section::crc(handout::handout(c, image, number)) as usize
+}
+
+// Lines, as values.
+
+// A line's fields, its name the first. A field is a number or, from `WORD` on, the word of `put_word` at
+// the place `field - WORD`; that has its comma, if one stands before it.
+type Line = [usize; 11];
+
+// The fields of a line of a descriptor, or of what is in it, after those of `held_line`.
+type Fields = [usize; 8];
+
+const WORD: usize = 1 << 63;
+
+// In place of a field where a line has fewer.
+const NIL: usize = WORD;
+
+// A field with nothing in it.
+const EMPTY: usize = WORD + 1;
+
+// Names of lines.
+const SECTION: usize = WORD + 2;
+
+const TABLE: usize = WORD + 3;
+
+const APPLICATION: usize = WORD + 4;
+
+const DESCRIPTOR: usize = WORD + 5;
+
+const PROFILE: usize = WORD + 6;
+
+const LABEL: usize = WORD + 7;
+
+const NAME: usize = WORD + 8;
+
+const BASE: usize = WORD + 9;
+
+const EXTENSION: usize = WORD + 10;
+
+const IDENTIFIER: usize = WORD + 11;
+
+const STOP: usize = WORD + 12;
+
+const RECORD: usize = WORD + 13;
+
+const MODULE: usize = WORD + 14;
+
+// Kinds of a section.
+const KIND_TABLE: usize = WORD + 15;
+
+const NEW: usize = WORD + 16;
+
+const SAME: usize = WORD + 17;
+
+const STORED: usize = WORD + 18;
+
+const REPEATED: usize = WORD + 19;
+
+const NONE: usize = WORD + 20;
+
+// Stops.
+const END: usize = WORD + 21;
+
+const STUFFING: usize = WORD + 22;
+
+const SHORT: usize = WORD + 23;
+
+const OVER_BUDGET: usize = WORD + 24;
+
+const STATE: usize = WORD + 25;
+
+// Classes of an application, and its control codes.
+const UNSIGNED: usize = WORD + 26;
+
+const SIGNED: usize = WORD + 27;
+
+const OTHER: usize = WORD + 28;
+
+const WILDCARD: usize = WORD + 29;
+
+const AUTOSTART: usize = WORD + 30;
+
+const PRESENT: usize = WORD + 31;
+
+const DESTROY: usize = WORD + 32;
+
+const KILL: usize = WORD + 33;
+
+const REMOTE: usize = WORD + 34;
+
+const RESERVED: usize = WORD + 35;
+
+// Kinds of a descriptor.
+const KIND_APPLICATION: usize = WORD + 36;
+
+const NAMES: usize = WORD + 37;
+
+const CAROUSEL: usize = WORD + 38;
+
+const BASES: usize = WORD + 39;
+
+const SELECTOR: usize = WORD + 40;
+
+const IDENTIFIERS: usize = WORD + 41;
+
+const PATH: usize = WORD + 42;
+
+const RAW: usize = WORD + 43;
+
+// Loops, and that a label leads to none.
+const COMMON: usize = WORD + 44;
+
+const OWN: usize = WORD + 45;
+
+const UNRESOLVED: usize = WORD + 46;
+
+// The words in the order of the constants above, a space after each; the first is empty.
+fn put_word(out: &mut Page, at: usize, place: usize) -> usize {
+    put_word_of(
+        b" , section table application descriptor profile label name base extension identifier \
+          stop record module \
+          ,table ,new ,same ,stored ,repeated ,none \
+          ,end ,stuffing ,short ,budget ,state \
+          ,unsigned ,signed ,other ,wildcard \
+          ,autostart ,present ,destroy ,kill ,remote ,reserved \
+          ,application ,names ,carousel ,bases ,selector ,identifiers ,path ,raw \
+          ,common ,own ,unresolved",
+        place,
+        out,
+        at,
+    )
+}
+
+// Puts the word before which stand `place` spaces.
+fn put_word_of(words: &[u8], place: usize, out: &mut Page, at: usize) -> usize {
+    let mut end = at;
+    let mut spaces: usize = 0;
+    let mut i: usize = 0;
+    while i < words.len() {
+        if words[i] == b' ' {
+            spaces += 1;
+        } else if spaces == place {
+            end = text::put(out, end, &words[i..i + 1]);
+        }
+        i += 1;
+    }
+    end
+}
+
+fn put_field(out: &mut Page, at: usize, field: usize) -> usize {
+    if field < WORD {
+        let from = text::put(out, at, b",");
+        return text::put_decimal(out, from, field as u64);
+    }
+    put_word(out, at, field - WORD)
+}
+
+fn put_fields(out: &mut Page, at: usize, line: Line) -> usize {
+    let mut end = at;
+    let mut i: usize = 0;
+    while i < 11 {
+        end = put_field(out, end, line[i]);
+        i += 1;
+    }
+    end
+}
+
+fn held_line(name: usize, holder: Holder, f: Fields) -> Line {
+    let scope = holder.scope;
+    [
+        name,
+        scope_field(scope),
+        holder.place,
+        f[0],
+        f[1],
+        f[2],
+        f[3],
+        f[4],
+        f[5],
+        f[6],
+        f[7],
+    ]
+}
+
+// A loop is named by the application's place.
+fn scope_field(scope: Scope) -> usize {
+    match scope {
+        Scope::Common => COMMON,
+        Scope::Own(i) => i,
+    }
 }
 
 // The page: lines are gathered in a lent buffer of 65,536 bytes, and written out when there might be
 // no room for another. `at` is where the next byte goes.
+
+type Page = [u8; 65_536];
 
 // Room enough for any line: the longest, of a remote carousel, has 61 bytes.
 const LONGEST_LINE: usize = 128;
@@ -633,18 +867,14 @@ const LAST_START: usize = 65_536 - LONGEST_LINE;
 // there is left out.
 const CLOSED: usize = 65_537;
 
-// Whether a write has failed: nothing more can be printed.
-fn is_closed(at: usize) -> bool {
-    at == CLOSED
-}
-
-// Begins a line with its first word.
-fn begin(out: &mut [u8], at: usize, word: &[u8]) -> usize {
-    let mut from = at;
+// Puts a line where there is room for it.
+fn put_line(out: &mut Page, at: usize, line: Line) -> usize {
+    let mut end = at;
     if LAST_START < at {
-        from = write_out(out, at);
+        end = write_out(out, at);
     }
-    text::put(out, from, word)
+    end = put_fields(out, end, line);
+    text::put(out, end, b"\n")
 }
 
 // Writes out what was put, and answers where the next line goes.
@@ -656,24 +886,4 @@ fn write_out(out: &[u8], at: usize) -> usize {
         return 0;
     }
     CLOSED
-}
-
-fn end_line(out: &mut [u8], at: usize) -> usize {
-    text::put(out, at, b"\n")
-}
-
-// A number after a comma.
-fn put_field(out: &mut [u8], at: usize, n: u64) -> usize {
-    let from = text::put(out, at, b",");
-    text::put_decimal(out, from, n)
-}
-
-fn put_fields(out: &mut [u8], at: usize, numbers: &[u64]) -> usize {
-    let mut end = at;
-    let mut i: usize = 0;
-    while i < numbers.len() {
-        end = put_field(out, end, numbers[i]);
-        i += 1;
-    }
-    end
 }

@@ -1,17 +1,15 @@
--- `put_fields` stays within its slice and ends.
+-- `put_fields` stays within the line and ends.
 -- Assumes nothing.
 use borrow.Author.Needs.{needs}
 use Prim.Native.Nat.{_≤_, _-_}
-use mathlib.Core.Path.{_≡_}
-use lib.ListN.{length}
 use Rattle.inspect.proofs.put_fields.Statement.{statement}
 use Rattle.inspect.proofs.put_fields.Tie as tie
 
 abbrev Inv-loop : tie.InvT-loop
-Inv-loop out₀ at numbers end₀ i₀ out end i = (i ≤ length numbers) × (length out ≡ length out₀)
+Inv-loop out₀ at line end₀ i₀ out end i = i ≤ 11
 
 abbrev μ-loop : tie.MeasureT-loop
-μ-loop out₀ at numbers end₀ i₀ out end i = length numbers - i
+μ-loop out₀ at line end₀ i₀ out end i = 11 - i
 
 loop-holds : tie.Need-loop-holds Inv-loop μ-loop
 loop-holds c = search needs
@@ -19,8 +17,8 @@ loop-holds c = search needs
 mul-put-field : tie.Need-mul-put-field Inv-loop μ-loop
 mul-put-field c = search needs
 
-shared-slice-read-put-field : tie.Need-shared-slice-read-put-field Inv-loop μ-loop
-shared-slice-read-put-field c = search needs
+array-read-put-field : tie.Need-array-read-put-field Inv-loop μ-loop
+array-read-put-field c = search needs
 
 put-field-requires : tie.Need-put-field-requires Inv-loop μ-loop
 put-field-requires c κs = search needs
@@ -34,9 +32,6 @@ loop-less c = search needs
 loop-again : tie.Need-loop-again Inv-loop μ-loop
 loop-again c = search needs
 
-same-length : tie.Need-same-length Inv-loop μ-loop
-same-length c = search needs
-
 returns : tie.Need-returns Inv-loop μ-loop
 returns c = search needs
 
@@ -48,10 +43,9 @@ put-fields-spec =
     μ-loop
     loop-holds
     mul-put-field
-    shared-slice-read-put-field
+    array-read-put-field
     put-field-requires
     add-i
     loop-less
     loop-again
-    same-length
     returns)

@@ -2,13 +2,11 @@
 -- Assumes nothing.
 use borrow.Author.Needs.{needs}
 use Prim.Native.Nat.{_≤_, _-_}
-use mathlib.Core.Path.{_≡_}
-use lib.ListN.{length}
 use Rattle.inspect.proofs.put_modules.Statement.{statement}
 use Rattle.inspect.proofs.put_modules.Tie as tie
 
 abbrev Inv-loop : tie.InvT-loop
-Inv-loop out₀ at image c end₀ i₀ out end i = (i ≤ 16) × (length out ≡ length out₀)
+Inv-loop out₀ at image c end₀ i₀ out end i = i ≤ 16
 
 abbrev μ-loop : tie.MeasureT-loop
 μ-loop out₀ at image c end₀ i₀ out end i = 16 - i
@@ -19,9 +17,6 @@ loop-holds c = search needs
 cast-if1 : tie.Need-cast-if1 Inv-loop μ-loop
 cast-if1 c = search needs
 
-same-length : tie.Need-same-length Inv-loop μ-loop
-same-length c = search needs
-
 returns : tie.Need-returns Inv-loop μ-loop
 returns c = search needs
 
@@ -31,8 +26,11 @@ mul-m c = search needs
 element-copy-out-m : tie.Need-element-copy-out-m Inv-loop μ-loop
 element-copy-out-m c = search needs
 
-put-module-requires : tie.Need-put-module-requires Inv-loop μ-loop
-put-module-requires c κs = search needs
+module-line-requires : tie.Need-module-line-requires Inv-loop μ-loop
+module-line-requires c κs = search needs
+
+put-line-requires : tie.Need-put-line-requires Inv-loop μ-loop
+put-line-requires c κs = search needs
 
 add-i : tie.Need-add-i Inv-loop μ-loop
 add-i c = search needs
@@ -42,9 +40,6 @@ loop-less c = search needs
 
 loop-again : tie.Need-loop-again Inv-loop μ-loop
 loop-again c = search needs
-
-same-length-2 : tie.Need-same-length-2 Inv-loop μ-loop
-same-length-2 c = search needs
 
 returns-2 : tie.Need-returns-2 Inv-loop μ-loop
 returns-2 c = search needs
@@ -57,13 +52,12 @@ put-modules-spec =
     μ-loop
     loop-holds
     cast-if1
-    same-length
     returns
     mul-m
     element-copy-out-m
-    put-module-requires
+    module-line-requires
+    put-line-requires
     add-i
     loop-less
     loop-again
-    same-length-2
     returns-2)
