@@ -3,6 +3,7 @@
 
     embed.py          compare the declarations
     embed.py run      the same, then compile and run examples/receive.c over target/staticlib/libbox_api.a"""
+import platform
 import re
 import subprocess
 import sys
@@ -143,16 +144,35 @@ def check_needs(archive):
     assert asked <= {"memcpy", "memset"} and defined == set(rattle()[0]), (asked, defined)
 
 
+def compile_strictly(source, archive, receive):
+    """Compiles the example with every warning an error, and gives the command that runs it. Where the machine is no x86-64, gcc
+    looks at it, and the kit's own compiler makes it for the kit's emulator, with the machine's C headers."""
+    strict = ["-Wall", "-Wextra", "-Werror", "-I%s" % HEADER.parent]
+    subprocess.run(["g++", *strict, "-fsyntax-only", "-x", "c++", HEADER], check=True)
+    if platform.machine() == "x86_64":
+        subprocess.run(["gcc", *strict, source, archive, "-o", receive], check=True)
+        return [receive]
+    subprocess.run(["gcc", *strict, "-fsyntax-only", source], check=True)
+    asked = [subprocess.run(["gcc", w], check=True, capture_output=True, text=True).stdout.strip() for w in ("-print-file-name=include", "-dumpmachine")]
+    headers = ["-nostdinc", "-isystem", asked[0], "-isystem", "/usr/include/" + asked[1], "-isystem", "/usr/include"]
+    made = receive.with_suffix(".o")
+    clang, lld = (program.kit() / "bin" / f for f in ("clang", "ld.lld"))
+    subprocess.run([clang, "--target=x86_64-unknown-linux-gnu", *strict, *headers, "-c", source, "-o", made], check=True)
+    first, last = (
+        [program.kit() / "lib" / f for f in files]
+        for files in (("Scrt1.o", "crti.o", "crtbeginS.o"), ("libc.so.6", "libc_nonshared.a", "libgcc.a", "crtendS.o", "crtn.o"))
+    )
+    subprocess.run([lld, "-pie", "--dynamic-linker", "/lib64/ld-linux-x86-64.so.2", *first, made, archive, *last, "-o", receive], check=True)
+    return program.under_the_kit(receive)
+
+
 def run_example():
+    archive = ROOT / "target" / "staticlib" / "libbox_api.a"
+    check_needs(archive)
     with tempfile.TemporaryDirectory() as folder:
-        receive = str(Path(folder) / "receive")
-        strict = ["-Wall", "-Wextra", "-Werror", "-I%s" % HEADER.parent]
-        archive = str(ROOT / "target" / "staticlib" / "libbox_api.a")
-        check_needs(archive)
-        subprocess.run(["gcc", *strict, str(ROOT / "examples" / "receive.c"), archive, "-o", receive], check=True)
-        subprocess.run(["g++", *strict, "-fsyntax-only", "-x", "c++", str(HEADER)], check=True)
-        print("embed.py: the C example over %d modules" % check_modules([receive]))
-        subprocess.run([sys.executable, str(ROOT / "tests" / "program.py"), "run", receive], check=True)
+        command = compile_strictly(ROOT / "examples" / "receive.c", archive, Path(folder) / "receive")
+        print("embed.py: the C example over %d modules" % check_modules(command))
+        subprocess.run([sys.executable, ROOT / "tests" / "program.py", "run", *command], check=True)
 
 
 compare_declarations()

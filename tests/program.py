@@ -564,11 +564,19 @@ def check_time(command):
         differs(THREES.name, "not under a second")
 
 
+def kit():
+    """The kit's compiler and C library for x86-64 and, where the machine is another, its emulator."""
+    return Path(shutil.which("rt")).resolve().parents[1] / "on" / platform.machine() / "toolchain"
+
+
+def under_the_kit(path):
+    """The command that runs an x86-64 program as rt does: under the kit's loader, and its emulator where the machine is no x86-64."""
+    emulator = kit() / "bin" / "qemu-x86_64"
+    return [emulator] * emulator.exists() + [kit() / "lib" / "ld-linux-x86-64.so.2", "--library-path", kit() / "lib", path]
+
+
 def built():
-    """The command that runs the built program as rt does: under the kit's loader, and its emulator where the machine is no x86-64."""
-    tools = Path(shutil.which("rt")).resolve().parents[1] / "on" / platform.machine() / "toolchain"
-    emulator = tools / "bin" / "qemu-x86_64"
-    return [emulator] * emulator.exists() + [tools / "lib" / "ld-linux-x86-64.so.2", "--library-path", tools / "lib", ROOT / "target" / "bin" / "nebosvar"]
+    return under_the_kit(ROOT / "target" / "bin" / "nebosvar")
 
 
 def check_built(command, cases):

@@ -4,22 +4,18 @@
 // and says what must come out.
 use applications::Application;
 use applications::ApplicationAnswer;
-use applications::Base;
 use applications::Class;
 use applications::Control;
 use applications::Described;
 use applications::DescriptorAnswer;
 use applications::ExtensionAnswer;
-use applications::Identifier;
 use applications::Item;
 use applications::ItemAnswer;
 use applications::Name;
-use applications::Profile;
 use applications::ReadAnswer;
 use applications::Repeated;
 use applications::Resolved;
 use applications::Scope;
-use applications::Span;
 use applications::Table;
 use handout::Lack;
 use handout::Report;
@@ -28,6 +24,9 @@ use receiver::Stop;
 use receiver::What;
 use record::Carousel;
 use record::Module;
+
+// What `io::large_buffer` gives.
+type Buffer = [u8; 65_536];
 
 // The sections that are taken at most.
 const BUDGET: usize = 65_536;
@@ -41,7 +40,7 @@ fn main() {
 }
 
 // Runs an empty record over a stretch; what is printed goes by way of `out`.
-fn inspect(stretch: &[u8], image: &mut [u8], out: &mut Page) {
+fn inspect(stretch: &[u8], image: &mut Buffer, out: &mut Buffer) {
     let mut c = record::empty();
     let mut at: usize = 0;
     let mut index: usize = 0;
@@ -72,10 +71,11 @@ fn inspect(stretch: &[u8], image: &mut [u8], out: &mut Page) {
 }
 
 // The lines below the last section, and what is left of `out`.
-fn finish(out: &mut Page, at: usize, stop: Stop, c: Carousel, image: &[u8]) {
-    let end = put_line(out, at, stop_line(stop));
-    let last = put_record(out, end, c, image);
-    write_out(out, last);
+fn finish(out: &mut Buffer, at: usize, stop: Stop, c: Carousel, image: &Buffer) {
+    let mut end = put_line(out, at, stop_line(stop));
+    end = put_line(out, end, record_line(c));
+    end = put_modules(out, end, c, image);
+    write_out(out, end);
 }
 
 fn stop_line(stop: Stop) -> Line {
@@ -91,7 +91,7 @@ fn stop_line(stop: Stop) -> Line {
 
 // A section's line and, below an accepted table's, all that is read of it.
 fn put_section(
-    out: &mut Page,
+    out: &mut Buffer,
     at: usize,
     index: usize,
     offset: usize,
@@ -139,7 +139,7 @@ fn kind_word(fate: Fate) -> usize {
 
 // An accepted table: its header, its common descriptors and its applications.
 
-fn put_table(out: &mut Page, at: usize, s: &[u8]) -> usize {
+fn put_table(out: &mut Buffer, at: usize, s: &[u8]) -> usize {
     match applications::read(s) {
         ReadAnswer::Refused(_) => at,
         ReadAnswer::Accepted(t) => {
@@ -166,7 +166,7 @@ fn table_line(t: Table) -> Line {
     ]
 }
 
-fn put_applications(out: &mut Page, at: usize, s: &[u8], count: usize) -> usize {
+fn put_applications(out: &mut Buffer, at: usize, s: &[u8], count: usize) -> usize {
     let mut end = at;
     let mut i: usize = 0;
     while i < count {
@@ -177,7 +177,7 @@ fn put_applications(out: &mut Page, at: usize, s: &[u8], count: usize) -> usize 
 }
 
 // The application at place i, and its descriptors.
-fn put_application(out: &mut Page, at: usize, s: &[u8], i: usize) -> usize {
+fn put_application(out: &mut Buffer, at: usize, s: &[u8], i: usize) -> usize {
     match applications::application_at(s, i) {
         ApplicationAnswer::Refused(_) => at,
         ApplicationAnswer::Found(a) => {
@@ -233,7 +233,7 @@ pub struct Holder {
     pub place: usize,
 }
 
-fn put_descriptors(out: &mut Page, at: usize, s: &[u8], scope: Scope, count: usize) -> usize {
+fn put_descriptors(out: &mut Buffer, at: usize, s: &[u8], scope: Scope, count: usize) -> usize {
     let mut end = at;
     let mut j: usize = 0;
     while j < count {
@@ -245,7 +245,7 @@ fn put_descriptors(out: &mut Page, at: usize, s: &[u8], scope: Scope, count: usi
 }
 
 // A descriptor's line, and its items. Labels come after profiles: no other has two kinds of them.
-fn put_descriptor(out: &mut Page, at: usize, s: &[u8], holder: Holder) -> usize {
+fn put_descriptor(out: &mut Buffer, at: usize, s: &[u8], holder: Holder) -> usize {
     let scope = holder.scope;
     match applications::descriptor_at(s, scope, holder.place) {
         DescriptorAnswer::Refused(_) => at,
@@ -289,16 +289,14 @@ fn descriptor_fields(d: Described) -> Fields {
             NIL,
         ],
         Described::Path { path } => [0x15, PATH, path.start, path.size, NIL, NIL, NIL, NIL],
-        Described::Raw { tag, contents } => raw_fields(tag, contents),
+        Described::Raw { tag, contents: at } => {
+            [tag as usize, RAW, at.start, at.size, NIL, NIL, NIL, NIL]
+        }
         _ => transport_fields(d),
     }
 }
 
-fn raw_fields(tag: u8, at: Span) -> Fields {
-    [tag as usize, RAW, at.start, at.size, NIL, NIL, NIL, NIL]
-}
-
-// A 0x02 descriptor, by its protocol. A carousel's three numbers are there only where it is remote.
+// A 0x02 descriptor, by its protocol.
 fn transport_fields(d: Described) -> Fields {
     match d {
         Described::Http { label, bases } => [
@@ -325,6 +323,13 @@ fn transport_fields(d: Described) -> Fields {
             NIL,
             NIL,
         ],
+        _ => carousel_fields(d),
+    }
+}
+
+// A carousel's three numbers are there only where it is remote.
+fn carousel_fields(d: Described) -> Fields {
+    match d {
         Described::Local { label, component } => [
             0x02,
             CAROUSEL,
@@ -400,7 +405,7 @@ fn label_items(d: Described) -> Items {
     }
 }
 
-fn put_items(out: &mut Page, at: usize, s: &[u8], holder: Holder, items: Items) -> usize {
+fn put_items(out: &mut Buffer, at: usize, s: &[u8], holder: Holder, items: Items) -> usize {
     let what = items.what;
     let count = items.count;
     let mut end = at;
@@ -413,7 +418,7 @@ fn put_items(out: &mut Page, at: usize, s: &[u8], holder: Holder, items: Items) 
 }
 
 fn put_item_at(
-    out: &mut Page,
+    out: &mut Buffer,
     at: usize,
     s: &[u8],
     holder: Holder,
@@ -428,7 +433,7 @@ fn put_item_at(
 }
 
 // An item's line and, below a base's, its extensions.
-fn put_item(out: &mut Page, at: usize, s: &[u8], holder: Holder, k: usize, x: Item) -> usize {
+fn put_item(out: &mut Buffer, at: usize, s: &[u8], holder: Holder, k: usize, x: Item) -> usize {
     let scope = holder.scope;
     let line = held_line(item_word(x), holder, item_fields(s, scope, k, x));
     let end = put_line(out, at, line);
@@ -455,76 +460,50 @@ fn extension_count(x: Item) -> usize {
 // The item's place in its descriptor, and what is read of it.
 fn item_fields(s: &[u8], scope: Scope, k: usize, x: Item) -> Fields {
     match x {
-        Item::Profile(p) => profile_fields(k, p),
-        Item::Label(label) => label_fields(s, scope, k, label),
+        Item::Profile(p) => [
+            k,
+            p.number as usize,
+            p.major as usize,
+            p.minor as usize,
+            p.micro as usize,
+            NIL,
+            NIL,
+            NIL,
+        ],
+        Item::Label(label) => label_fields(s, scope, k, label as usize),
         Item::Name(n) => name_fields(k, n),
-        Item::Base(b) => base_fields(k, b),
-        Item::Identifier(i) => identifier_fields(k, i),
+        Item::Base(b) => {
+            let text = b.text;
+            [k, text.start, text.size, b.extensions, NIL, NIL, NIL, NIL]
+        }
+        Item::Identifier(i) => [
+            k,
+            i.organisation as usize,
+            i.number as usize,
+            i.priority as usize,
+            NIL,
+            NIL,
+            NIL,
+            NIL,
+        ],
     }
 }
 
-fn profile_fields(k: usize, p: Profile) -> Fields {
-    [
-        k,
-        p.number as usize,
-        p.major as usize,
-        p.minor as usize,
-        p.micro as usize,
-        NIL,
-        NIL,
-        NIL,
-    ]
-}
-
-fn label_fields(s: &[u8], scope: Scope, k: usize, label: u8) -> Fields {
-    let found = look_up(s, scope, k);
-    [
-        k,
-        label as usize,
-        found.scope,
-        found.place,
-        NIL,
-        NIL,
-        NIL,
-        NIL,
-    ]
-}
-
-// Where a label's 0x02 descriptor stands, as fields: in which loop, and at which place there.
-pub struct Found {
-    pub scope: usize,
-    pub place: usize,
-}
-
-// Only an application's labels are looked up.
-fn look_up(s: &[u8], scope: Scope, k: usize) -> Found {
+// A label, and where its 0x02 descriptor stands. Only an application's labels are looked up.
+fn label_fields(s: &[u8], scope: Scope, k: usize, label: usize) -> Fields {
     match scope {
-        Scope::Common => Found {
-            scope: EMPTY,
-            place: EMPTY,
-        },
-        Scope::Own(i) => found_at(applications::resolve(s, i, k)),
+        Scope::Common => [k, label, EMPTY, EMPTY, NIL, NIL, NIL, NIL],
+        Scope::Own(i) => resolved_fields(k, label, applications::resolve(s, i, k)),
     }
 }
 
-fn found_at(r: Resolved) -> Found {
+// The loop in which it stands, and its place there.
+fn resolved_fields(k: usize, label: usize, r: Resolved) -> Fields {
     match r {
-        Resolved::Refused(_) => Found {
-            scope: EMPTY,
-            place: EMPTY,
-        },
-        Resolved::Own(j) => Found {
-            scope: OWN,
-            place: j,
-        },
-        Resolved::Common(_, j) => Found {
-            scope: COMMON,
-            place: j,
-        },
-        Resolved::Unresolved => Found {
-            scope: UNRESOLVED,
-            place: EMPTY,
-        },
+        Resolved::Refused(_) => [k, label, EMPTY, EMPTY, NIL, NIL, NIL, NIL],
+        Resolved::Own(j) => [k, label, OWN, j, NIL, NIL, NIL, NIL],
+        Resolved::Common(_, j) => [k, label, COMMON, j, NIL, NIL, NIL, NIL],
+        Resolved::Unresolved => [k, label, UNRESOLVED, EMPTY, NIL, NIL, NIL, NIL],
     }
 }
 
@@ -535,26 +514,8 @@ fn name_fields(k: usize, n: Name) -> Fields {
     [k, language, text.start, text.size, NIL, NIL, NIL, NIL]
 }
 
-fn base_fields(k: usize, b: Base) -> Fields {
-    let text = b.text;
-    [k, text.start, text.size, b.extensions, NIL, NIL, NIL, NIL]
-}
-
-fn identifier_fields(k: usize, i: Identifier) -> Fields {
-    [
-        k,
-        i.organisation as usize,
-        i.number as usize,
-        i.priority as usize,
-        NIL,
-        NIL,
-        NIL,
-        NIL,
-    ]
-}
-
 fn put_extensions(
-    out: &mut Page,
+    out: &mut Buffer,
     at: usize,
     s: &[u8],
     holder: Holder,
@@ -564,35 +525,30 @@ fn put_extensions(
     let mut end = at;
     let mut m: usize = 0;
     while m < count {
-        end = put_extension(out, end, s, holder, k, m);
+        end = put_line(out, end, extension_line(s, holder, k, m));
         m += 1;
     }
     end
 }
 
-fn put_extension(out: &mut Page, at: usize, s: &[u8], holder: Holder, k: usize, m: usize) -> usize {
+fn extension_line(s: &[u8], holder: Holder, k: usize, m: usize) -> Line {
     let scope = holder.scope;
     match applications::extension_at(s, scope, holder.place, k, m) {
-        ExtensionAnswer::Refused(_) => at,
+        ExtensionAnswer::Refused(_) => [NIL; 11],
         ExtensionAnswer::Found(x) => {
             let fields = [k, m, x.start, x.size, NIL, NIL, NIL, NIL];
-            put_line(out, at, held_line(EXTENSION, holder, fields))
+            held_line(EXTENSION, holder, fields)
         }
     }
 }
 
 // The carousel record after the last section: its announcement, and each module.
 
-// Nothing is put where there is no announcement.
-fn put_record(out: &mut Page, at: usize, c: Carousel, image: &[u8]) -> usize {
-    if c.count == 0 {
-        return at;
-    }
-    let end = put_line(out, at, record_line(c));
-    put_modules(out, end, c, image)
-}
-
+// No line where there is no announcement.
 fn record_line(c: Carousel) -> Line {
+    if c.count == 0 {
+        return [NIL; 11];
+    }
     [
         RECORD,
         c.download as usize,
@@ -608,13 +564,10 @@ fn record_line(c: Carousel) -> Line {
     ]
 }
 
-fn put_modules(out: &mut Page, at: usize, c: Carousel, image: &[u8]) -> usize {
+fn put_modules(out: &mut Buffer, at: usize, c: Carousel, image: &Buffer) -> usize {
     let mut end = at;
     let mut i: usize = 0;
     while i < messages::MOST_MODULES {
-        if c.count as usize <= i {
-            return end;
-        }
         let m = c.modules[i];
         end = put_line(out, end, module_line(c, image, i, m));
         i += 1;
@@ -622,8 +575,11 @@ fn put_modules(out: &mut Page, at: usize, c: Carousel, image: &[u8]) -> usize {
     end
 }
 
-// A module as announced, and how much of it has come.
-fn module_line(c: Carousel, image: &[u8], place: usize, m: Module) -> Line {
+// A module as announced, and how much of it has come; no line past the last one.
+fn module_line(c: Carousel, image: &Buffer, place: usize, m: Module) -> Line {
+    if c.count as usize <= place {
+        return [NIL; 11];
+    }
     let lack = lack_of(handout::missing(c, m.number));
     [
         MODULE,
@@ -656,160 +612,166 @@ fn lack_of(report: Report) -> Lack {
 }
 
 // The CRC register over what is handed out; nothing where the hand-out is refused.
-fn crc_of(c: Carousel, image: &[u8], number: u16) -> usize {
+fn crc_of(c: Carousel, image: &Buffer, number: u16) -> usize {
     if handout::handout_number(c, image, number) != 0 {
         return EMPTY;
     }
     section::crc(handout::handout(c, image, number)) as usize
 }
 
-// Lines, as values.
+// Lines, as values: they are made apart from `out`, and `put_line` alone puts them.
 
-// A line's fields, its name the first. A field is a number or, from `WORD` on, the word of `put_word` at
-// the place `field - WORD`; that has its comma, if one stands before it.
+// A line's fields, its name the first; no line where that is `NIL`. A field is a number or, from `WORD`
+// on, a word: the one that stands at `field - WORD` in `put_word`, with the comma before it if it has one.
 type Line = [usize; 11];
 
-// The fields of a line of a descriptor, or of what is in it, after those of `held_line`.
+// The fields of a line of a descriptor, or of what is in it, without those that `held_line` adds.
 type Fields = [usize; 8];
 
+// Above any number that is printed.
 const WORD: usize = 1 << 63;
 
-// In place of a field where a line has fewer.
+// What a word and the spaces after it take up in `put_word`.
+const WIDTH: usize = 13;
+
+// The empty word, in the places that a line has no field for.
 const NIL: usize = WORD;
 
-// A field with nothing in it.
-const EMPTY: usize = WORD + 1;
+// A field with nothing in it: its comma alone.
+const EMPTY: usize = WORD + WIDTH;
 
 // Names of lines.
-const SECTION: usize = WORD + 2;
+const SECTION: usize = WORD + 2 * WIDTH;
 
-const TABLE: usize = WORD + 3;
+const TABLE: usize = WORD + 3 * WIDTH;
 
-const APPLICATION: usize = WORD + 4;
+const APPLICATION: usize = WORD + 4 * WIDTH;
 
-const DESCRIPTOR: usize = WORD + 5;
+const DESCRIPTOR: usize = WORD + 5 * WIDTH;
 
-const PROFILE: usize = WORD + 6;
+const PROFILE: usize = WORD + 6 * WIDTH;
 
-const LABEL: usize = WORD + 7;
+const LABEL: usize = WORD + 7 * WIDTH;
 
-const NAME: usize = WORD + 8;
+const NAME: usize = WORD + 8 * WIDTH;
 
-const BASE: usize = WORD + 9;
+const BASE: usize = WORD + 9 * WIDTH;
 
-const EXTENSION: usize = WORD + 10;
+const EXTENSION: usize = WORD + 10 * WIDTH;
 
-const IDENTIFIER: usize = WORD + 11;
+const IDENTIFIER: usize = WORD + 11 * WIDTH;
 
-const STOP: usize = WORD + 12;
+const STOP: usize = WORD + 12 * WIDTH;
 
-const RECORD: usize = WORD + 13;
+const RECORD: usize = WORD + 13 * WIDTH;
 
-const MODULE: usize = WORD + 14;
+const MODULE: usize = WORD + 14 * WIDTH;
 
 // Kinds of a section.
-const KIND_TABLE: usize = WORD + 15;
+const KIND_TABLE: usize = WORD + 15 * WIDTH;
 
-const NEW: usize = WORD + 16;
+const NEW: usize = WORD + 16 * WIDTH;
 
-const SAME: usize = WORD + 17;
+const SAME: usize = WORD + 17 * WIDTH;
 
-const STORED: usize = WORD + 18;
+const STORED: usize = WORD + 18 * WIDTH;
 
-const REPEATED: usize = WORD + 19;
+const REPEATED: usize = WORD + 19 * WIDTH;
 
-const NONE: usize = WORD + 20;
+const NONE: usize = WORD + 20 * WIDTH;
 
 // Stops.
-const END: usize = WORD + 21;
+const END: usize = WORD + 21 * WIDTH;
 
-const STUFFING: usize = WORD + 22;
+const STUFFING: usize = WORD + 22 * WIDTH;
 
-const SHORT: usize = WORD + 23;
+const SHORT: usize = WORD + 23 * WIDTH;
 
-const OVER_BUDGET: usize = WORD + 24;
+const OVER_BUDGET: usize = WORD + 24 * WIDTH;
 
-const STATE: usize = WORD + 25;
+const STATE: usize = WORD + 25 * WIDTH;
 
 // Classes of an application, and its control codes.
-const UNSIGNED: usize = WORD + 26;
+const UNSIGNED: usize = WORD + 26 * WIDTH;
 
-const SIGNED: usize = WORD + 27;
+const SIGNED: usize = WORD + 27 * WIDTH;
 
-const OTHER: usize = WORD + 28;
+const OTHER: usize = WORD + 28 * WIDTH;
 
-const WILDCARD: usize = WORD + 29;
+const WILDCARD: usize = WORD + 29 * WIDTH;
 
-const AUTOSTART: usize = WORD + 30;
+const AUTOSTART: usize = WORD + 30 * WIDTH;
 
-const PRESENT: usize = WORD + 31;
+const PRESENT: usize = WORD + 31 * WIDTH;
 
-const DESTROY: usize = WORD + 32;
+const DESTROY: usize = WORD + 32 * WIDTH;
 
-const KILL: usize = WORD + 33;
+const KILL: usize = WORD + 33 * WIDTH;
 
-const REMOTE: usize = WORD + 34;
+const REMOTE: usize = WORD + 34 * WIDTH;
 
-const RESERVED: usize = WORD + 35;
+const RESERVED: usize = WORD + 35 * WIDTH;
 
 // Kinds of a descriptor.
-const KIND_APPLICATION: usize = WORD + 36;
+const KIND_APPLICATION: usize = WORD + 36 * WIDTH;
 
-const NAMES: usize = WORD + 37;
+const NAMES: usize = WORD + 37 * WIDTH;
 
-const CAROUSEL: usize = WORD + 38;
+const CAROUSEL: usize = WORD + 38 * WIDTH;
 
-const BASES: usize = WORD + 39;
+const BASES: usize = WORD + 39 * WIDTH;
 
-const SELECTOR: usize = WORD + 40;
+const SELECTOR: usize = WORD + 40 * WIDTH;
 
-const IDENTIFIERS: usize = WORD + 41;
+const IDENTIFIERS: usize = WORD + 41 * WIDTH;
 
-const PATH: usize = WORD + 42;
+const PATH: usize = WORD + 42 * WIDTH;
 
-const RAW: usize = WORD + 43;
+const RAW: usize = WORD + 43 * WIDTH;
 
 // Loops, and that a label leads to none.
-const COMMON: usize = WORD + 44;
+const COMMON: usize = WORD + 44 * WIDTH;
 
-const OWN: usize = WORD + 45;
+const OWN: usize = WORD + 45 * WIDTH;
 
-const UNRESOLVED: usize = WORD + 46;
+const UNRESOLVED: usize = WORD + 46 * WIDTH;
 
-// The words in the order of the constants above, a space after each; the first is empty.
-fn put_word(out: &mut Page, at: usize, place: usize) -> usize {
-    put_word_of(
-        b" , section table application descriptor profile label name base extension identifier \
-          stop record module \
-          ,table ,new ,same ,stored ,repeated ,none \
-          ,end ,stuffing ,short ,budget ,state \
-          ,unsigned ,signed ,other ,wildcard \
-          ,autostart ,present ,destroy ,kill ,remote ,reserved \
-          ,application ,names ,carousel ,bases ,selector ,identifiers ,path ,raw \
-          ,common ,own ,unresolved",
-        place,
+// The words in the order of the constants above, each with spaces up to `WIDTH`; the first is empty.
+fn put_word(out: &mut Buffer, at: usize, start: usize) -> usize {
+    put_to_space(
+        b"             ,            section      table        application  descriptor   \
+          profile      label        name         base         extension    identifier   \
+          stop         record       module       \
+          ,table       ,new         ,same        ,stored      ,repeated    ,none        \
+          ,end         ,stuffing    ,short       ,budget      ,state       \
+          ,unsigned    ,signed      ,other       ,wildcard    \
+          ,autostart   ,present     ,destroy     ,kill        ,remote      ,reserved    \
+          ,application ,names       ,carousel    ,bases       \
+          ,selector    ,identifiers ,path        ,raw         \
+          ,common      ,own         ,unresolved  ",
+        start,
         out,
         at,
     )
 }
 
-// Puts the word before which stand `place` spaces.
-fn put_word_of(words: &[u8], place: usize, out: &mut Page, at: usize) -> usize {
+// Puts what stands from a place on and before the next space.
+fn put_to_space(words: &[u8], start: usize, out: &mut Buffer, at: usize) -> usize {
     let mut end = at;
-    let mut spaces: usize = 0;
-    let mut i: usize = 0;
+    let mut i = start;
     while i < words.len() {
-        if words[i] == b' ' {
-            spaces += 1;
-        } else if spaces == place {
-            end = text::put(out, end, &words[i..i + 1]);
+        let letter = words[i];
+        if letter == b' ' {
+            return end;
         }
+        end = text::put(out, end, &[letter]);
         i += 1;
     }
     end
 }
 
-fn put_field(out: &mut Page, at: usize, field: usize) -> usize {
+// A number gets its comma here, a word has it.
+fn put_field(out: &mut Buffer, at: usize, field: usize) -> usize {
     if field < WORD {
         let from = text::put(out, at, b",");
         return text::put_decimal(out, from, field as u64);
@@ -817,7 +779,7 @@ fn put_field(out: &mut Page, at: usize, field: usize) -> usize {
     put_word(out, at, field - WORD)
 }
 
-fn put_fields(out: &mut Page, at: usize, line: Line) -> usize {
+fn put_fields(out: &mut Buffer, at: usize, line: Line) -> usize {
     let mut end = at;
     let mut i: usize = 0;
     while i < 11 {
@@ -827,11 +789,16 @@ fn put_fields(out: &mut Page, at: usize, line: Line) -> usize {
     end
 }
 
+// After the name come the descriptor's loop, by name or by the application's place, and its place there.
 fn held_line(name: usize, holder: Holder, f: Fields) -> Line {
     let scope = holder.scope;
+    let holding = match scope {
+        Scope::Common => COMMON,
+        Scope::Own(i) => i,
+    };
     [
         name,
-        scope_field(scope),
+        holding,
         holder.place,
         f[0],
         f[1],
@@ -844,18 +811,8 @@ fn held_line(name: usize, holder: Holder, f: Fields) -> Line {
     ]
 }
 
-// A loop is named by the application's place.
-fn scope_field(scope: Scope) -> usize {
-    match scope {
-        Scope::Common => COMMON,
-        Scope::Own(i) => i,
-    }
-}
-
 // The page: lines are gathered in a lent buffer of 65,536 bytes, and written out when there might be
 // no room for another. `at` is where the next byte goes.
-
-type Page = [u8; 65_536];
 
 // Room enough for any line: the longest, of a remote carousel, has 61 bytes.
 const LONGEST_LINE: usize = 128;
@@ -867,8 +824,11 @@ const LAST_START: usize = 65_536 - LONGEST_LINE;
 // there is left out.
 const CLOSED: usize = 65_537;
 
-// Puts a line where there is room for it.
-fn put_line(out: &mut Page, at: usize, line: Line) -> usize {
+// Puts a line, if it has a name, where there is room for it.
+fn put_line(out: &mut Buffer, at: usize, line: Line) -> usize {
+    if line[0] == NIL {
+        return at;
+    }
     let mut end = at;
     if LAST_START < at {
         end = write_out(out, at);

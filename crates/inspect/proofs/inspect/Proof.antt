@@ -2,7 +2,7 @@
 -- Assumes nothing.
 use borrow.Author.Needs.{needs}
 use Prim.Native.Nat.{ℕ, _+_, _-_, _≤_, _<_}
-use mathlib.Core.Path.{_≡_, refl, sym, ap, _∙_}
+use mathlib.Core.Path.{_≡_, sym, ap, _∙_}
 use mathlib.Core.Bool.{true}
 use mathlib.Core.List.{List}
 use native.Mathlib.Omega.{arith}
@@ -21,7 +21,7 @@ use Rattle.inspect.proofs.inspect.Statement.{statement}
 use Rattle.inspect.proofs.inspect.Tie as tie
 
 abbrev Inv-loop : tie.InvT-loop
-Inv-loop stretch image₀ out₀ c₀ at₀ index₀ passed₀ image out c at index passed = (passed ≤ length stretch) × (index ≤ 65536) × (length image ≡ length image₀) × (ruledOf c ≡ true)
+Inv-loop stretch image₀ out₀ c₀ at₀ index₀ passed₀ image out c at index passed = (passed ≤ length stretch) × (index ≤ 65536) × (ruledOf c ≡ true)
 
 abbrev μ-loop : tie.MeasureT-loop
 μ-loop stretch image₀ out₀ c₀ at₀ index₀ passed₀ image out c at index passed = 65536 - index
@@ -39,16 +39,16 @@ turned stretch image c i p x t r h e w =
     (omega (arith, q .0), omega (arith, q .1), ap (λ (y : Took). ruledOf (y .state)) e ∙ q .2)
 
 -- it took a section
-taken : (c : tie.After-what2 Inv-loop μ-loop) → let l = c .before .before .before .before .before .before .before .before .loop in Turned (c .before .before .before .before .before .before .before .before .before .before .before .before .args .stretch .now) (l .index) (l .passed) (c .what2 .given .0 .0) (c .before .before .before .before .before .take .result .state)
+taken : (c : tie.After-what2 Inv-loop μ-loop) → let l = c .before .before .before .before .before .before .loop in Turned (c .before .before .before .before .before .before .before .before .before .args .stretch .now) (l .index) (l .passed) (c .what2 .given .0 .0) (c .before .before .before .take .result .state)
 taken c =
-    let l = c .before .before .before .before .before .before .before .before .loop in
-    turned (c .before .before .before .before .before .before .before .before .before .before .before .before .args .stretch .now) (l .image) (l .c) (l .index) (l .passed) (c .what2 .given .0 .0) _ (l .inv .3) (l .inv .0) (c .before .before .before .before .before .take .ensures .0) (c .what2 .given .1)
+    let l = c .before .before .before .before .before .before .loop in
+    turned (c .before .before .before .before .before .before .before .before .before .args .stretch .now) (l .image) (l .c) (l .index) (l .passed) (c .what2 .given .0 .0) _ (l .inv .2) (l .inv .0) (c .before .before .before .take .ensures .0) (c .what2 .given .1)
 
 empty-requires : tie.Need-empty-requires Inv-loop μ-loop
 empty-requires c κs = search needs
 
 loop-holds : tie.Need-loop-holds Inv-loop μ-loop
-loop-holds c = (omega arith, omega arith, refl, ap ruledOf (c .empty .ensures) ∙ empty-ruled)
+loop-holds c = (omega arith, omega arith, ap ruledOf (c .empty .ensures) ∙ empty-ruled)
 
 sub-take : tie.Need-sub-take Inv-loop μ-loop
 sub-take c = search needs
@@ -71,9 +71,6 @@ enum-known-what c = search needs
 finish-requires : tie.Need-finish-requires Inv-loop μ-loop
 finish-requires c κs = search needs
 
-same-length : tie.Need-same-length Inv-loop μ-loop
-same-length c = search needs
-
 returns : tie.Need-returns Inv-loop μ-loop
 returns c = search needs
 
@@ -81,7 +78,7 @@ enum-known-what-2 : tie.Need-enum-known-what-2 Inv-loop μ-loop
 enum-known-what-2 c = search needs
 
 add-next : tie.Need-add-next Inv-loop μ-loop
-add-next c = record { fits = lt-of-le-of-lt (taken (c .before) .1) (c .before .before .before .before .before .before .before .before .before .before .before .before .before .good .0 .0) }
+add-next c = record { fits = lt-of-le-of-lt (taken (c .before) .1) (c .before .before .before .before .before .before .before .before .before .before .good .0 .0) }
 
 sub-put-section : tie.Need-sub-put-section Inv-loop μ-loop
 sub-put-section c = search needs
@@ -95,9 +92,6 @@ part-put-section-end c = let p = taken (c .before .before) in omega (arith, p .1
 put-section-requires : tie.Need-put-section-requires Inv-loop μ-loop
 put-section-requires c κs = search needs
 
-same-length-2 : tie.Need-same-length-2 Inv-loop μ-loop
-same-length-2 c = search needs
-
 returns-2 : tie.Need-returns-2 Inv-loop μ-loop
 returns-2 c = search needs
 
@@ -108,7 +102,7 @@ loop-less : tie.Need-loop-less Inv-loop μ-loop
 loop-less c = let p = taken (c .before .before .before .before .before) in omega (arith, p .0)
 
 loop-again : tie.Need-loop-again Inv-loop μ-loop
-loop-again c = let l = c .before .before .before .before .before .before .before .before .before .before .before .before .before .loop in let p = taken (c .before .before .before .before .before) in (p .1, omega (arith, p .0), c .before .before .before .before .before .before .before .before .before .before .take .kept .1 .1 .0 ∙ l .inv .2, p .2)
+loop-again c = let p = taken (c .before .before .before .before .before) in (p .1, omega (arith, p .0), p .2)
 
 pub inspect-spec : {M : Type 1} → statement M
 inspect-spec =
@@ -125,7 +119,6 @@ inspect-spec =
     take-requires
     enum-known-what
     finish-requires
-    same-length
     returns
     enum-known-what-2
     add-next
@@ -133,7 +126,6 @@ inspect-spec =
     part-put-section-start
     part-put-section-end
     put-section-requires
-    same-length-2
     returns-2
     add-index
     loop-less

@@ -14,8 +14,11 @@ abbrev μ-loop : tie.MeasureT-loop
 loop-holds : tie.Need-loop-holds Inv-loop μ-loop
 loop-holds c = search needs
 
-put-extension-requires : tie.Need-put-extension-requires Inv-loop μ-loop
-put-extension-requires c κs = search needs
+extension-line-requires : tie.Need-extension-line-requires Inv-loop μ-loop
+extension-line-requires c κs = search needs
+
+put-line-requires : tie.Need-put-line-requires Inv-loop μ-loop
+put-line-requires c κs = search needs
 
 add-m : tie.Need-add-m Inv-loop μ-loop
 add-m c = search needs
@@ -36,7 +39,8 @@ put-extensions-spec =
     Inv-loop
     μ-loop
     loop-holds
-    put-extension-requires
+    extension-line-requires
+    put-line-requires
     add-m
     loop-less
     loop-again

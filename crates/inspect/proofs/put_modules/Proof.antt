@@ -14,12 +14,6 @@ abbrev μ-loop : tie.MeasureT-loop
 loop-holds : tie.Need-loop-holds Inv-loop μ-loop
 loop-holds c = search needs
 
-cast-if1 : tie.Need-cast-if1 Inv-loop μ-loop
-cast-if1 c = search needs
-
-returns : tie.Need-returns Inv-loop μ-loop
-returns c = search needs
-
 mul-m : tie.Need-mul-m Inv-loop μ-loop
 mul-m c = search needs
 
@@ -41,8 +35,8 @@ loop-less c = search needs
 loop-again : tie.Need-loop-again Inv-loop μ-loop
 loop-again c = search needs
 
-returns-2 : tie.Need-returns-2 Inv-loop μ-loop
-returns-2 c = search needs
+returns : tie.Need-returns Inv-loop μ-loop
+returns c = search needs
 
 pub put-modules-spec : {M : Type 1} → statement M
 put-modules-spec =
@@ -51,8 +45,6 @@ put-modules-spec =
     Inv-loop
     μ-loop
     loop-holds
-    cast-if1
-    returns
     mul-m
     element-copy-out-m
     module-line-requires
@@ -60,4 +52,4 @@ put-modules-spec =
     add-i
     loop-less
     loop-again
-    returns-2)
+    returns)
