@@ -23,7 +23,7 @@ use Rattle.carousel.specs.Step.{refusing, new, same, repeated, stored, m
 use Rattle.carousel.specs.Matching.{blockMatches, heardMatches, heardBytes}
 use Rattle.carousel.proofs.Views.{Held, after, Slot, slot, hit, reply, isNew}
 use Rattle.record.proofs.Laws.Marks.{mark-same, mark-other}
-use Rattle.record.proofs.Laws.Lies.{block-room, blocks-apart}
+use Rattle.record.proofs.Laws.Where.{block-room, blocks-apart}
 use Rattle.record.proofs.Laws.Places.{number-at, place-is}
 use Rattle.carousel.proofs.Laws.Images.{length-over, over-same, over-before, over-after}
 use Rattle.record.proofs.Laws.Rule.{Kept, number-small, in-words, mark-kept}

@@ -23,7 +23,7 @@ use Rattle.handout.specs.Calls.{handoutTests, handoutNumber, handedOut, 
 use Rattle.record.proofs.Laws.Tests.{alike}
 use Rattle.record.proofs.Laws.Places.{size-pos}
 use Rattle.record.proofs.Laws.Rule.{Kept, kept, ruled-says}
-use Rattle.record.proofs.Laws.Lies.{modules-inside}
+use Rattle.record.proofs.Laws.Where.{modules-inside}
 
 -- the clear ones among n blocks from b on
 module _ (ws : List ℕ) (first : ℕ) where

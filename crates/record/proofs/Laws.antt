@@ -6,4 +6,4 @@ pub mod Says
 pub mod Entries
 pub mod Words
 pub mod Rule
-pub mod Lies
+pub mod Where

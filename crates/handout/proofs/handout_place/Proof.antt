@@ -12,7 +12,7 @@ use Rattle.handout.specs.Calls.{handoutNumber}
 use Rattle.record.proofs.Laws.Rule.{kept, ruled-says, ruled-count}
 use Rattle.record.proofs.Laws.Says.{says-count, says-module, says-start}
 use Rattle.handout.proofs.Laws.Calls.{given-out, out-none, out-part, place-none, place-part}
-use Rattle.record.proofs.Laws.Lies.{modules-inside}
+use Rattle.record.proofs.Laws.Where.{modules-inside}
 use borrow.Author.Needs.{needs}
 use Rattle.handout.proofs.handout_place.Statement.{statement}
 use Rattle.handout.proofs.handout_place.Tie as tie

@@ -1,3 +1,4 @@
+-- Where modules and blocks lie in an image.
 -- Assumes nothing.
 use Prim.Native.Nat.{ℕ, _+_, _≤_, _<_}
 use mathlib.Core.Path.{_≡_, ap}
