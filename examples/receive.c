@@ -1,7 +1,7 @@
 /* The paper's program over the archive: reads up to 65,536 bytes of sections from standard input, says what became of each and
  * why it stopped, and then, for each module number given as an argument, whether it is complete.
  *
- *     gcc -Iinclude examples/receive.c target/staticlib/libbox_api.a -o receive && ./receive 1 2 < sections */
+ *     gcc -Iinclude examples/receive.c target/staticlib/libnebosvar.a -o receive && ./receive 1 2 < sections */
 #include <stdio.h>
 #include <stdlib.h>
 #include <unistd.h>

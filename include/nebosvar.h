@@ -1,4 +1,4 @@
-/* Nebosvar: the receiver of wheelhouse boxes. Link target/staticlib/libbox_api.a (x86-64 Linux).
+/* Nebosvar: the receiver of wheelhouse boxes. Link target/staticlib/libnebosvar.a (x86-64 Linux).
  *
  * Every call is proved to end with its one stated answer, whatever bytes, record and image it is lent:
  * there is nothing to check first. What C can not say is left to the caller: each pointer is to as many
@@ -182,7 +182,7 @@ typedef struct {
     size_t common;       /* descriptors */
     size_t applications;
     uint16_t test;
-    uint16_t type;
+    uint16_t application_type;
     uint8_t version;
     uint8_t section;
     uint8_t last;

@@ -2,7 +2,7 @@
 """The C side: include/nebosvar.h declares what the source exports, field by field, and the C example, compiled with every warning an error, prints what the paper's program in Python prints, and of each module what the Python receiver says.
 
     embed.py          compare the declarations
-    embed.py run      the same, then compile and run examples/receive.c over target/staticlib/libbox_api.a"""
+    embed.py run      the same, then compile and run examples/receive.c over target/staticlib/libnebosvar.a"""
 import platform
 import re
 import subprocess
@@ -14,7 +14,7 @@ import program
 import receiver
 from second import ROOT
 
-SOURCES = [ROOT / "crates" / c / "src" / "lib.rt" for c in ("box_api", "reading", "record")]
+SOURCES = [ROOT / "crates" / c / "src" / "lib.rt" for c in ("nebosvar", "ait_numbers", "carousel_record")]
 HEADER = ROOT / "include" / "nebosvar.h"
 C_TYPES = {"uint8_t": "u8", "uint16_t": "u16", "uint32_t": "u32", "size_t": "usize"}
 
@@ -167,7 +167,7 @@ def compile_strictly(source, archive, receive):
 
 
 def run_example():
-    archive = ROOT / "target" / "staticlib" / "libbox_api.a"
+    archive = ROOT / "target" / "staticlib" / "libnebosvar.a"
     check_needs(archive)
     with tempfile.TemporaryDirectory() as folder:
         command = compile_strictly(ROOT / "examples" / "receive.c", archive, Path(folder) / "receive")

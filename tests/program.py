@@ -2,13 +2,13 @@
 """The paper's program in plain Python, and its tests.
 
 Written from the paper (01, "The run" and the numbered refusals; points R1 to R7), not from the Rattle code: the carousel's rules
-are tests/receiver.py, the application rules tests/applications_test.py. Each input below says what it shows and, where the paper's
+are tests/receiver.py, the application rules tests/test_ait.py. Each input below says what it shows and, where the paper's
 words tell it, what must come out.
 
-    program.py                 check the inputs, and compare crates/nebosvar/stdin and stdout with the paper's printed example
+    program.py                 check the inputs, and compare crates/receive/stdin and stdout with the paper's printed example
     program.py sample          the same, but first write the two where they are not there
     program.py run CMD ARG...  run CMD on every input and compare what it prints, byte for byte; then its ends closed, broken, slow
-    program.py built           the same of target/bin/nebosvar, which 'rt check nebosvar' builds
+    program.py built           the same of target/bin/receive, which 'rt check receive' builds
 """
 import fcntl
 import os
@@ -24,9 +24,9 @@ import time
 from pathlib import Path
 from typing import NamedTuple
 
-import applications_test
+import test_ait
 import receiver
-from applications_test import ait, app, d00, desc
+from test_ait import ait, app, d00, desc
 from receiver import IMAGE, Record, ddb, dii
 from second import ROOT, with_crc
 
@@ -57,7 +57,7 @@ def taken(record, image, s):
     """One section's number, its kind, and the record after it. The image changes in place."""
     if s[0] != 0x74:
         return receiver.step(record, image, s)
-    number = applications_test.judged(s)[0]
+    number = test_ait.judged(s)[0]
     return number, "none" if number else "table", record
 
 
@@ -576,7 +576,7 @@ def under_the_kit(path):
 
 
 def built():
-    return under_the_kit(ROOT / "target" / "bin" / "nebosvar")
+    return under_the_kit(ROOT / "target" / "bin" / "receive")
 
 
 def check_built(command, cases):
@@ -595,7 +595,7 @@ def check_built(command, cases):
 def settle_sample(write):
     """The crate's stored files are the paper's example."""
     for name, made in (("stdin", EXAMPLE.stdin), ("stdout", PRINTED)):
-        path = ROOT / "crates" / "nebosvar" / name
+        path = ROOT / "crates" / "receive" / name
         if write and not path.exists():
             path.parent.mkdir(exist_ok=True)
             path.write_bytes(made)

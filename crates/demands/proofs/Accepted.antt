@@ -1,5 +1,4 @@
 -- What DEMAND 2 rests on: each answer from the facts of the section, and the facts from the answer; and the receiver's kinds from the answers.
--- Assumes nothing.
 use Prim.Native.Nat.{ℕ, _<_}
 use mathlib.Core.Path.{_≡_, refl, sym, ap, subst, _∙_}
 use mathlib.Core.Bool.{Bool, true, false, cond, _&&_}
@@ -17,29 +16,29 @@ use Rattle.section.specs.declared.Rules.the-variants.{Application}
 use Rattle.section.specs.Header.{headerOf, applicationTable}
 use Rattle.section.specs.Answer.{refused, onChecked}
 use Rattle.section.proofs.Laws.Exact.{accepted-has}
-use Rattle.applications.specs.declared.Table.{Table}
-use Rattle.applications.specs.declared.ReadAnswer.{ReadAnswer}
-use Rattle.applications.specs.declared.ReadAnswer.the-variants as reading
-use Rattle.applications.specs.Acceptance.{judgedOf, GoodTable}
-use Rattle.applications.specs.Answers.{readAnswer, tableOf}
-use Rattle.applications.proofs.Laws.Acceptance.{judged-has}
-use Rattle.applications.proofs.Laws.Exact.{accepted-exactly, read-exactly}
-use Rattle.messages.specs.Heard.{Arrived, Heard, announced, arrived, heardOf}
-use Rattle.messages.specs.Good.{GoodAnnouncement, GoodBlock, saidAnnouncement, saidBlock}
-use Rattle.messages.proofs.Good.{announcement-says, announcement-heard, block-says, block-heard}
-use Rattle.record.specs.declared.Carousel.{Carousel}
-use Rattle.carousel.specs.declared.Answer.{Answer}
-use Rattle.carousel.specs.declared.Answer.the-variants as answer
-use Rattle.record.specs.Record.{recordOf, announcedBy, moduleAt, placeOf, received, blockAt, ruledOf}
-use Rattle.carousel.specs.Step.{blockRefusal, bytesDiffer, sameAnnounced, Outcome, refusing, matched, onArrived, onAnnounced, onHeard, answerOf, steppedOf}
-use Rattle.carousel.specs.Matching.{Matching, blockMatches, heardMatches}
-use Rattle.carousel.proofs.View.{fits}
-use Rattle.carousel.proofs.Matching.{matching-means}
-use Rattle.carousel.proofs.Simulation.{outcome-ruled}
-use Rattle.carousel.proofs.Exact.{new-exactly, same-exactly, stored-exactly, repeated-exactly, same-means}
-use Rattle.record.proofs.Laws.Places.{number-at, place-is, same-is, is-same}
-use Rattle.record.proofs.Laws.Rule.{kept, ruled-says}
-use Rattle.carousel.proofs.Laws.Outcomes.{announced-same, announced-new, matched-clear, matched-same, arrived-good}
+use Rattle.ait_read.specs.declared.Table.{Table}
+use Rattle.ait_read.specs.declared.ReadAnswer.{ReadAnswer}
+use Rattle.ait_read.specs.declared.ReadAnswer.the-variants as reading
+use Rattle.ait_read.specs.Acceptance.{tableJudged, GoodTable}
+use Rattle.ait_read.specs.Answers.{readAnswer, readTable}
+use Rattle.ait_read.proofs.Laws.Acceptance.{judged-has}
+use Rattle.ait_read.proofs.Laws.Exact.{accepted-exactly, read-exactly}
+use Rattle.carousel_messages.specs.Heard.{Arrived, Heard, announced, arrived, heardOf}
+use Rattle.carousel_messages.specs.Good.{GoodAnnouncement, GoodBlock, saidAnnouncement, saidBlock}
+use Rattle.carousel_messages.proofs.Good.{announcement-says, announcement-heard, block-says, block-heard}
+use Rattle.carousel_record.specs.declared.Carousel.{Carousel}
+use Rattle.carousel_step.specs.declared.Answer.{Answer}
+use Rattle.carousel_step.specs.declared.Answer.the-variants as answer
+use Rattle.carousel_record.specs.Record.{recordOf, announcedBy, moduleAt, placeOf, received, blockAt, ruledOf}
+use Rattle.carousel_step.specs.Step.{blockRefusal, bytesDiffer, sameAnnounced, StepOutcome, refusing, matched, onArrived, onAnnounced, onHeard, answerOf, steppedOf}
+use Rattle.carousel_step.specs.Matching.{Matching, blockMatches, heardMatches}
+use Rattle.carousel_step.proofs.View.{fits}
+use Rattle.carousel_step.proofs.Matching.{matching-means}
+use Rattle.carousel_step.proofs.Simulation.{outcome-ruled}
+use Rattle.carousel_step.proofs.Exact.{new-exactly, same-exactly, stored-exactly, repeated-exactly, same-means}
+use Rattle.carousel_record.proofs.Laws.Places.{number-at, place-is, same-is, is-same}
+use Rattle.carousel_record.proofs.Laws.Rule.{kept, ruled-says}
+use Rattle.carousel_step.proofs.Laws.Outcomes.{announced-same, announced-new, matched-clear, matched-same, arrived-good}
 use Rattle.receiver.specs.declared.Fate.{Fate}
 use Rattle.receiver.specs.declared.Fate.the-variants as fate
 use Rattle.receiver.specs.Run.{readFate, tableFate, carouselFate, givenOf}
@@ -48,9 +47,9 @@ use Rattle.receiver.proofs.Laws.Fates.{fate-table, fate-other, fate-tells}
 -- AN APPLICATION SECTION: whatever table is read, the section is a good one
 pub read-good : (s : List ℕ) (t : Table) → readAnswer s ≡ reading.Accepted t → GoodTable s
 unfolding readAnswer
-read-good s t e = go (judgedOf s) refl e
+read-good s t e = go (tableJudged s) refl e
   where
-    go : (c : Checked) → judgedOf s ≡ c → onChecked c (λ r. reading.Refused r) (λ h. reading.Accepted (tableOf h s)) ≡ reading.Accepted t → GoodTable s
+    go : (c : Checked) → tableJudged s ≡ c → onChecked c (λ r. reading.Refused r) (λ h. reading.Accepted (readTable h s)) ≡ reading.Accepted t → GoodTable s
     go (checked.Refused r) j e = let z : _≡_ {A = ℕ} 0 1 = cc in absurd (omega arith)
     go (checked.Accepted h) j e = accepted-exactly s .0 (j ∙ ap checked.Accepted (accepted-has Application s h (judged-has s h j .0) .0))
 
@@ -59,12 +58,12 @@ module _ (c : Carousel) (s image : List ℕ) where
   -- a record that keeps its rule answers by what was heard
   by-heard : ruledOf c ≡ true → (h : Heard) → heardOf s ≡ h → steppedOf c s image .answer ≡ answerOf (onHeard (recordOf c) image h)
   unfolding steppedOf
-  by-heard r h e = ap (λ (o : Outcome). answerOf o) (outcome-ruled c s image r) ∙ ap (λ (x : Heard). answerOf (onHeard (recordOf c) image x)) e
+  by-heard r h e = ap (λ (o : StepOutcome). answerOf o) (outcome-ruled c s image r) ∙ ap (λ (x : Heard). answerOf (onHeard (recordOf c) image x)) e
 
   module _ (r : ruledOf c ≡ true) (g : GoodAnnouncement s) where
-    by-announcement : (o : Outcome) → onAnnounced (recordOf c) (saidAnnouncement s) ≡ o → steppedOf c s image .answer ≡ answerOf o
+    by-announcement : (o : StepOutcome) → onAnnounced (recordOf c) (saidAnnouncement s) ≡ o → steppedOf c s image .answer ≡ answerOf o
     unfolding onHeard
-    by-announcement o e = by-heard r (announced (saidAnnouncement s)) (announcement-says s g) ∙ ap (λ (x : Outcome). answerOf x) e
+    by-announcement o e = by-heard r (announced (saidAnnouncement s)) (announcement-says s g) ∙ ap (λ (x : StepOutcome). answerOf x) e
 
     pub is-same-announcement : announcedBy c ≡ saidAnnouncement s → steppedOf c s image .answer ≡ answer.Same
     is-same-announcement e = by-announcement _ (announced-same (recordOf c) (saidAnnouncement s) (same-means (announcedBy c) (saidAnnouncement s) .1 e))
@@ -120,12 +119,12 @@ module _ (c : Carousel) (s image : List ℕ) where
       )
 
   module _ (r : ruledOf c ≡ true) (g : GoodBlock s) (i : ℕ) (m : At (saidBlock s) i) where
-    by-block : (o : Outcome) → matched (recordOf c) image i (saidBlock s) ≡ o → steppedOf c s image .answer ≡ answerOf o
+    by-block : (o : StepOutcome) → matched (recordOf c) image i (saidBlock s) ≡ o → steppedOf c s image .answer ≡ answerOf o
     unfolding onHeard
     by-block o e =
         let p = passes r (saidBlock s) i m in
         let q = arrived-good (recordOf c) image (saidBlock s) (p .0) ∙ ap (λ (j : ℕ). matched (recordOf c) image j (saidBlock s)) (p .1) in
-        by-heard r (arrived (saidBlock s)) (block-says s g) ∙ ap (λ (x : Outcome). answerOf x) (q ∙ e)
+        by-heard r (arrived (saidBlock s)) (block-says s g) ∙ ap (λ (x : StepOutcome). answerOf x) (q ∙ e)
 
     pub is-stored : received (recordOf c) i (saidBlock s .block) ≡ false → steppedOf c s image .answer ≡ answer.Stored
     is-stored e = by-block _ (matched-clear (recordOf c) image i (saidBlock s) e)

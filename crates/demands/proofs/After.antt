@@ -1,5 +1,4 @@
 -- What a run from a just accepted new announcement leaves of a module, block by block: the lemmas behind the statements of demand 3.
--- Assumes nothing.
 use Prim.Native.Nat.{ℕ, _*_, _<_}
 use mathlib.Core.Path.{_≡_, refl, sym, ap, ap₂, _∙_}
 use mathlib.Core.Logic.{_↔_}
@@ -11,21 +10,21 @@ use lib.ListN.{length}
 use borrow.Author.Tests.{lt-ltb, le-ltb, not-false}
 use Rattle.wire.specs.Tests.{firstMet}
 use Rattle.wire.proofs.Laws.Order.{none-exactly}
-use Rattle.messages.specs.Limits.{mostBlocks}
-use Rattle.messages.specs.Heard.{Announced, heardOf}
-use Rattle.record.specs.Marks.{clearAmong}
-use Rattle.record.specs.Record.{recordOf, moduleAt, placeOf, bytesOf, blockCount, received, missingOf, completeOf}
-use Rattle.record.specs.Refusals.{meets13, meets15}
-use Rattle.handout.specs.Calls.{handoutTests, handoutNumber, handedOut}
-use Rattle.carousel.proofs.Views.{Slot, slot, hit}
-use Rattle.record.proofs.Laws.Blocks.{some-block}
-use Rattle.record.proofs.Laws.Places.{place-is, block-size-pos, size-pos}
-use Rattle.record.proofs.Laws.Rule.{Kept}
-use Rattle.carousel.proofs.View.{slot-marked}
-use Rattle.carousel.proofs.Matching.{matching-means}
-use Rattle.handout.proofs.Complete.{complete-means, handout-part}
+use Rattle.carousel_messages.specs.Limits.{mostBlocks}
+use Rattle.carousel_messages.specs.Heard.{Announced, heardOf}
+use Rattle.carousel_record.specs.Marks.{clearAmong}
+use Rattle.carousel_record.specs.Record.{recordOf, moduleAt, placeOf, bytesOf, blockCount, received, missingOf, completeOf}
+use Rattle.carousel_record.specs.Refusals.{meets13, meets15}
+use Rattle.carousel_handout.specs.Calls.{handoutTests, handoutNumber, handedOut}
+use Rattle.carousel_step.proofs.Views.{Slot, slot, hit}
+use Rattle.carousel_record.proofs.Laws.Blocks.{some-block}
+use Rattle.carousel_record.proofs.Laws.Places.{place-is, block-size-pos, size-pos}
+use Rattle.carousel_record.proofs.Laws.Rule.{Kept}
+use Rattle.carousel_step.proofs.View.{slot-marked}
+use Rattle.carousel_step.proofs.Matching.{matching-means}
+use Rattle.carousel_handout.proofs.Complete.{complete-means, handout-part}
 use Rattle.receiver.specs.Run.{Held, walk}
-use Rattle.demands.specs.Demand.{Begun, NoNew, told, modules, blocks, matches, sectionsFor, bytesIn, missingIn, isComplete, Came, firstData, joined, RepeatsAgree, FoundIn}
+use Rattle.demands.specs.Demand.{Begun, NoNew, told, modules, blocks, matches, sectionsFor, bytesIn, missingIn, isComplete, Came, firstData, joinedBlocks, RepeatsAgree, FoundIn}
 use Rattle.demands.proofs.Given.{saying, begun-ruled, begun-clear}
 use Rattle.demands.proofs.Lists.{joined-ext, clear-ext, some, some-holds, holds-some}
 use Rattle.demands.proofs.Alike.{part-slots, Alike, alike-sym, alike-trans}
@@ -77,10 +76,10 @@ module _ (x : Held) (start : Begun x) (i : ℕ) (there : i < modules x) where
     mark-after : (b : ℕ) → b < blocks x i → received (recordOf (walk x ss .state)) i b ≡ came ss b
     mark-after b l = sym (slot-marked (saying (walk x ss)) i b) ∙ ap (λ (v : Slot). v .marked) (view-after b l)
 
-    bytes-after : bytesIn (walk x ss) i ≡ joined (blocks x i) (λ b. cond (came ss b) (firstData x i ss b) (slot (saying x) i b .bytes))
+    bytes-after : bytesIn (walk x ss) i ≡ joinedBlocks (blocks x i) (λ b. cond (came ss b) (firstData x i ss b) (slot (saying x) i b .bytes))
     bytes-after =
         part-slots (saying (walk x ss)) kept-after i
-        ∙ ap (λ (a : Announced). joined (blockCount a i) (λ b. slot (saying (walk x ss)) i b .bytes)) (stays .same)
+        ∙ ap (λ (a : Announced). joinedBlocks (blockCount a i) (λ b. slot (saying (walk x ss)) i b .bytes)) (stays .same)
         ∙ joined-ext (blocks x i) _ _ (λ b l. ap (λ (v : Slot). v .bytes) (view-after b l))
 
     -- COMPLETE: every block came
@@ -92,7 +91,7 @@ module _ (x : Held) (start : Begun x) (i : ℕ) (there : i < modules x) where
         )
 
     -- and then its bytes are their data
-    pub complete-bytes : isComplete (walk x ss) i ≡ true → bytesIn (walk x ss) i ≡ joined (blocks x i) (λ b. firstData x i ss b)
+    pub complete-bytes : isComplete (walk x ss) i ≡ true → bytesIn (walk x ss) i ≡ joinedBlocks (blocks x i) (λ b. firstData x i ss b)
     complete-bytes c = bytes-after ∙ joined-ext (blocks x i) _ _ (λ b l. rw (came-means ss b .1 (complete-came .0 c b l)))
 
     -- THE HAND-OUT. The module is found by its number; and where a block came, and there is always a first one, the image holds the sizes together.
@@ -118,7 +117,7 @@ module _ (x : Held) (start : Begun x) (i : ℕ) (there : i < modules x) where
           (λ f. t .1 (rw (stays .ruled), (rw (found, lt-ltb i (modules (walk x ss)) (rw (stays .same) there)), (room f, (rw (found, complete-came .1 f), tt))))),
         )
 
-    pub handed-bytes : isComplete (walk x ss) i ≡ true → handedOut (walk x ss .state) (walk x ss .image) its-number ≡ joined (blocks x i) (λ b. firstData x i ss b)
+    pub handed-bytes : isComplete (walk x ss) i ≡ true → handedOut (walk x ss .state) (walk x ss .image) its-number ≡ joinedBlocks (blocks x i) (λ b. firstData x i ss b)
     handed-bytes c =
         handout-part (walk x ss .state) (walk x ss .image) its-number (handed-came .1 (complete-came .0 c)) ∙ rw found (complete-bytes c)
 

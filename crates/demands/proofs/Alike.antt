@@ -1,5 +1,4 @@
 -- Two records and images that agree on all that concerns one module: what shows of them, and that they go on agreeing.
--- Assumes nothing.
 use Prim.Native.Nat.{ℕ, _*_, _<_}
 use mathlib.Core.Path.{_≡_, refl, sym, ap, _∙_}
 use mathlib.Core.Bool.{Bool, true, false, not, cond}
@@ -11,20 +10,20 @@ use lib.Seq.{drop-drop}
 use borrow.Author.Tests.{eqb-true}
 use Rattle.wire.proofs.Laws.Tests.{both, clash}
 use Rattle.section.specs.Answer.{refused}
-use Rattle.messages.specs.Limits.{mostBlocks}
-use Rattle.messages.specs.Heard.{Announced, Arrived, Heard, refusal, announced, arrived}
-use Rattle.carousel.specs.declared.Answer.{Answer}
-use Rattle.carousel.specs.declared.Answer.the-variants as answer
-use Rattle.record.specs.Marks.{clearAmong}
-use Rattle.record.specs.Record.{Record, moduleAt, blockCount, blockLength, blockAt, partOf, missingOf}
-use Rattle.carousel.specs.Step.{meets12, blockRefusal, refusing, matched, onArrived, onHeard, answerOf}
-use Rattle.carousel.specs.Matching.{blockFor, heardFor, heardMatches}
-use Rattle.carousel.proofs.Views.{Held as Said, after, Slot, slot, reply, isNew}
-use Rattle.record.proofs.Laws.Places.{block-size-pos}
-use Rattle.record.proofs.Laws.Rule.{Kept}
-use Rattle.carousel.proofs.View.{fits, spot, matched-answer, slot-marked, at-place, arrived-old, fixed, view-law}
-use Rattle.carousel.proofs.Matching.{matching-for}
-use Rattle.demands.specs.Demand.{joined}
+use Rattle.carousel_messages.specs.Limits.{mostBlocks}
+use Rattle.carousel_messages.specs.Heard.{Announced, Arrived, Heard, refusal, announced, arrived}
+use Rattle.carousel_step.specs.declared.Answer.{Answer}
+use Rattle.carousel_step.specs.declared.Answer.the-variants as answer
+use Rattle.carousel_record.specs.Marks.{clearAmong}
+use Rattle.carousel_record.specs.Record.{Record, moduleAt, blockCount, blockLength, blockAt, modulePart, missingOf}
+use Rattle.carousel_step.specs.Step.{meets12, blockRefusal, refusing, matched, onArrived, onHeard, answerOf}
+use Rattle.carousel_step.specs.Matching.{blockFor, heardFor, heardMatches}
+use Rattle.carousel_step.proofs.Views.{Held as Said, after, Slot, slot, reply, isNew}
+use Rattle.carousel_record.proofs.Laws.Places.{block-size-pos}
+use Rattle.carousel_record.proofs.Laws.Rule.{Kept}
+use Rattle.carousel_step.proofs.View.{fits, spot, matched-answer, slot-marked, at-place, arrived-old, fixed, view-law}
+use Rattle.carousel_step.proofs.Matching.{matching-for}
+use Rattle.demands.specs.Demand.{joinedBlocks}
 use Rattle.demands.proofs.Lists.{joined-ext, joined-pieces, clear-ext}
 
 -- a module's part of the image is its blocks' views laid end to end
@@ -32,8 +31,8 @@ slot-bytes : (x : Said) (i b : ℕ) → take (blockLength (x .says .announced) i
 unfolding slot blockAt
 slot-bytes x i b = rw (drop-drop (b * x .says .announced .blockSize) (getD (x .says .starts) i 0) (x .image))
 
-pub part-slots : (x : Said) → Kept (x .says) → (i : ℕ) → partOf (x .says) (x .image) i ≡ joined (blockCount (x .says .announced) i) (λ b. slot x i b .bytes)
-unfolding partOf
+pub part-slots : (x : Said) → Kept (x .says) → (i : ℕ) → modulePart (x .says) (x .image) i ≡ joinedBlocks (blockCount (x .says .announced) i) (λ b. slot x i b .bytes)
+unfolding modulePart
 part-slots x k i =
     let a = x .says .announced in
     sym (joined-pieces (a .blockSize) (moduleAt a i .size) (block-size-pos (a .blockSize) (a .modules) (k .limits)) (drop (getD (x .says .starts) i 0) (x .image)))
@@ -59,11 +58,11 @@ alike-trans i x y z p q = record {
 }
 
 -- WHAT SHOWS: the module's bytes, and its missing blocks
-pub alike-bytes : (i : ℕ) (x y : Said) → Alike i x y → partOf (x .says) (x .image) i ≡ partOf (y .says) (y .image) i
+pub alike-bytes : (i : ℕ) (x y : Said) → Alike i x y → modulePart (x .says) (x .image) i ≡ modulePart (y .says) (y .image) i
 alike-bytes i x y al =
     part-slots x (al .kept-l) i
     ∙ joined-ext (blockCount (x .says .announced) i) _ _ (λ b l. ap (λ (v : Slot). v .bytes) (al .slots b l))
-    ∙ ap (λ (a : Announced). joined (blockCount a i) (λ b. slot y i b .bytes)) (sym (al .told))
+    ∙ ap (λ (a : Announced). joinedBlocks (blockCount a i) (λ b. slot y i b .bytes)) (sym (al .told))
     ∙ sym (part-slots y (al .kept-r) i)
 
 pub alike-missing : (i : ℕ) (x y : Said) → Alike i x y → missingOf (x .says) i ≡ missingOf (y .says) i

@@ -1,5 +1,4 @@
 -- THE PAPER'S FALSE BEARINGS (01), each as what the theorems exclude.
--- Assumes nothing.
 use Prim.Native.Nat.{ℕ, _<_}
 use mathlib.Core.Path.{_≡_, sym, ap}
 use mathlib.Core.Bool.{true, false}
@@ -7,16 +6,16 @@ use mathlib.Core.List.{List}
 use Rattle.wire.proofs.Laws.Tests.{clash}
 use Rattle.section.specs.Header.{bodyOf}
 use Rattle.section.specs.Answer.{refused}
-use Rattle.messages.specs.Message.{payloadOf}
-use Rattle.messages.specs.Contents.{dataOf}
-use Rattle.messages.specs.Heard.{Arrived, arrived, heardOf}
-use Rattle.messages.proofs.Good.{block-heard}
-use Rattle.record.specs.declared.Carousel.{Carousel}
-use Rattle.carousel.specs.declared.Answer.the-variants as answer
-use Rattle.carousel.specs.Step.{steppedOf, imageOf}
-use Rattle.record.specs.Blocks.{blocksOf, lengthOf}
-use Rattle.record.proofs.Laws.Blocks.{length-pos}
-use Rattle.carousel.proofs.Steps.{refusal-changes-nothing}
+use Rattle.carousel_messages.specs.Message.{payloadOf}
+use Rattle.carousel_messages.specs.Contents.{blockDataOf}
+use Rattle.carousel_messages.specs.Heard.{Arrived, arrived, heardOf}
+use Rattle.carousel_messages.proofs.Good.{block-heard}
+use Rattle.carousel_record.specs.declared.Carousel.{Carousel}
+use Rattle.carousel_step.specs.declared.Answer.the-variants as answer
+use Rattle.carousel_step.specs.Step.{steppedOf, imageOf}
+use Rattle.carousel_record.specs.Blocks.{blocksOf, blockLengthOf}
+use Rattle.carousel_record.proofs.Laws.Blocks.{length-pos}
+use Rattle.carousel_step.proofs.Steps.{refusal-changes-nothing}
 use Rattle.receiver.specs.Run.{Held, walk}
 use Rattle.demands.specs.Demand.{Begun, NoNew, modules, blocks, matches, isComplete, Holds}
 use Rattle.demands.proofs.Three.{completeness}
@@ -30,11 +29,11 @@ arrivals-do-not-count x start i there ss n b l none c =
     clash _ (h .2) (none (h .0) (h .1))
 
 -- "A last block of 0 bytes when the size divides evenly." Every block of a module has bytes.
-pub no-empty-block : (blockSize size b : ℕ) → 0 < blockSize → b < blocksOf blockSize size → 0 < lengthOf blockSize size b
+pub no-empty-block : (blockSize size b : ℕ) → 0 < blockSize → b < blocksOf blockSize size → 0 < blockLengthOf blockSize size b
 no-empty-block bs z b p l = length-pos bs z p b l
 
 -- "Adaptation bytes stored as data." The data of a block are its payload's, after the payload's six bytes; the payload begins after the adaptation bytes.
-pub adaptation-is-no-data : (s : List ℕ) (d : Arrived) → heardOf s ≡ arrived d → d .bytes ≡ dataOf (payloadOf (bodyOf s))
+pub adaptation-is-no-data : (s : List ℕ) (d : Arrived) → heardOf s ≡ arrived d → d .bytes ≡ blockDataOf (payloadOf (bodyOf s))
 adaptation-is-no-data s d e = ap (λ (x : Arrived). x .bytes) (sym (block-heard s d .0 e .1))
 
 -- "Overwriting on 17: a late bad copy moves a buoy." It changes neither record nor image.

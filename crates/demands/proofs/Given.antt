@@ -1,5 +1,4 @@
 -- One section, whichever rules it goes by: the record and image that it leaves are those of the carousel's step, and by the paper's record; its fate; what "new" leaves.
--- Assumes nothing.
 use Prim.Native.Nat.{ℕ}
 use mathlib.Core.Path.{_≡_, refl, sym, ap, _∙_}
 use mathlib.Core.Bool.{Bool, true, false, cond}
@@ -11,26 +10,26 @@ use Rattle.wire.proofs.Laws.Tests.{clash}
 use Rattle.section.specs.declared.Refusal.{Refusal}
 use Rattle.section.specs.Header.{applicationTable}
 use Rattle.section.specs.Answer.{refused}
-use Rattle.messages.specs.declared.Judged.{Judged}
-use Rattle.messages.specs.declared.Judged.the-variants as judged
-use Rattle.messages.specs.Judged.{judgedOf, numberOfJudged}
-use Rattle.messages.specs.Heard.{Announced, Heard, refusal, heardIn, heardOf}
-use Rattle.messages.proofs.Exact.{good-exactly}
-use Rattle.applications.specs.declared.ReadAnswer.{ReadAnswer}
-use Rattle.applications.specs.declared.ReadAnswer.the-variants as reading
-use Rattle.applications.specs.Answers.{readAnswer}
-use Rattle.record.specs.declared.Carousel.{Carousel}
-use Rattle.carousel.specs.declared.Answer.{Answer}
-use Rattle.carousel.specs.declared.Answer.the-variants as answer
-use Rattle.record.specs.Marks.{markWords, markOf, isMarked}
-use Rattle.record.specs.Record.{Record, recordOf, received, ruledOf}
-use Rattle.record.specs.Changes.{madeAfresh}
-use Rattle.carousel.specs.Step.{Outcome, refusing, new, same, repeated, stored, onHeard, outcomeOf, answerOf, carouselAfter, imageAfter, steppedOf, imageOf}
-use Rattle.carousel.specs.Matching.{heardFor}
-use Rattle.carousel.proofs.Views.{Held as Said, after, isNew as madeNew}
-use Rattle.record.proofs.Laws.Marks.{clear}
-use Rattle.carousel.proofs.Simulation.{says-after, outcome-ruled}
-use Rattle.carousel.proofs.Steps.{Renewing, new-changes}
+use Rattle.carousel_messages.specs.declared.Judged.{Judged}
+use Rattle.carousel_messages.specs.declared.Judged.the-variants as judged
+use Rattle.carousel_messages.specs.Judged.{judgedOf, numberOfJudged}
+use Rattle.carousel_messages.specs.Heard.{Announced, Heard, refusal, heardIn, heardOf}
+use Rattle.carousel_messages.proofs.Exact.{good-exactly}
+use Rattle.ait_read.specs.declared.ReadAnswer.{ReadAnswer}
+use Rattle.ait_read.specs.declared.ReadAnswer.the-variants as reading
+use Rattle.ait_read.specs.Answers.{readAnswer}
+use Rattle.carousel_record.specs.declared.Carousel.{Carousel}
+use Rattle.carousel_step.specs.declared.Answer.{Answer}
+use Rattle.carousel_step.specs.declared.Answer.the-variants as answer
+use Rattle.carousel_record.specs.Marks.{markWords, markOf, isMarked}
+use Rattle.carousel_record.specs.Record.{Record, recordOf, received, ruledOf}
+use Rattle.carousel_record.specs.Changes.{madeAfresh}
+use Rattle.carousel_step.specs.Step.{StepOutcome, refusing, new, same, repeated, stored, onHeard, outcomeOf, answerOf, carouselAfter, imageAfter, steppedOf, imageOf}
+use Rattle.carousel_step.specs.Matching.{heardFor}
+use Rattle.carousel_step.proofs.Views.{Held as Said, after, isNew as madeNew}
+use Rattle.carousel_record.proofs.Laws.Marks.{clear}
+use Rattle.carousel_step.proofs.Simulation.{says-after, outcome-ruled}
+use Rattle.carousel_step.proofs.Steps.{Renewing, new-changes}
 use Rattle.receiver.specs.declared.Given.{Given}
 use Rattle.receiver.specs.declared.Fate.the-variants as fate
 use Rattle.receiver.specs.Run.{readFate, tableFate, carouselFate, givenOf, imageGiven, Held, given}
@@ -68,7 +67,7 @@ pub given-steps : (x : Held) (s : List ℕ) → given x s ≡ record { state = s
 unfolding givenOf imageGiven steppedOf imageOf
 given-steps x s = go (eqb (byteAt s 0) applicationTable) refl
   where
-    left : Outcome → Held
+    left : StepOutcome → Held
     left o = record { state = carouselAfter (x .state) o; image = imageAfter (x .image) o }
 
     go : (t : Bool) → eqb (byteAt s 0) applicationTable ≡ t
@@ -78,11 +77,11 @@ given-steps x s = go (eqb (byteAt s 0) applicationTable) refl
           image = cond t (x .image) (imageOf (x .state) s (x .image));
         })
         (left (outcomeOf (x .state) s (x .image)))
-    go true e = sym (ap (λ (o : Outcome). left o) (table-outcome (x .state) s (x .image) (eqb-true _ _ e) .1))
+    go true e = sym (ap (λ (o : StepOutcome). left o) (table-outcome (x .state) s (x .image) (eqb-true _ _ e) .1))
     go false e = refl
 
 -- what a section comes to, of a record that keeps its rule
-abbrev pub came : Held → List ℕ → Outcome
+abbrev pub came : Held → List ℕ → StepOutcome
 came x s = onHeard (recordOf (x .state)) (x .image) (heardOf s)
 
 pub given-says : (x : Held) (s : List ℕ) → ruledOf (x .state) ≡ true → saying (given x s) ≡ after (saying x) (came x s)
@@ -90,7 +89,7 @@ unfolding steppedOf imageOf
 given-says x s r =
     ap saying (given-steps x s)
     ∙ ap (λ (u : Record). record { says = u; image = imageAfter (x .image) (outcomeOf (x .state) s (x .image)) }) (says-after (x .state) (outcomeOf (x .state) s (x .image)))
-    ∙ ap (λ (o : Outcome). after (saying x) o) (outcome-ruled (x .state) s (x .image) r)
+    ∙ ap (λ (o : StepOutcome). after (saying x) o) (outcome-ruled (x .state) s (x .image) r)
 
 -- THE FATE of a section for a module is the step's answer, as no table is for one
 for-other : (a : Announced) (i : ℕ) (s : List ℕ) → heardFor a i (heardOf s) ≡ true → eqb (byteAt s 0) applicationTable ≡ false
@@ -107,7 +106,7 @@ for-fate c s image a i e = fate-other c s image (for-other a i s e)
 pub for-came : (x : Held) (s : List ℕ) → ruledOf (x .state) ≡ true → (a : Announced) (i : ℕ) → heardFor a i (heardOf s) ≡ true
     → givenOf (x .state) s (x .image) .fate ≡ carouselFate (answerOf (came x s))
 unfolding steppedOf
-for-came x s r a i e = for-fate (x .state) s (x .image) a i e ∙ ap (λ (o : Outcome). carouselFate (answerOf o)) (outcome-ruled (x .state) s (x .image) r)
+for-came x s r a i e = for-fate (x .state) s (x .image) a i e ∙ ap (λ (o : StepOutcome). carouselFate (answerOf o)) (outcome-ruled (x .state) s (x .image) r)
 
 -- WHO ANSWERS "NEW": no table, and of the carousel's outcomes the new announcement
 read-old : (a : ReadAnswer) → isNew (readFate a) ≡ false
@@ -115,7 +114,7 @@ unfolding readFate
 read-old (reading.Refused r) = refl
 read-old (reading.Accepted t) = refl
 
-new-outcome : (o : Outcome) → isNew (carouselFate (answerOf o)) ≡ madeNew o
+new-outcome : (o : StepOutcome) → isNew (carouselFate (answerOf o)) ≡ madeNew o
 unfolding carouselFate madeNew
 new-outcome (refusing n) = refl
 new-outcome (new a) = refl
@@ -131,7 +130,7 @@ given-old x s r n = go (eqb (byteAt s 0) applicationTable) refl
     go true e = ap (λ (h : Heard). madeNew (onHeard (recordOf (x .state)) (x .image) h)) (table-refused s (eqb-true _ _ e) .1)
     go false e =
         sym (new-outcome (came x s))
-        ∙ sym (ap (λ (o : Outcome). isNew (carouselFate (answerOf o))) (outcome-ruled (x .state) s (x .image) r))
+        ∙ sym (ap (λ (o : StepOutcome). isNew (carouselFate (answerOf o))) (outcome-ruled (x .state) s (x .image) r))
         ∙ sym (ap isNew (fate-other (x .state) s (x .image) e)) ∙ n
 
 -- THE START: a call that answered "new" left a record that keeps its rule, with all marks clear

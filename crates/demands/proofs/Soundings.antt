@@ -1,5 +1,4 @@
 -- THE PAPER'S SOUNDINGS, the starred ones, as one table and one theorem. 01, "Soundings (* to be proved together, as one table)".
--- Assumes nothing.
 use Prim.Native.Nat.{ℕ}
 use mathlib.Core.Path.{_≡_, ap, ap₂, _∙_}
 use mathlib.Core.Bool.{true, false}
@@ -10,27 +9,27 @@ use Rattle.section.specs.declared.Header.{Header}
 use Rattle.section.specs.declared.Checked.the-variants.{Accepted}
 use Rattle.section.specs.Header.{headerOf, bodyOf}
 use Rattle.section.specs.Header.{lengthOf as saidLength}
-use Rattle.applications.specs.declared.Class.the-variants.{Unsigned, Signed}
-use Rattle.applications.specs.declared.Control.the-variants.{Reserved}
-use Rattle.applications.specs.Acceptance.{judgedOf}
-use Rattle.applications.specs.Records.{classOf, controlOf}
-use Rattle.applications.proofs.Soundings as tables
-use Rattle.messages.specs.declared.Table.the-variants.{Announcements, Blocks}
-use Rattle.messages.specs.Message.{adaptationOf, payloadOf}
-use Rattle.messages.specs.Contents.{blockSizeOf}
-use Rattle.messages.specs.Limits.{beyond10}
-use Rattle.messages.specs.Good.{announcedSizes}
-use Rattle.messages.specs.Refusals.{meets10, messageRefusal}
-use Rattle.messages.specs.Heard.{Arrived, arrived, heardOf}
-use Rattle.messages.proofs.Exact.{Passed, exactly-10}
-use Rattle.messages.proofs.Soundings as messages
-use Rattle.handout.specs.declared.Report.the-variants as report
-use Rattle.record.specs.Blocks.{blocksOf, lengthOf}
-use Rattle.record.specs.Record.{missingOf}
-use Rattle.carousel.specs.Step.{blockRefusal}
-use Rattle.handout.specs.Calls.{reportOn}
-use Rattle.carousel.proofs.Soundings as carousel
-use Rattle.carousel.proofs.Longest.{longest-block, longest}
+use Rattle.ait_read.specs.declared.Class.the-variants.{Unsigned, Signed}
+use Rattle.ait_read.specs.declared.Control.the-variants.{Reserved}
+use Rattle.ait_read.specs.Acceptance.{tableJudged}
+use Rattle.ait_read.specs.Records.{classOf, controlOf}
+use Rattle.ait_read.proofs.Soundings as tables
+use Rattle.carousel_messages.specs.declared.Table.the-variants.{Announcements, Blocks}
+use Rattle.carousel_messages.specs.Message.{adaptationOf, payloadOf}
+use Rattle.carousel_messages.specs.Contents.{blockSizeOf}
+use Rattle.carousel_messages.specs.Limits.{beyond10}
+use Rattle.carousel_messages.specs.Good.{announcedSizes}
+use Rattle.carousel_messages.specs.Refusals.{meets10, messageRefusal}
+use Rattle.carousel_messages.specs.Heard.{Arrived, arrived, heardOf}
+use Rattle.carousel_messages.proofs.Exact.{Passed, exactly-10}
+use Rattle.carousel_messages.proofs.Soundings as messages
+use Rattle.carousel_handout.specs.declared.Report.the-variants as report
+use Rattle.carousel_record.specs.Blocks.{blocksOf, blockLengthOf}
+use Rattle.carousel_record.specs.Record.{missingOf}
+use Rattle.carousel_step.specs.Step.{blockRefusal}
+use Rattle.carousel_handout.specs.Calls.{reportOn}
+use Rattle.carousel_step.proofs.Soundings as carousel
+use Rattle.carousel_step.proofs.Longest.{longest-block, longest}
 
 -- a message body b announces modules of these sizes in blocks of this size, and passes 7 and 8
 abbrev pub Announces : List ℕ → (blockSize : ℕ) → (sizes : List ℕ) → Type 0
@@ -49,11 +48,11 @@ not-10 h b bs zs e a f = clash (meets10 (payloadOf b)) (exactly-10 h b .0 f .1) 
 
 pub soundings :
     -- "Size 1,000, blockSize 400: blocks of 400, 400, 200."
-    ((blocksOf 400 1000 ≡ 3) × (lengthOf 400 1000 0 ≡ 400) × (lengthOf 400 1000 1 ≡ 400) × (lengthOf 400 1000 2 ≡ 200))
+    ((blocksOf 400 1000 ≡ 3) × (blockLengthOf 400 1000 0 ≡ 400) × (blockLengthOf 400 1000 1 ≡ 400) × (blockLengthOf 400 1000 2 ≡ 200))
     -- "Size 800: two blocks, block 2 gives 16", whatever it carries
     × ((blocksOf 400 800 ≡ 2) × ((bytes : List ℕ) → blockRefusal (carousel.one 400 800) 800 (carousel.block 2 bytes) ≡ 16))
     -- "Size 65,536, blockSize 4,066: 17 blocks, last 480."
-    × ((blocksOf 4066 65536 ≡ 17) × (lengthOf 4066 65536 16 ≡ 480))
+    × ((blocksOf 4066 65536 ≡ 17) × (blockLengthOf 4066 65536 16 ≡ 480))
     -- "blockSize 1: size 256 taken, 257 gives 10."
     × ((h : Header) (b : List ℕ) → (Announces b 1 (256 ∷ []) → messageRefusal Announcements h b ≡ 10 → ⊥) × (Announces b 1 (257 ∷ []) → messageRefusal Announcements h b ≡ 10))
     -- "blockSize 400: sizes 65,535 and 1 taken; 65,536 and 1 give 10."
@@ -65,9 +64,9 @@ pub soundings :
     -- "Blocks 0 and 2 of three: missing 1, lowest 1."
     × (reportOn (missingOf (carousel.marked (carousel.one 400 1000) 5) 0) ≡ report.Lacking (record { count = 1; lowest = 1 }))
     -- "An empty AIT has L = 13", and is accepted
-    × ((saidLength (tables.whole tables.emptyFront) ≡ 13) × (judgedOf (tables.whole tables.emptyFront) ≡ Accepted (headerOf (tables.whole tables.emptyFront))))
+    × ((saidLength (tables.whole tables.emptyFront) ≡ 13) × (tableJudged (tables.whole tables.emptyFront) ≡ Accepted (headerOf (tables.whole tables.emptyFront))))
     -- "72 applications of the least length, 14 bytes, without common descriptors give L = 1,021", and are accepted
-    × ((length tables.least ≡ 14) × (saidLength (tables.whole tables.fullFront) ≡ 1021) × (judgedOf (tables.whole tables.fullFront) ≡ Accepted (headerOf (tables.whole tables.fullFront))))
+    × ((length tables.least ≡ 14) × (saidLength (tables.whole tables.fullFront) ≡ 1021) × (tableJudged (tables.whole tables.fullFront) ≡ Accepted (headerOf (tables.whole tables.fullFront))))
     -- "Application 0x3FFF unsigned, 0x4000 signed."
     × ((classOf 0x3FFF ≡ Unsigned) × (classOf 0x4000 ≡ Signed))
     -- "Control code 5 reserved."

@@ -11,21 +11,20 @@
 -- that no call of the run answered "new". i is the place of an announced module (there). The words are defined in specs/Demand.antt, one by one.
 --
 -- What these theorems do not exclude by themselves: a receiver that refuses everything, or answers "new" to everything. Demand 2's exact acceptance does (Two.antt).
--- Assumes nothing.
 use Prim.Native.Nat.{ℕ, _<_}
 use mathlib.Core.Path.{_≡_, refl, sym, ap, _∙_}
 use mathlib.Core.Bool.{true}
 use mathlib.Core.Logic.{_↔_}
 use mathlib.Core.List.{List}
 use lib.ListN.{length}
-use Rattle.messages.specs.Heard.{Announced, Arrived, arrived, heardOf}
-use Rattle.record.specs.Record.{moduleAt, ruledOf}
-use Rattle.carousel.specs.Matching.{heardFor, heardMatches, Matching}
-use Rattle.handout.specs.Calls.{handoutNumber, handedOut}
-use Rattle.carousel.specs.Step.{steppedOf}
-use Rattle.carousel.proofs.Matching.{matching-means}
+use Rattle.carousel_messages.specs.Heard.{Announced, Arrived, arrived, heardOf}
+use Rattle.carousel_record.specs.Record.{moduleAt, ruledOf}
+use Rattle.carousel_step.specs.Matching.{heardFor, heardMatches, Matching}
+use Rattle.carousel_handout.specs.Calls.{handoutNumber, handedOut}
+use Rattle.carousel_step.specs.Step.{steppedOf}
+use Rattle.carousel_step.proofs.Matching.{matching-means}
 use Rattle.receiver.specs.Run.{Held, givenOf, carouselFate, walk}
-use Rattle.demands.specs.Demand.{fates, Begun, NoNew, told, modules, blocks, isFor, matches, sectionsFor, answersFor, bytesIn, missingIn, isComplete, Holds, Came, firstData, joined, RepeatsAgree, FoundIn, Call, called, tookBy, stepped}
+use Rattle.demands.specs.Demand.{fates, Begun, NoNew, told, modules, blocks, isFor, matches, sectionsFor, answersFor, bytesIn, missingIn, isComplete, Holds, Came, firstData, joinedBlocks, RepeatsAgree, FoundIn, Call, called, tookBy, stepped}
 use Rattle.demands.proofs.Given.{begun-ruled, for-fate}
 use Rattle.demands.proofs.Alike.{alike-bytes, alike-missing}
 use Rattle.demands.proofs.Walks.{alone}
@@ -75,12 +74,12 @@ module _ (x : Held) (start : Begun x) (i : ℕ) (there : i < modules x) where
   handed-out ss n = handed-came x start i there ss n
 
   -- CONTENT. "and its bytes are then those blocks' data in block order, each as it first matched"
-  pub content : (ss : List (List ℕ)) → NoNew x ss → isComplete (walk x ss) i ≡ true → bytesIn (walk x ss) i ≡ joined (blocks x i) (λ b. firstData x i ss b)
+  pub content : (ss : List (List ℕ)) → NoNew x ss → isComplete (walk x ss) i ≡ true → bytesIn (walk x ss) i ≡ joinedBlocks (blocks x i) (λ b. firstData x i ss b)
   content ss n c = complete-bytes x start i there ss n c
 
   -- and these are the bytes that the hand-out hands out
   pub content-handed-out : (ss : List (List ℕ)) → NoNew x ss → isComplete (walk x ss) i ≡ true
-      → handedOut (walk x ss .state) (walk x ss .image) (moduleAt (told x) i .number) ≡ joined (blocks x i) (λ b. firstData x i ss b)
+      → handedOut (walk x ss .state) (walk x ss .image) (moduleAt (told x) i .number) ≡ joinedBlocks (blocks x i) (λ b. firstData x i ss b)
   content-handed-out ss n c = handed-bytes x start i there ss n c
 
   -- ORDER. "and if matching repeats agree, order and repeats don't alter its bytes": of two runs that have the same matching sections for the module, order, repeats and
@@ -114,7 +113,7 @@ module _ (x : Held) (start : Begun x) (i : ℕ) (there : i < modules x) where
   pub completeness-of-calls : (ks : List Call) → NoNew x (tookBy ks) → (isComplete (called x ks) i ≡ true) ↔ ((b : ℕ) → b < blocks x i → Came x i b (tookBy ks))
   completeness-of-calls ks n = rw (calls-walk x (begun-ruled x start) ks) (completeness x start i there (tookBy ks) n)
 
-  pub content-of-calls : (ks : List Call) → NoNew x (tookBy ks) → isComplete (called x ks) i ≡ true → bytesIn (called x ks) i ≡ joined (blocks x i) (λ b. firstData x i (tookBy ks) b)
+  pub content-of-calls : (ks : List Call) → NoNew x (tookBy ks) → isComplete (called x ks) i ≡ true → bytesIn (called x ks) i ≡ joinedBlocks (blocks x i) (λ b. firstData x i (tookBy ks) b)
   content-of-calls ks n c = rw (calls-walk x (begun-ruled x start) ks) (content x start i there (tookBy ks) n (rw (calls-walk x (begun-ruled x start) ks) at c))
 
   pub order-of-calls : (ks js : List Call) → NoNew x (tookBy ks) → NoNew x (tookBy js) → RepeatsAgree x i (tookBy ks) → FoundIn x i (tookBy ks) (tookBy js) → FoundIn x i (tookBy js) (tookBy ks)

@@ -3,14 +3,13 @@
 --   "An application section is accepted exactly when it is well formed under ETSI TS 102 809, as narrowed in the paper, and each record read from it is what that text says.
 --   Announcements and blocks are judged the same way under ISO/IEC 13818-6, with the paper's narrowings."
 --
--- "Well formed" is said once for each kind of section, every clause of the paper as a plain fact: `GoodTable` (applications Acceptance, with descriptors `WellFormed` and
--- section `GoodSection`), `GoodAnnouncement` and `GoodBlock` (messages Good). What a section says is `saidAnnouncement` and `saidBlock`, field by field from its bytes; of a table it is
+-- "Well formed" is said once for each kind of section, every clause of the paper as a plain fact: `GoodTable` (ait_read `Acceptance`, with ait_body `WellFormed` and
+-- section `GoodSection`), `GoodAnnouncement` and `GoodBlock` (carousel_messages `Good`). What a section says is `saidAnnouncement` and `saidBlock`, field by field from its bytes; of a table it is
 -- the contracts of `read`, `application_at`, `descriptor_at`, `item_at`, `extension_at`, `resolve`, each an equation with the text's own bytes.
 -- A number is given exactly in its stated case: the tests of the paper's table stand in its order, with its exception, in `applicationTests` and `stepTests`, and `First n`
 -- says that the first of them that holds is of n; `None`, that none holds.
 --
 -- A receiver that refuses everything fails here, and so does one that answers "new" to everything.
--- Assumes nothing.
 use Prim.Native.Nat.{ℕ, _<_}
 use mathlib.Core.Path.{_≡_, refl, sym, ap, _∙_}
 use mathlib.Core.Bool.{true, false}
@@ -20,23 +19,23 @@ use native.Mathlib.Omega.{arith}
 use lib.ListN.{length, take, drop}
 use Rattle.wire.proofs.Laws.Order.{First, None, first-exactly, none-exactly}
 use Rattle.section.specs.Header.{headerOf}
-use Rattle.applications.specs.declared.Table.{Table}
-use Rattle.applications.specs.declared.ReadAnswer.the-variants as reading
-use Rattle.applications.specs.Acceptance.{applicationTests, GoodTable}
-use Rattle.applications.specs.Answers.{readAnswer, tableOf, numberOfRead, readNumber}
-use Rattle.applications.proofs.Laws.Exact.{rising, read-exactly}
-use Rattle.applications.proofs.Laws.Numbers.{read-number}
-use Rattle.messages.specs.Good.{GoodAnnouncement, GoodBlock, saidAnnouncement, saidBlock}
-use Rattle.record.specs.declared.Carousel.{Carousel}
-use Rattle.carousel.specs.declared.Answer.the-variants as answer
-use Rattle.record.specs.Record.{recordOf, announcedBy, received, blockAt, ruledOf}
-use Rattle.carousel.specs.Step.{numberOf, stepTests, steppedOf}
-use Rattle.carousel.specs.Matching.{Matching}
-use Rattle.carousel.proofs.Exact.{step-exactly, step-taken}
-use Rattle.record.proofs.Laws.Tests.{rising-numbered}
+use Rattle.ait_read.specs.declared.Table.{Table}
+use Rattle.ait_read.specs.declared.ReadAnswer.the-variants as reading
+use Rattle.ait_read.specs.Acceptance.{applicationTests, GoodTable}
+use Rattle.ait_read.specs.Answers.{readAnswer, readTable, numberOfRead, readNumber}
+use Rattle.ait_read.proofs.Laws.Exact.{rising, read-exactly}
+use Rattle.ait_read.proofs.Laws.Numbers.{read-number}
+use Rattle.carousel_messages.specs.Good.{GoodAnnouncement, GoodBlock, saidAnnouncement, saidBlock}
+use Rattle.carousel_record.specs.declared.Carousel.{Carousel}
+use Rattle.carousel_step.specs.declared.Answer.the-variants as answer
+use Rattle.carousel_record.specs.Record.{recordOf, announcedBy, received, blockAt, ruledOf}
+use Rattle.carousel_step.specs.Step.{numberOfAnswer, stepTests, steppedOf}
+use Rattle.carousel_step.specs.Matching.{Matching}
+use Rattle.carousel_step.proofs.Exact.{step-exactly, step-taken}
+use Rattle.carousel_record.proofs.Laws.Tests.{rising-numbered}
 use Rattle.receiver.specs.declared.Fate.the-variants as fate
 use Rattle.receiver.specs.Run.{carouselFate, givenOf, givenNumber}
-use Rattle.receiver.specs.Run.{numberOf as receiverNumber}
+use Rattle.receiver.specs.Run.{numberOfFate}
 use Rattle.receiver.proofs.Laws.Takes.{given-number}
 use Rattle.demands.proofs.Accepted.{
   read-good,
@@ -57,10 +56,10 @@ use Rattle.demands.proofs.Accepted.{
 -- AN APPLICATION SECTION
 module _ (s : List ℕ) where
   -- accepted exactly when well formed, and then with the header's fields and the counts of its loops
-  pub table-accepted : (t : Table) → (readAnswer s ≡ reading.Accepted t) ↔ (GoodTable s × (tableOf (headerOf s) s ≡ t))
+  pub table-accepted : (t : Table) → (readAnswer s ≡ reading.Accepted t) ↔ (GoodTable s × (readTable (headerOf s) s ≡ t))
   table-accepted t = (λ e. let g = read-good s t e in (g, same (sym (read-exactly s g) ∙ e)), λ w. read-exactly s (w .0) ∙ ap reading.Accepted (w .1))
     where
-      same : reading.Accepted (tableOf (headerOf s) s) ≡ reading.Accepted t → tableOf (headerOf s) s ≡ t
+      same : reading.Accepted (readTable (headerOf s) s) ≡ reading.Accepted t → readTable (headerOf s) s ≡ t
       same e = cc
 
   pub table-number : (n : ℕ) → 0 < n → (numberOfRead (readAnswer s) ≡ n) ↔ First n (applicationTests s)
@@ -95,14 +94,14 @@ module _ (c : Carousel) (s image : List ℕ) where
   repeated-accepted = (repeated-says c s image, λ w. is-repeated c s image (w .0) (w .1) (w .2 .0) (w .2 .1) (w .2 .2) (w .2 .3))
 
   -- each refusal exactly in its stated case, and none exactly where no case applies
-  pub step-number : (n : ℕ) → 0 < n → (numberOf (steppedOf c s image .answer) ≡ n) ↔ First n (stepTests c s image)
+  pub step-number : (n : ℕ) → 0 < n → (numberOfAnswer (steppedOf c s image .answer) ≡ n) ↔ First n (stepTests c s image)
   step-number n p = step-exactly c s image n p
 
-  pub step-accepted : (numberOf (steppedOf c s image .answer) ≡ 0) ↔ None (stepTests c s image)
+  pub step-accepted : (numberOfAnswer (steppedOf c s image .answer) ≡ 0) ↔ None (stepTests c s image)
   step-accepted = step-taken c s image
 
   -- THE RECEIVER'S NUMBERS are these tables': of a section with 0x74 the application's, of every other the step's
-  pub take-number : receiverNumber (givenOf c s image .fate) ≡ givenNumber c s image
+  pub take-number : numberOfFate (givenOf c s image .fate) ≡ givenNumber c s image
   take-number = given-number c s image
 
   -- THE RECEIVER'S KINDS are these answers': a section is a "table", "new", "same", "stored" or "repeated" exactly where it is accepted as such

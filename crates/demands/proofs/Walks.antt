@@ -1,5 +1,4 @@
 -- The view law over runs: what no run without a new announcement changes, what it makes of one block's view, and that a module's sections fare as if nothing else had come.
--- Assumes nothing.
 use Prim.Native.Nat.{ℕ, _<_}
 use mathlib.Core.Path.{_≡_, refl, sym, ap, ap₂, _∙_}
 use mathlib.Core.Bool.{Bool, true, false, cond}
@@ -7,16 +6,16 @@ use mathlib.Core.List.{List, [], _∷_}
 use native.Mathlib.Omega.{arith}
 use lib.ListN.{length}
 use Rattle.wire.proofs.Laws.Tests.{clash}
-use Rattle.messages.specs.Heard.{Announced, heardOf}
-use Rattle.carousel.specs.declared.Answer.{Answer}
-use Rattle.record.specs.Record.{recordOf, blockCount, ruledOf}
-use Rattle.carousel.specs.Matching.{heardFor, heardMatches}
-use Rattle.carousel.proofs.Views.{Held as Said, Slot, slot, hit}
-use Rattle.record.proofs.Laws.Rule.{Kept, kept, ruled-says}
-use Rattle.carousel.proofs.View.{hit-hit, fixed, view-law}
+use Rattle.carousel_messages.specs.Heard.{Announced, heardOf}
+use Rattle.carousel_step.specs.declared.Answer.{Answer}
+use Rattle.carousel_record.specs.Record.{recordOf, blockCount, ruledOf}
+use Rattle.carousel_step.specs.Matching.{heardFor, heardMatches}
+use Rattle.carousel_step.proofs.Views.{Held as Said, Slot, slot, hit}
+use Rattle.carousel_record.proofs.Laws.Rule.{Kept, kept, ruled-says}
+use Rattle.carousel_step.proofs.View.{hit-hit, fixed, view-law}
 use Rattle.receiver.specs.declared.Fate.{Fate}
 use Rattle.receiver.specs.Run.{carouselFate, givenOf, Held, given, walk}
-use Rattle.demands.specs.Demand.{fates, isNew, noneNew, NoNew, told, modules, dataOf, those, besides, sectionsFor, answersFor, first}
+use Rattle.demands.specs.Demand.{fates, isNew, noneNew, NoNew, told, modules, sectionData, those, besides, sectionsFor, answersFor, firstMatching}
 use Rattle.receiver.proofs.Runs.{given-rule}
 use Rattle.demands.proofs.Given.{saying, given-says, given-old, for-came}
 use Rattle.demands.proofs.Lists.{some}
@@ -26,7 +25,7 @@ use Rattle.demands.proofs.Alike.{Alike, for-old, for-answer, both-alike
 pub kept-in : (x : Held) → ruledOf (x .state) ≡ true → 0 < modules x → Kept (recordOf (x .state))
 kept-in x r some = kept (recordOf (x .state)) some (ruled-says (x .state) r)
 
--- "with no further new announcement": not the first section, and none of the rest
+-- "with no further new announcement": not the firstMatching section, and none of the rest
 old-first : (f : Fate) (fs : List Fate) → noneNew (f ∷ fs) ≡ true → (isNew f ≡ false) × (noneNew fs ≡ true)
 unfolding noneNew
 old-first f fs e = go (isNew f) refl e
@@ -71,32 +70,32 @@ hit-stays : (t : Bool) (es ds : List ℕ) (v : Slot) → cond t (hit es (hit ds 
 hit-stays true es ds v = hit-hit es ds v
 hit-stays false es ds v = refl
 
--- WHAT A RUN MAKES OF ONE BLOCK'S VIEW: the first matching section's data, if any matches
+-- WHAT A RUN MAKES OF ONE BLOCK'S VIEW: the firstMatching matching section's data, if any matches
 module _ (a : Announced) (n i b : ℕ) (u : i < length (a .modules)) (v : b < blockCount a i) where
   abbrev fitting : List ℕ → Bool
   fitting s = heardMatches a n i b (heardOf s)
 
   given-view : (x : Held) (s : List ℕ) → ruledOf (x .state) ≡ true → told x ≡ a → length (x .image) ≡ n → isNew (givenOf (x .state) s (x .image) .fate) ≡ false
-      → slot (saying (given x s)) i b ≡ cond (fitting s) (hit (dataOf s) (slot (saying x) i b)) (slot (saying x) i b)
+      → slot (saying (given x s)) i b ≡ cond (fitting s) (hit (sectionData s) (slot (saying x) i b)) (slot (saying x) i b)
   given-view x s r e l o =
       ap (λ (y : Said). slot y i b) (given-says x s r)
       ∙ view-law (saying x) (kept-in x r (rw e (omega arith))) i b (rw e u) (rw e v) (heardOf s) (given-old x s r o)
-      ∙ ap (λ (c : Announced). cond (heardMatches c (length (x .image)) i b (heardOf s)) (hit (dataOf s) (slot (saying x) i b)) (slot (saying x) i b)) e
-      ∙ ap (λ (c : ℕ). cond (heardMatches a c i b (heardOf s)) (hit (dataOf s) (slot (saying x) i b)) (slot (saying x) i b)) l
+      ∙ ap (λ (c : Announced). cond (heardMatches c (length (x .image)) i b (heardOf s)) (hit (sectionData s) (slot (saying x) i b)) (slot (saying x) i b)) e
+      ∙ ap (λ (c : ℕ). cond (heardMatches a c i b (heardOf s)) (hit (sectionData s) (slot (saying x) i b)) (slot (saying x) i b)) l
 
   pub walk-view : (x : Held) (ss : List (List ℕ)) → ruledOf (x .state) ≡ true → told x ≡ a → length (x .image) ≡ n → NoNew x ss
-      → slot (saying (walk x ss)) i b ≡ cond (some (λ s. fitting s) ss) (hit (first (λ s. fitting s) ss) (slot (saying x) i b)) (slot (saying x) i b)
-  unfolding walk some first
+      → slot (saying (walk x ss)) i b ≡ cond (some (λ s. fitting s) ss) (hit (firstMatching (λ s. fitting s) ss) (slot (saying x) i b)) (slot (saying x) i b)
+  unfolding walk some firstMatching
   walk-view x [] r e l m = refl
   walk-view x (s ∷ ss) r e l m =
       let p = old-parts x s ss m in
       let f = given-stays x s r (rw e (omega arith)) (p .0) in
       go (fitting s) (given-view x s r e l (p .0)) (walk-view (given x s) ss (f .ruled) (f .same ∙ e) (f .long ∙ l) (p .1))
     where
-      go : (t : Bool) → slot (saying (given x s)) i b ≡ cond t (hit (dataOf s) (slot (saying x) i b)) (slot (saying x) i b)
-          → slot (saying (walk (given x s) ss)) i b ≡ cond (some (λ s. fitting s) ss) (hit (first (λ s. fitting s) ss) (slot (saying (given x s)) i b)) (slot (saying (given x s)) i b)
-          → slot (saying (walk (given x s) ss)) i b ≡ cond (cond t true (some (λ s. fitting s) ss)) (hit (cond t (dataOf s) (first (λ s. fitting s) ss)) (slot (saying x) i b)) (slot (saying x) i b)
-      go true p q = q ∙ rw p (hit-stays (some (λ s. fitting s) ss) (first (λ s. fitting s) ss) (dataOf s) (slot (saying x) i b))
+      go : (t : Bool) → slot (saying (given x s)) i b ≡ cond t (hit (sectionData s) (slot (saying x) i b)) (slot (saying x) i b)
+          → slot (saying (walk (given x s) ss)) i b ≡ cond (some (λ s. fitting s) ss) (hit (firstMatching (λ s. fitting s) ss) (slot (saying (given x s)) i b)) (slot (saying (given x s)) i b)
+          → slot (saying (walk (given x s) ss)) i b ≡ cond (cond t true (some (λ s. fitting s) ss)) (hit (cond t (sectionData s) (firstMatching (λ s. fitting s) ss)) (slot (saying x) i b)) (slot (saying x) i b)
+      go true p q = q ∙ rw p (hit-stays (some (λ s. fitting s) ss) (firstMatching (λ s. fitting s) ss) (sectionData s) (slot (saying x) i b))
       go false p q = q ∙ rw p
 
 -- AS IF NOTHING ELSE HAD COME: the sections for a module, run alone, get the same answers and leave the module the same

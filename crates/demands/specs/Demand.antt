@@ -1,16 +1,15 @@
--- THE WORDS OF DEMAND 3 (00, 3), over the calls of this crate. "For" and "matching" are the carousel's (carousel Matching), and so demand 2's.
+-- THE WORDS OF DEMAND 3 (00, 3), over the calls of this crate. "For" and "matching" are the carousel's (carousel_step `Matching`), and so demand 2's.
 -- One record and one image, carried from call to call: `Held`, `given` and `walk` (Run). A run is any list of sections: tables, refused ones, other modules', "same" announcements.
 -- A module is meant by its place i in the announced list; block numbers are b.
--- Assumes nothing.
 use Prim.Native.Nat.{ℕ, zero, suc}
 use mathlib.Core.Path.{_≡_}
 use mathlib.Core.Bool.{Bool, true, false, cond}
 use mathlib.Core.List.{List, [], _∷_, _++_, List·Memᴰ}
 use lib.ListN.{length}
-use Rattle.messages.specs.Heard.{Announced, heardOf}
-use Rattle.record.specs.Record.{recordOf, announcedBy, blockCount, partOf, missingOf, completeOf}
-use Rattle.carousel.specs.Step.{steppedOf, imageOf}
-use Rattle.carousel.specs.Matching.{heardFor, heardMatches, heardBytes}
+use Rattle.carousel_messages.specs.Heard.{Announced, heardOf}
+use Rattle.carousel_record.specs.Record.{recordOf, announcedBy, blockCount, modulePart, missingOf, completeOf}
+use Rattle.carousel_step.specs.Step.{steppedOf, imageOf}
+use Rattle.carousel_step.specs.Matching.{heardFor, heardMatches, heardBytes}
 use Rattle.receiver.specs.declared.Fate.{Fate}
 use Rattle.receiver.specs.declared.Fate.the-variants as fate
 use Rattle.receiver.specs.Run.{Held, given, givenOf, sectionsOf, ranOf, imageRan}
@@ -59,8 +58,8 @@ abbrev pub matches : Held → (i b : ℕ) → List ℕ → Bool
 matches x i b s = heardMatches (told x) (length (x .image)) i b (heardOf s)
 
 -- a section's data
-abbrev pub dataOf : List ℕ → List ℕ
-dataOf s = heardBytes (heardOf s)
+abbrev pub sectionData : List ℕ → List ℕ
+sectionData s = heardBytes (heardOf s)
 
 -- of a list, those that pass a test; and of a list beside it, those whose neighbour does
 unfoldable pub those : (List ℕ → Bool) → List (List ℕ) → List (List ℕ)
@@ -81,7 +80,7 @@ answersFor x i ss = besides (λ s. isFor x i s) ss (fates x ss)
 
 -- "its stored bytes and its missing blocks": its part of the image, and the list of its blocks that have no mark; it is complete where there is none
 abbrev pub bytesIn : Held → (i : ℕ) → List ℕ
-bytesIn x i = partOf (recordOf (x .state)) (x .image) i
+bytesIn x i = modulePart (recordOf (x .state)) (x .image) i
 
 abbrev pub missingIn : Held → (i : ℕ) → List ℕ
 missingIn x i = missingOf (recordOf (x .state)) i
@@ -96,26 +95,26 @@ Holds ss s = List·Memᴰ s ss
 abbrev pub Came : Held → (i b : ℕ) → List (List ℕ) → Type 0
 Came x i b ss = (s : List ℕ) × Holds ss s × (matches x i b s ≡ true)
 
--- a block's data "as it first matched": those of the first section of the run that matches it
-unfoldable pub first : (List ℕ → Bool) → List (List ℕ) → List ℕ
-first p [] = []
-first p (s ∷ ss) = cond (p s) (dataOf s) (first p ss)
+-- a block's data "as it firstMatching matched": those of the firstMatching section of the run that matches it
+unfoldable pub firstMatching : (List ℕ → Bool) → List (List ℕ) → List ℕ
+firstMatching p [] = []
+firstMatching p (s ∷ ss) = cond (p s) (sectionData s) (firstMatching p ss)
 
 abbrev pub firstData : Held → (i : ℕ) → List (List ℕ) → (b : ℕ) → List ℕ
-firstData x i ss b = first (λ s. matches x i b s) ss
+firstData x i ss b = firstMatching (λ s. matches x i b s) ss
 
 -- "those blocks' data in block order": f 0, f 1, .. , f (n - 1), one after another
-unfoldable pub joined : (n : ℕ) → (ℕ → List ℕ) → List ℕ
-joined zero f = []
-joined (suc n) f = joined n f ++ f n
+unfoldable pub joinedBlocks : (n : ℕ) → (ℕ → List ℕ) → List ℕ
+joinedBlocks zero f = []
+joinedBlocks (suc n) f = joinedBlocks n f ++ f n
 
 -- "if matching repeats agree": any two matching sections of the run for one block of the module have the same data
 abbrev pub RepeatsAgree : Held → (i : ℕ) → List (List ℕ) → Type 0
-RepeatsAgree x i ss = (b : ℕ) (s t : List ℕ) → Holds ss s → Holds ss t → matches x i b s ≡ true → matches x i b t ≡ true → dataOf s ≡ dataOf t
+RepeatsAgree x i ss = (b : ℕ) (s t : List ℕ) → Holds ss s → Holds ss t → matches x i b s ≡ true → matches x i b t ≡ true → sectionData s ≡ sectionData t
 
 -- "order and repeats" aside: each matching section of ss for the module has in us a matching one for the same block, with the same data
 abbrev pub FoundIn : Held → (i : ℕ) → List (List ℕ) → List (List ℕ) → Type 0
-FoundIn x i ss us = (b : ℕ) (s : List ℕ) → Holds ss s → matches x i b s ≡ true → (t : List ℕ) × Holds us t × (matches x i b t ≡ true) × (dataOf t ≡ dataOf s)
+FoundIn x i ss us = (b : ℕ) (s : List ℕ) → Holds ss s → matches x i b s ≡ true → (t : List ℕ) × Holds us t × (matches x i b t ≡ true) × (sectionData t ≡ sectionData s)
 
 -- "each being the sections its calls took": calls of `run` (or of `run_in`, whose contract has the same record and image), each on the record and image that the last one left
 pub record Call : Type 0 where

@@ -1,29 +1,29 @@
-// For a radio fitter: reads the first 65,536 bytes of standard input as `nebosvar` does, and prints
+// For a radio fitter: reads the first 65,536 bytes of standard input as `receive` does, and prints
 // all that was read of each section and, at the end, of the record: a comma-separated line each.
 // The lines are listed in tests/inspect_test.py, an independent second program, which makes an input
 // and says what must come out.
-use applications::Application;
-use applications::ApplicationAnswer;
-use applications::Class;
-use applications::Control;
-use applications::Described;
-use applications::DescriptorAnswer;
-use applications::ExtensionAnswer;
-use applications::Item;
-use applications::ItemAnswer;
-use applications::Name;
-use applications::ReadAnswer;
-use applications::Repeated;
-use applications::Resolved;
-use applications::Scope;
-use applications::Table;
-use handout::Lack;
-use handout::Report;
+use ait_read::Application;
+use ait_read::ApplicationAnswer;
+use ait_read::Class;
+use ait_read::Control;
+use ait_read::Described;
+use ait_read::DescriptorAnswer;
+use ait_read::ExtensionAnswer;
+use ait_read::Item;
+use ait_read::ItemAnswer;
+use ait_read::Name;
+use ait_read::ReadAnswer;
+use ait_read::Repeated;
+use ait_read::Resolved;
+use ait_read::Scope;
+use ait_read::Table;
+use carousel_handout::Lack;
+use carousel_handout::Report;
+use carousel_record::Carousel;
+use carousel_record::Module;
 use receiver::Fate;
 use receiver::Stop;
 use receiver::What;
-use record::Carousel;
-use record::Module;
 
 // What `io::large_buffer` gives.
 type Buffer = [u8; 65_536];
@@ -41,7 +41,7 @@ fn main() {
 
 // Runs an empty record over a stretch; what is printed goes by way of `out`.
 fn inspect(stretch: &[u8], image: &mut Buffer, out: &mut Buffer) {
-    let mut c = record::empty();
+    let mut c = carousel_record::empty();
     let mut at: usize = 0;
     let mut index: usize = 0;
     let mut passed: usize = 0;
@@ -140,7 +140,7 @@ fn kind_word(fate: Fate) -> usize {
 // An accepted table: its header, its common descriptors and its applications.
 
 fn put_table(out: &mut Buffer, at: usize, s: &[u8]) -> usize {
-    match applications::read(s) {
+    match ait_read::read(s) {
         ReadAnswer::Refused(_) => at,
         ReadAnswer::Accepted(t) => {
             let mut end = put_line(out, at, table_line(t));
@@ -154,7 +154,7 @@ fn table_line(t: Table) -> Line {
     [
         TABLE,
         t.test as usize,
-        t.application as usize,
+        t.application_type as usize,
         t.version as usize,
         t.section as usize,
         t.last as usize,
@@ -178,7 +178,7 @@ fn put_applications(out: &mut Buffer, at: usize, s: &[u8], count: usize) -> usiz
 
 // The application at place i, and its descriptors.
 fn put_application(out: &mut Buffer, at: usize, s: &[u8], i: usize) -> usize {
-    match applications::application_at(s, i) {
+    match ait_read::application_at(s, i) {
         ApplicationAnswer::Refused(_) => at,
         ApplicationAnswer::Found(a) => {
             let end = put_line(out, at, application_line(i, a));
@@ -247,7 +247,7 @@ fn put_descriptors(out: &mut Buffer, at: usize, s: &[u8], scope: Scope, count: u
 // A descriptor's line, and its items. Labels come after profiles: no other has two kinds of them.
 fn put_descriptor(out: &mut Buffer, at: usize, s: &[u8], holder: Holder) -> usize {
     let scope = holder.scope;
-    match applications::descriptor_at(s, scope, holder.place) {
+    match ait_read::descriptor_at(s, scope, holder.place) {
         DescriptorAnswer::Refused(_) => at,
         DescriptorAnswer::Found(d) => {
             let line = held_line(DESCRIPTOR, holder, descriptor_fields(d));
@@ -299,7 +299,7 @@ fn descriptor_fields(d: Described) -> Fields {
 // A 0x02 descriptor, by its protocol.
 fn transport_fields(d: Described) -> Fields {
     match d {
-        Described::Http { label, bases } => [
+        Described::Bases { label, bases } => [
             0x02,
             BASES,
             label as usize,
@@ -309,7 +309,7 @@ fn transport_fields(d: Described) -> Fields {
             NIL,
             NIL,
         ],
-        Described::Transport {
+        Described::Selector {
             protocol,
             label,
             selector,
@@ -379,7 +379,7 @@ fn first_items(d: Described) -> Items {
             what: Repeated::Names,
             count: names,
         },
-        Described::Http { label: _, bases } => Items {
+        Described::Bases { label: _, bases } => Items {
             what: Repeated::Bases,
             count: bases,
         },
@@ -426,7 +426,7 @@ fn put_item_at(
     k: usize,
 ) -> usize {
     let scope = holder.scope;
-    match applications::item_at(s, scope, holder.place, what, k) {
+    match ait_read::item_at(s, scope, holder.place, what, k) {
         ItemAnswer::Refused(_) => at,
         ItemAnswer::Found(x) => put_item(out, at, s, holder, k, x),
     }
@@ -493,7 +493,7 @@ fn item_fields(s: &[u8], scope: Scope, k: usize, x: Item) -> Fields {
 fn label_fields(s: &[u8], scope: Scope, k: usize, label: usize) -> Fields {
     match scope {
         Scope::Common => [k, label, EMPTY, EMPTY, NIL, NIL, NIL, NIL],
-        Scope::Own(i) => resolved_fields(k, label, applications::resolve(s, i, k)),
+        Scope::Own(i) => resolved_fields(k, label, ait_read::resolve(s, i, k)),
     }
 }
 
@@ -533,7 +533,7 @@ fn put_extensions(
 
 fn extension_line(s: &[u8], holder: Holder, k: usize, m: usize) -> Line {
     let scope = holder.scope;
-    match applications::extension_at(s, scope, holder.place, k, m) {
+    match ait_read::extension_at(s, scope, holder.place, k, m) {
         ExtensionAnswer::Refused(_) => [NIL; 11],
         ExtensionAnswer::Found(x) => {
             let fields = [k, m, x.start, x.size, NIL, NIL, NIL, NIL];
@@ -567,7 +567,7 @@ fn record_line(c: Carousel) -> Line {
 fn put_modules(out: &mut Buffer, at: usize, c: Carousel, image: &Buffer) -> usize {
     let mut end = at;
     let mut i: usize = 0;
-    while i < messages::MOST_MODULES {
+    while i < carousel_messages::MOST_MODULES {
         let m = c.modules[i];
         end = put_line(out, end, module_line(c, image, i, m));
         i += 1;
@@ -580,7 +580,7 @@ fn module_line(c: Carousel, image: &Buffer, place: usize, m: Module) -> Line {
     if c.count as usize <= place {
         return [NIL; 11];
     }
-    let lack = lack_of(handout::missing(c, m.number));
+    let lack = lack_of(carousel_handout::missing(c, m.number));
     [
         MODULE,
         place,
@@ -588,7 +588,7 @@ fn module_line(c: Carousel, image: &Buffer, place: usize, m: Module) -> Line {
         m.size as usize,
         m.version as usize,
         m.start as usize,
-        handout::handout_number(c, image, m.number) as usize,
+        carousel_handout::handout_number(c, image, m.number) as usize,
         lack.count,
         lack.lowest,
         crc_of(c, image, m.number),
@@ -613,10 +613,10 @@ fn lack_of(report: Report) -> Lack {
 
 // The CRC register over what is handed out; nothing where the hand-out is refused.
 fn crc_of(c: Carousel, image: &Buffer, number: u16) -> usize {
-    if handout::handout_number(c, image, number) != 0 {
+    if carousel_handout::handout_number(c, image, number) != 0 {
         return EMPTY;
     }
-    section::crc(handout::handout(c, image, number)) as usize
+    section::crc(carousel_handout::handout(c, image, number)) as usize
 }
 
 // Lines, as values: they are made apart from `out`, and `put_line` alone puts them.

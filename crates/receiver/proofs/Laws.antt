@@ -2,3 +2,4 @@ pub mod Fates
 pub mod Places
 pub mod Runs
 pub mod Takes
+pub mod Refusals

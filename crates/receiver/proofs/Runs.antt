@@ -1,5 +1,4 @@
 -- What a run is: the one-section calls over the sections that it took; budgets that add up; and that it takes no more than its budget and passes no more than its stretch.
--- Assumes nothing.
 use Prim.Native.Nat.{ℕ, zero, suc, _+_, _*_, _≤_}
 use mathlib.Core.Path.{_≡_, refl, sym, ap, _∙_}
 use mathlib.Core.Bool.{Bool, true, false, cond}
@@ -12,21 +11,21 @@ use borrow.Author.Tests.{eqb-true, eqb-false}
 use Rattle.wire.specs.Fields.{byteAt}
 use Rattle.wire.specs.Items.{joined}
 use Rattle.section.specs.Header.{applicationTable}
-use Rattle.record.specs.declared.Carousel.{Carousel}
-use Rattle.record.specs.Record.{ruledOf}
-use Rattle.carousel.specs.Step.{steppedOf}
-use Rattle.carousel.proofs.Simulation.{step-rule}
+use Rattle.carousel_record.specs.declared.Carousel.{Carousel}
+use Rattle.carousel_record.specs.Record.{ruledOf}
+use Rattle.carousel_step.specs.Step.{steppedOf}
+use Rattle.carousel_step.proofs.Simulation.{step-rule}
 use Rattle.receiver.specs.declared.Given.{Given}
 use Rattle.receiver.specs.declared.Fate.{Fate}
 use Rattle.receiver.specs.declared.Took.{Took}
 use Rattle.receiver.specs.declared.Stop.{Stop}
 use Rattle.receiver.specs.declared.Stop.the-variants as stop
-use Rattle.receiver.specs.Run.{wholeAt, stopAt, tableFate, carouselFate, givenOf, imageGiven, tookOf, imageTook, Outcome, halted, after, runs, runOf, sectionsOf, fatesOf, Held, walk}
+use Rattle.receiver.specs.Run.{wholeAt, stopAt, tableFate, carouselFate, givenOf, imageGiven, tookOf, imageTook, RunOutcome, halted, runAfter, runs, runOf, sectionsOf, fatesOf, Held, walk}
 use Rattle.receiver.proofs.Laws.Places.{whole-fits, whole-three}
 use Rattle.receiver.proofs.Laws.Runs.{took-one, ahead, same-counts, ahead-none, runs-stop, runs-next, run-state, run-ruled}
 
 -- what a run leaves, as a record and an image
-abbrev pub heldBy : Outcome → Held
+abbrev pub heldBy : RunOutcome → Held
 heldBy o = record { state = o .state; image = o .image }
 
 -- THE RUN IS THE ONE-SECTION CALLS OVER THE SECTIONS THAT IT TOOK
@@ -37,7 +36,7 @@ unfolding runs sectionsOf walk joined
 run-walks zero c s image = (refl, refl, refl)
 run-walks (suc budget) c s image = go (eqb (wholeAt s) 0) (run-walks budget (givenOf c (take (wholeAt s) s) image .state) (drop (wholeAt s) s) (imageGiven c (take (wholeAt s) s) image))
   where
-    next : Outcome
+    next : RunOutcome
     next = runs budget (givenOf c (take (wholeAt s) s) image .state) (drop (wholeAt s) s) (imageGiven c (take (wholeAt s) s) image)
 
     rest : List (List ℕ)
@@ -45,9 +44,9 @@ run-walks (suc budget) c s image = go (eqb (wholeAt s) 0) (run-walks budget (giv
 
     go : (t : Bool)
         → (heldBy next ≡ walk (record { state = givenOf c (take (wholeAt s) s) image .state; image = imageGiven c (take (wholeAt s) s) image }) rest) × (next .taken ≡ length rest) × (next .passed ≡ length (joined rest))
-        → (heldBy (cond t (halted c image (stopAt s)) (after (wholeAt s) next)) ≡ walk (record { state = c; image = image }) (cond t [] (take (wholeAt s) s ∷ rest)))
-        × (cond t (halted c image (stopAt s)) (after (wholeAt s) next) .taken ≡ length (cond t [] (take (wholeAt s) s ∷ rest)))
-        × (cond t (halted c image (stopAt s)) (after (wholeAt s) next) .passed ≡ length (joined (cond t [] (take (wholeAt s) s ∷ rest))))
+        → (heldBy (cond t (halted c image (stopAt s)) (runAfter (wholeAt s) next)) ≡ walk (record { state = c; image = image }) (cond t [] (take (wholeAt s) s ∷ rest)))
+        × (cond t (halted c image (stopAt s)) (runAfter (wholeAt s) next) .taken ≡ length (cond t [] (take (wholeAt s) s ∷ rest)))
+        × (cond t (halted c image (stopAt s)) (runAfter (wholeAt s) next) .passed ≡ length (joined (cond t [] (take (wholeAt s) s ∷ rest))))
     go true h = (refl, refl, refl)
     go false h =
         let w = length-take-le (wholeAt s) s (whole-fits s) in
@@ -60,13 +59,13 @@ unfolding runs fatesOf
 fates-counted zero c s image = refl
 fates-counted (suc budget) c s image = go (eqb (wholeAt s) 0) (fates-counted budget (givenOf c (take (wholeAt s) s) image .state) (drop (wholeAt s) s) (imageGiven c (take (wholeAt s) s) image))
   where
-    next : Outcome
+    next : RunOutcome
     next = runs budget (givenOf c (take (wholeAt s) s) image .state) (drop (wholeAt s) s) (imageGiven c (take (wholeAt s) s) image)
 
     rest : List Fate
     rest = fatesOf budget (givenOf c (take (wholeAt s) s) image .state) (drop (wholeAt s) s) (imageGiven c (take (wholeAt s) s) image)
 
-    go : (t : Bool) → length rest ≡ next .taken → length (cond t [] (givenOf c (take (wholeAt s) s) image .fate ∷ rest)) ≡ cond t (halted c image (stopAt s)) (after (wholeAt s) next) .taken
+    go : (t : Bool) → length rest ≡ next .taken → length (cond t [] (givenOf c (take (wholeAt s) s) image .fate ∷ rest)) ≡ cond t (halted c image (stopAt s)) (runAfter (wholeAt s) next) .taken
     go true h = refl
     go false h = ap suc h
 
@@ -77,7 +76,7 @@ taken-most zero c s image = omega arith
 taken-most (suc budget) c s image = go (eqb (wholeAt s) 0) (taken-most budget (givenOf c (take (wholeAt s) s) image .state) (drop (wholeAt s) s) (imageGiven c (take (wholeAt s) s) image))
   where
     go : (t : Bool) → runs budget (givenOf c (take (wholeAt s) s) image .state) (drop (wholeAt s) s) (imageGiven c (take (wholeAt s) s) image) .taken ≤ budget
-        → cond t (halted c image (stopAt s)) (after (wholeAt s) (runs budget (givenOf c (take (wholeAt s) s) image .state) (drop (wholeAt s) s) (imageGiven c (take (wholeAt s) s) image))) .taken ≤ suc budget
+        → cond t (halted c image (stopAt s)) (runAfter (wholeAt s) (runs budget (givenOf c (take (wholeAt s) s) image .state) (drop (wholeAt s) s) (imageGiven c (take (wholeAt s) s) image))) .taken ≤ suc budget
     go true h = omega arith
     go false h = omega arith
 
@@ -87,7 +86,7 @@ passed-most zero c s image = omega arith
 passed-most (suc budget) c s image = go (eqb (wholeAt s) 0) (passed-most budget (givenOf c (take (wholeAt s) s) image .state) (drop (wholeAt s) s) (imageGiven c (take (wholeAt s) s) image))
   where
     go : (t : Bool) → runs budget (givenOf c (take (wholeAt s) s) image .state) (drop (wholeAt s) s) (imageGiven c (take (wholeAt s) s) image) .passed ≤ length (drop (wholeAt s) s)
-        → cond t (halted c image (stopAt s)) (after (wholeAt s) (runs budget (givenOf c (take (wholeAt s) s) image .state) (drop (wholeAt s) s) (imageGiven c (take (wholeAt s) s) image))) .passed ≤ length s
+        → cond t (halted c image (stopAt s)) (runAfter (wholeAt s) (runs budget (givenOf c (take (wholeAt s) s) image .state) (drop (wholeAt s) s) (imageGiven c (take (wholeAt s) s) image))) .passed ≤ length s
     go true h = omega arith
     go false h = let f = whole-fits s in let l = length-drop (wholeAt s) s in omega arith
 
@@ -97,10 +96,10 @@ unfolding runs
 taken-third zero c s image = omega arith
 taken-third (suc budget) c s image = go (eqb (wholeAt s) 0) refl (taken-third budget (givenOf c (take (wholeAt s) s) image .state) (drop (wholeAt s) s) (imageGiven c (take (wholeAt s) s) image))
   where
-    next : Outcome
+    next : RunOutcome
     next = runs budget (givenOf c (take (wholeAt s) s) image .state) (drop (wholeAt s) s) (imageGiven c (take (wholeAt s) s) image)
 
-    go : (t : Bool) → eqb (wholeAt s) 0 ≡ t → 3 * next .taken ≤ length (drop (wholeAt s) s) → 3 * cond t (halted c image (stopAt s)) (after (wholeAt s) next) .taken ≤ length s
+    go : (t : Bool) → eqb (wholeAt s) 0 ≡ t → 3 * next .taken ≤ length (drop (wholeAt s) s) → 3 * cond t (halted c image (stopAt s)) (runAfter (wholeAt s) next) .taken ≤ length s
     go true e h = omega arith
     go false e h =
         let f = whole-fits s in
@@ -124,15 +123,15 @@ runs-rule (suc budget) c s image r =
     go (eqb (wholeAt s) 0) (runs-rule budget (givenOf c (take (wholeAt s) s) image .state) (drop (wholeAt s) s) (imageGiven c (take (wholeAt s) s) image) (given-rule c (take (wholeAt s) s) image r))
   where
     go : (t : Bool) → ruledOf (runs budget (givenOf c (take (wholeAt s) s) image .state) (drop (wholeAt s) s) (imageGiven c (take (wholeAt s) s) image) .state) ≡ true
-        → ruledOf (cond t (halted c image (stopAt s)) (after (wholeAt s) (runs budget (givenOf c (take (wholeAt s) s) image .state) (drop (wholeAt s) s) (imageGiven c (take (wholeAt s) s) image))) .state) ≡ true
+        → ruledOf (cond t (halted c image (stopAt s)) (runAfter (wholeAt s) (runs budget (givenOf c (take (wholeAt s) s) image .state) (drop (wholeAt s) s) (imageGiven c (take (wholeAt s) s) image))) .state) ≡ true
     go true h = r
     go false h = h
 
 -- a run, and then another of the rest
-abbrev pub andThen : Outcome → List ℕ → ℕ → Outcome
+abbrev pub andThen : RunOutcome → List ℕ → ℕ → RunOutcome
 andThen o s m = ahead (o .taken) (o .passed) (runs m (o .state) (drop (o .passed) s) (o .image))
 
-after-ahead : (n t p : ℕ) (o : Outcome) → after n (ahead t p o) ≡ ahead (suc t) (n + p) o
+after-ahead : (n t p : ℕ) (o : RunOutcome) → runAfter n (ahead t p o) ≡ ahead (suc t) (n + p) o
 after-ahead n t p o = same-counts o (suc (t + o .taken)) (suc t + o .taken) (n + (p + o .passed)) (n + p + o .passed) (omega arith) (omega arith)
 
 -- "A BUDGET OF n, THEN ONE OF m ON THE REST, LEAVES THE SAME RECORD, IMAGE AND LAST STOP AS n + m ..; TAKEN AND PASSED ADD UP"
@@ -144,7 +143,7 @@ unfolding runs
 runs-add zero m c s image = let e : 0 + m ≡ m = omega arith in ap (λ (k : ℕ). runs k c s image) e ∙ sym (then-none m c s image (stopAt s))
 runs-add (suc n) m c s image = go (eqb (wholeAt s) 0) refl (runs-add n m (givenOf c (take (wholeAt s) s) image .state) (drop (wholeAt s) s) (imageGiven c (take (wholeAt s) s) image))
   where
-    o : Outcome
+    o : RunOutcome
     o = runs n (givenOf c (take (wholeAt s) s) image .state) (drop (wholeAt s) s) (imageGiven c (take (wholeAt s) s) image)
 
     go : (t : Bool) → eqb (wholeAt s) 0 ≡ t
@@ -152,23 +151,23 @@ runs-add (suc n) m c s image = go (eqb (wholeAt s) 0) refl (runs-add n m (givenO
         → runs (suc n + m) c s image ≡ andThen (runs (suc n) c s image) s m
     go true e h =
         let z = eqb-true (wholeAt s) 0 e in
-        runs-stop (suc n + m) c s image z ∙ sym (ap (λ (q : Outcome). andThen q s m) (runs-stop (suc n) c s image z) ∙ then-none m c s image (stopAt s) ∙ runs-stop m c s image z)
+        runs-stop (suc n + m) c s image z ∙ sym (ap (λ (q : RunOutcome). andThen q s m) (runs-stop (suc n) c s image z) ∙ then-none m c s image (stopAt s) ∙ runs-stop m c s image z)
     go false e h =
         let z = eqb-false (wholeAt s) 0 e in
         let k : suc n + m ≡ suc (n + m) = omega arith in
         ap (λ (j : ℕ). runs j c s image) k
         ∙ runs-next (n + m) c s image z
-        ∙ ap (after (wholeAt s)) h
+        ∙ ap (runAfter (wholeAt s)) h
         ∙ after-ahead (wholeAt s) (o .taken) (o .passed) (runs m (o .state) (drop (o .passed) (drop (wholeAt s) s)) (o .image))
         ∙ ap (λ (x : List ℕ). ahead (suc (o .taken)) (wholeAt s + o .passed) (runs m (o .state) x (o .image))) (drop-drop (o .passed) (wholeAt s) s)
-        ∙ sym (ap (λ (q : Outcome). andThen q s m) (runs-next n c s image z))
+        ∙ sym (ap (λ (q : RunOutcome). andThen q s m) (runs-next n c s image z))
 
 -- and of any record: a broken one stops both, "state"
 pub run-adds : (c : Carousel) (s image : List ℕ) (n m : ℕ) → let o = runOf c s image n in
     runOf c s image (n + m) ≡ ahead (o .taken) (o .passed) (runOf (o .state) (drop (o .passed) s) (o .image) m)
 run-adds c s image n m = go (ruledOf c) refl
   where
-    rest : Outcome → Outcome
+    rest : RunOutcome → RunOutcome
     rest o = ahead (o .taken) (o .passed) (runOf (o .state) (drop (o .passed) s) (o .image) m)
 
     go : (t : Bool) → ruledOf c ≡ t → runOf c s image (n + m) ≡ rest (runOf c s image n)
@@ -187,14 +186,14 @@ module _ (c : Carousel) (s image : List ℕ) (r : ruledOf c ≡ true) where
   run-stopped budget z = run-ruled c s image budget r ∙ runs-stop budget c s image z
 
   pub run-taken : (budget : ℕ) → (wholeAt s ≡ 0 → ⊥)
-      → runOf c s image (suc budget) ≡ after (wholeAt s) (runOf (tookOf c s image (suc budget) .state) (drop (wholeAt s) s) (imageTook c s image (suc budget)) budget)
+      → runOf c s image (suc budget) ≡ runAfter (wholeAt s) (runOf (tookOf c s image (suc budget) .state) (drop (wholeAt s) s) (imageTook c s image (suc budget)) budget)
   run-taken budget n =
       let p = took-one c s image (suc budget) r n (λ z. omega arith) in
       let k = given-rule c (take (wholeAt s) s) image r in
       run-ruled c s image (suc budget) r
       ∙ runs-next budget c s image n
       ∙ sym (
-      ap (λ (x : Took). after (wholeAt s) (runOf (x .state) (drop (wholeAt s) s) (imageTook c s image (suc budget)) budget)) (p .0)
-      ∙ ap (λ (x : List ℕ). after (wholeAt s) (runOf (givenOf c (take (wholeAt s) s) image .state) (drop (wholeAt s) s) x budget)) (p .1)
-      ∙ ap (after (wholeAt s)) (run-ruled _ _ _ budget k)
+      ap (λ (x : Took). runAfter (wholeAt s) (runOf (x .state) (drop (wholeAt s) s) (imageTook c s image (suc budget)) budget)) (p .0)
+      ∙ ap (λ (x : List ℕ). runAfter (wholeAt s) (runOf (givenOf c (take (wholeAt s) s) image .state) (drop (wholeAt s) s) x budget)) (p .1)
+      ∙ ap (runAfter (wholeAt s)) (run-ruled _ _ _ budget k)
       )

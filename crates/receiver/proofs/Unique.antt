@@ -1,5 +1,4 @@
 -- Each public call of this crate leaves one answer, one record and one image.
--- Assumes nothing.
 use Prim.Native.Nat.{ℕ}
 use mathlib.Core.Path.{_≡_, sym, ap, _∙_}
 use mathlib.Core.List.{List}
@@ -7,7 +6,7 @@ use contract.Lifetimes.{Lfts}
 use borrow.Fn.Kinds.{Dens, resT, endedOf}
 use denote.Triple.Clauses.{AtExit}
 use Rattle.wire.proofs.Once.{OneAnswer}
-use Rattle.record.specs.declared.Carousel.{Carousel}
+use Rattle.carousel_record.specs.declared.Carousel.{Carousel}
 use Rattle.receiver.specs.declared.Passage.{Passage}
 use Rattle.receiver.specs.declared.Ran.{Ran}
 use Rattle.receiver.specs.Run.{ranOf, imageRan}

@@ -1,5 +1,4 @@
 -- One place of a stretch, and the run. 01, "The run".
--- Assumes nothing.
 use Prim.Native.Nat.{ℕ, zero, suc, _+_}
 use mathlib.Core.Bool.{Bool, cond, _||_}
 use mathlib.Core.List.{List, [], _∷_}
@@ -8,14 +7,14 @@ use lib.ListN.{length, take, drop}
 use Rattle.wire.specs.Fields.{byteAt}
 use Rattle.wire.specs.Tests.{firstMet}
 use Rattle.section.specs.Header.{lengthOf, applicationTable}
-use Rattle.applications.specs.declared.ReadAnswer.{ReadAnswer}
-use Rattle.applications.specs.declared.ReadAnswer.the-variants as reading
-use Rattle.applications.specs.Answers.{readAnswer, readNumber}
-use Rattle.record.specs.declared.Carousel.{Carousel}
-use Rattle.carousel.specs.declared.Answer.{Answer}
-use Rattle.carousel.specs.declared.Answer.the-variants as answer
-use Rattle.record.specs.Record.{ruledOf}
-use Rattle.carousel.specs.Step.{steppedOf, imageOf, stepTests}
+use Rattle.ait_read.specs.declared.ReadAnswer.{ReadAnswer}
+use Rattle.ait_read.specs.declared.ReadAnswer.the-variants as reading
+use Rattle.ait_read.specs.Answers.{readAnswer, readNumber}
+use Rattle.carousel_record.specs.declared.Carousel.{Carousel}
+use Rattle.carousel_step.specs.declared.Answer.{Answer}
+use Rattle.carousel_step.specs.declared.Answer.the-variants as answer
+use Rattle.carousel_record.specs.Record.{ruledOf}
+use Rattle.carousel_step.specs.Step.{steppedOf, imageOf, stepTests}
 use Rattle.receiver.specs.declared.Stop.{Stop}
 use Rattle.receiver.specs.declared.Stop.the-variants as stop
 use Rattle.receiver.specs.declared.Fate.{Fate}
@@ -66,14 +65,14 @@ givenOf c s image = cond (eqb (byteAt s 0) applicationTable)
 unfoldable pub imageGiven : Carousel → (s image : List ℕ) → List ℕ
 imageGiven c s image = cond (eqb (byteAt s 0) applicationTable) image (imageOf c s image)
 
--- the paper's number of a fate. The name of its kind is in crate report, `kindOf`.
-abbrev pub numberOf : Fate → ℕ
-numberOf (fate.Refused r) = r .number
-numberOf fate.Table = 0
-numberOf fate.New = 0
-numberOf fate.Same = 0
-numberOf fate.Stored = 0
-numberOf fate.Repeated = 0
+-- the paper's number of a fate. The name of its kind is in crate report, `kindName`.
+abbrev pub numberOfFate : Fate → ℕ
+numberOfFate (fate.Refused r) = r .number
+numberOfFate fate.Table = 0
+numberOfFate fate.New = 0
+numberOfFate fate.Same = 0
+numberOfFate fate.Stored = 0
+numberOfFate fate.Repeated = 0
 
 -- and by the paper's numbered cases, in their order, of the application section or of the carousel's step
 abbrev pub givenNumber : Carousel → (s image : List ℕ) → ℕ
@@ -98,35 +97,35 @@ imageTook c s image budget = cond (ruledOf c) (cond (eqb (wholeAt s) 0 || eqb bu
 
 -- the number of what was taken; a stop has none, and counts as 0
 abbrev pub numberTook : What → ℕ
-numberTook (what.Taken x) = numberOf (x .fate)
+numberTook (what.Taken x) = numberOfFate (x .fate)
 numberTook (what.Stopped x) = 0
 
 unfoldable pub tookNumber : Carousel → (s image : List ℕ) → (budget : ℕ) → ℕ
 tookNumber c s image budget = cond (ruledOf c) (cond (eqb (wholeAt s) 0 || eqb budget 0) 0 (givenNumber c (take (wholeAt s) s) image)) 0
 
 -- THE RUN, of a record that keeps its rule: what it leaves, and the image beside it. Sections taken is the count here.
-pub record Outcome : Type 0 where
+pub record RunOutcome : Type 0 where
   pub state : Carousel
   pub image : List ℕ
   pub taken : ℕ
   pub passed : ℕ
   pub stop : Stop
 
-abbrev pub halted : Carousel → List ℕ → Stop → Outcome
+abbrev pub halted : Carousel → List ℕ → Stop → RunOutcome
 halted c image x = record { state = c; image = image; taken = 0; passed = 0; stop = x }
 
 -- one section of n bytes before it
-abbrev pub after : ℕ → Outcome → Outcome
-after n o = record { state = o .state; image = o .image; taken = suc (o .taken); passed = n + o .passed; stop = o .stop }
+abbrev pub runAfter : ℕ → RunOutcome → RunOutcome
+runAfter n o = record { state = o .state; image = o .image; taken = suc (o .taken); passed = n + o .passed; stop = o .stop }
 
-unfoldable pub runs : ℕ → Carousel → (s image : List ℕ) → Outcome
+unfoldable pub runs : ℕ → Carousel → (s image : List ℕ) → RunOutcome
 runs zero c s image = halted c image (stopAt s)
 runs (suc budget) c s image = cond (eqb (wholeAt s) 0)
     (halted c image (stopAt s))
-    (after (wholeAt s) (runs budget (givenOf c (take (wholeAt s) s) image .state) (drop (wholeAt s) s) (imageGiven c (take (wholeAt s) s) image)))
+    (runAfter (wholeAt s) (runs budget (givenOf c (take (wholeAt s) s) image .state) (drop (wholeAt s) s) (imageGiven c (take (wholeAt s) s) image)))
 
 -- "A broken record stops it before any other stop, "state", taken and passed 0."
-unfoldable pub runOf : Carousel → (s image : List ℕ) → (budget : ℕ) → Outcome
+unfoldable pub runOf : Carousel → (s image : List ℕ) → (budget : ℕ) → RunOutcome
 runOf c s image budget = cond (ruledOf c) (runs budget c s image) (halted c image stop.State)
 
 abbrev pub ranOf : Carousel → (s image : List ℕ) → (budget : ℕ) → Ran
@@ -136,7 +135,7 @@ ranOf c s image budget =
 abbrev pub imageRan : Carousel → (s image : List ℕ) → (budget : ℕ) → List ℕ
 imageRan c s image budget = runOf c s image budget .image
 
--- the sections that a run takes, one after another: they are whatever whole sections stand in the stretch, accepted or refused
+-- the sections that a run takes, one runAfter another: they are whatever whole sections stand in the stretch, accepted or refused
 unfoldable pub sectionsOf : (budget : ℕ) → List ℕ → List (List ℕ)
 sectionsOf zero s = []
 sectionsOf (suc budget) s = cond (eqb (wholeAt s) 0) [] (take (wholeAt s) s ∷ sectionsOf budget (drop (wholeAt s) s))
@@ -148,12 +147,12 @@ fatesOf (suc budget) c s image = cond (eqb (wholeAt s) 0)
     []
     (givenOf c (take (wholeAt s) s) image .fate ∷ fatesOf budget (givenOf c (take (wholeAt s) s) image .state) (drop (wholeAt s) s) (imageGiven c (take (wholeAt s) s) image))
 
--- a record and an image, carried from call to call over one section after another
+-- a record and an image, carried from call to call over one section runAfter another
 pub record Held : Type 0 where
   pub state : Carousel
   pub image : List ℕ
 
--- one call on one section; and one after another
+-- one call on one section; and one runAfter another
 abbrev pub given : Held → List ℕ → Held
 given x s = record { state = givenOf (x .state) s (x .image) .state; image = imageGiven (x .state) s (x .image) }
 

@@ -4,15 +4,15 @@
 // specs/Run.antt. A section of table 0x74 goes by the application rules, every other by the
 // carousel's.
 
-use applications::ReadAnswer;
-use carousel::Answer;
-use record::Carousel;
+use ait_read::ReadAnswer;
+use carousel_record::Carousel;
+use carousel_step::Answer;
 use section::Refusal;
 ghost use mathlib.Core.Path.{_≡_};
 ghost use mathlib.Core.Bool.{true};
 ghost use Prim.Native.Nat.{_≤_};
 ghost use lib.ListN.{length};
-ghost use Rattle.record.specs.Record.{ruledOf};
+ghost use Rattle.carousel_record.specs.Record.{ruledOf};
 ghost use Rattle.receiver.specs.Run.{stoppedBy, wholeAt, stopAt, givenOf, imageGiven, tookOf, imageTook, numberTook, tookNumber, ranOf, imageRan, tableFate, carouselFate};
 
 // The byte that fills a stretch after its last section.
@@ -79,7 +79,7 @@ pub fn take(c: Carousel, stretch: &[u8], image: &mut [u8], budget: usize) -> Too
         × (now (image .exit) ≡ imageTook c (now (stretch .entry)) (now (image .entry)) budget)
         × (numberTook (r .what) ≡ tookNumber c (now (stretch .entry)) (now (image .entry)) budget) ⌝ }
 {
-    if !record::is_ruled(c) {
+    if !carousel_record::is_ruled(c) {
         return stopped(c, Stop::State);
     }
     let n = whole_at(stretch);
@@ -120,7 +120,7 @@ pub fn run(c: Carousel, stretch: &[u8], image: &mut [u8], budget: usize) -> Ran
     ensures { λ r. ⌜ (r ≡ ranOf c (now (stretch .entry)) (now (image .entry)) budget)
         × (now (image .exit) ≡ imageRan c (now (stretch .entry)) (now (image .entry)) budget) ⌝ }
 {
-    if !record::is_ruled(c) {
+    if !carousel_record::is_ruled(c) {
         return ended(c, 0, 0, Stop::State);
     }
     let mut d = c;
@@ -217,7 +217,7 @@ fn give(c: Carousel, s: &[u8], image: &mut [u8]) -> Given
             state: c,
         };
     }
-    let st = carousel::step(c, s, image);
+    let st = carousel_step::step(c, s, image);
     let next = st.state;
     let answer = st.answer;
     let fate = carousel_fate(answer);
@@ -230,7 +230,7 @@ fn give(c: Carousel, s: &[u8], image: &mut [u8]) -> Given
 fn table_fate(s: &[u8]) -> Fate
     ensures { λ r. ⌜ r ≡ tableFate (now (s .entry)) ⌝ }
 {
-    match applications::read(s) {
+    match ait_read::read(s) {
         ReadAnswer::Refused(r) => Fate::Refused(r),
         ReadAnswer::Accepted(_) => Fate::Table,
     }

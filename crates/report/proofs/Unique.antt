@@ -1,5 +1,4 @@
 -- The public call of this crate leaves one answer, one text and one image.
--- Assumes nothing.
 use mathlib.Core.Path.{_≡_, sym, _∙_}
 use contract.Lifetimes.{Lfts}
 use borrow.Fn.Kinds.{Dens, resT, endedOf}

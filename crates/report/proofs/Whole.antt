@@ -1,5 +1,4 @@
 -- THE TEXT IS NEVER CUT: of a stretch of at most 65,536 bytes it has at most 393,248, and a writer who lends so many gets it whole.
--- Assumes nothing.
 use Prim.Native.Nat.{ℕ, zero, suc, _+_, _*_, _≤_, _<_}
 use mathlib.Core.Path.{_≡_, ap₂, _∙_}
 use mathlib.Core.Bool.{Bool, true, false, cond}
@@ -10,20 +9,20 @@ use lib.ListN.{length, take, drop, length-append}
 use lib.Seq.{sets}
 use Rattle.text.specs.Text.{codes, reached, decimal}
 use Rattle.text.proofs.Meaning.{decimal-short, whole}
-use Rattle.record.specs.declared.Carousel.{Carousel}
-use Rattle.record.specs.Changes.{emptyRecord}
+use Rattle.carousel_record.specs.declared.Carousel.{Carousel}
+use Rattle.carousel_record.specs.Changes.{emptyRecord}
 use Rattle.receiver.specs.declared.Stop.{Stop}
 use Rattle.receiver.specs.declared.Stop.the-variants as stop
 use Rattle.receiver.specs.declared.Fate.{Fate}
 use Rattle.receiver.specs.declared.Fate.the-variants as fate
-use Rattle.receiver.specs.Run.{numberOf, wholeAt, givenOf, imageGiven, runOf, fatesOf}
-use Rattle.demands.proofs.One.{take-known}
+use Rattle.receiver.specs.Run.{numberOfFate, wholeAt, givenOf, imageGiven, runOf, fatesOf}
+use Rattle.receiver.proofs.Laws.Refusals.{take-known}
 use Rattle.receiver.proofs.Runs.{fates-counted, taken-most, taken-third}
-use Rattle.report.specs.Report.{kindOf, stopName, header, lineOf, linesFrom, lastLine, budget, printed}
+use Rattle.report.specs.Report.{kindName, stopName, header, lineOf, linesFrom, lastLine, budget, printed}
 
 -- the longest names are "repeated" and "stuffing"
-kind-most : (f : Fate) → length (kindOf f) ≤ 8
-unfolding kindOf
+kind-most : (f : Fate) → length (kindName f) ≤ 8
+unfolding kindName
 kind-most fate.Table = omega arith
 kind-most fate.New = omega arith
 kind-most fate.Same = omega arith
@@ -42,7 +41,7 @@ stop-most stop.State = omega arith
 -- the numbers of a run's fates are the paper's, and so have at most two digits
 abbrev Known : List Fate → Type 0
 Known [] = Unit
-Known (f ∷ fs) = (numberOf f ≤ 18) × Known fs
+Known (f ∷ fs) = (numberOfFate f ≤ 18) × Known fs
 
 fates-known : (n : ℕ) (c : Carousel) (s image : List ℕ) → Known (fatesOf n c s image)
 unfolding fatesOf
@@ -51,20 +50,20 @@ fates-known (suc n) c s image =
     let t = take (wholeAt s) s in
     go (eqb (wholeAt s) 0) (take-known c t image) (fates-known n (givenOf c t image .state) (drop (wholeAt s) s) (imageGiven c t image))
   where
-    go : (z : Bool) → numberOf (givenOf c (take (wholeAt s) s) image .fate) ≤ 18
+    go : (z : Bool) → numberOfFate (givenOf c (take (wholeAt s) s) image .fate) ≤ 18
         → Known (fatesOf n (givenOf c (take (wholeAt s) s) image .state) (drop (wholeAt s) s) (imageGiven c (take (wholeAt s) s) image))
         → Known (cond z [] (givenOf c (take (wholeAt s) s) image .fate ∷ fatesOf n (givenOf c (take (wholeAt s) s) image .state) (drop (wholeAt s) s) (imageGiven c (take (wholeAt s) s) image)))
     go true k ks = tt
     go false k ks = (k, ks)
 
 -- a line: at most 5 digits, a comma, 2 digits, a comma, a name, a line feed
-line-most : (i : ℕ) (f : Fate) → i < budget → numberOf f ≤ 18 → length (lineOf i f) ≤ 18
+line-most : (i : ℕ) (f : Fate) → i < budget → numberOfFate f ≤ 18 → length (lineOf i f) ≤ 18
 line-most i f h k =
     let a = decimal i in
-    let b = decimal (numberOf f) in
-    let n = kindOf f in
+    let b = decimal (numberOfFate f) in
+    let n = kindName f in
     let d = decimal-short 4 i (omega arith) in
-    let e = decimal-short 1 (numberOf f) (omega arith) in
+    let e = decimal-short 1 (numberOfFate f) (omega arith) in
     let m = kind-most f in
     let p = length-append (a ++ codes "," ++ b ++ codes "," ++ n) (codes "\n") in
     let q = length-append (a ++ codes "," ++ b ++ codes ",") n in

@@ -1,23 +1,22 @@
 -- THE PROGRAM'S TEXT. 01, "The run": "It prints the header below, one line for each section taken, index from 0, then the stop."
--- Assumes nothing.
 use Prim.Native.Nat.{ℕ, suc}
 use mathlib.Core.List.{List, [], _∷_, _++_}
 use Rattle.text.specs.Text.{codes, decimal}
-use Rattle.record.specs.Changes.{emptyRecord}
+use Rattle.carousel_record.specs.Changes.{emptyRecord}
 use Rattle.receiver.specs.declared.Stop.{Stop}
 use Rattle.receiver.specs.declared.Stop.the-variants as stop
 use Rattle.receiver.specs.declared.Fate.{Fate}
 use Rattle.receiver.specs.declared.Fate.the-variants as fate
-use Rattle.receiver.specs.Run.{numberOf, fatesOf, runOf}
+use Rattle.receiver.specs.Run.{numberOfFate, fatesOf, runOf}
 
 -- the kind's name: "kind "table" when accepted", "new", "same", "stored", "repeated"; "A refused section's kind is "none"."
-unfoldable pub kindOf : Fate → List ℕ
-kindOf fate.Table = codes "table"
-kindOf fate.New = codes "new"
-kindOf fate.Same = codes "same"
-kindOf fate.Stored = codes "stored"
-kindOf fate.Repeated = codes "repeated"
-kindOf (fate.Refused r) = codes "none"
+unfoldable pub kindName : Fate → List ℕ
+kindName fate.Table = codes "table"
+kindName fate.New = codes "new"
+kindName fate.Same = codes "same"
+kindName fate.Stored = codes "stored"
+kindName fate.Repeated = codes "repeated"
+kindName (fate.Refused r) = codes "none"
 
 -- the stop's name
 unfoldable pub stopName : Stop → List ℕ
@@ -33,7 +32,7 @@ header = codes "index,answer,kind\n"
 
 -- "one line for each section taken, index from 0"
 abbrev pub lineOf : (index : ℕ) → Fate → List ℕ
-lineOf index f = decimal index ++ codes "," ++ decimal (numberOf f) ++ codes "," ++ kindOf f ++ codes "\n"
+lineOf index f = decimal index ++ codes "," ++ decimal (numberOfFate f) ++ codes "," ++ kindName f ++ codes "\n"
 
 unfoldable pub linesFrom : (index : ℕ) → List Fate → List ℕ
 linesFrom index [] = []

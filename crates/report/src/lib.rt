@@ -7,9 +7,9 @@ ghost use mathlib.Core.Path.{_≡_};
 ghost use lib.ListN.{length};
 ghost use lib.Seq.{sets};
 ghost use Rattle.text.specs.Text.{reached};
-ghost use Rattle.record.specs.Changes.{emptyRecord};
-ghost use Rattle.receiver.specs.Run.{numberOf, imageRan};
-ghost use Rattle.report.specs.Report.{budget, printed, lineOf, lastLine, kindOf, stopName};
+ghost use Rattle.carousel_record.specs.Changes.{emptyRecord};
+ghost use Rattle.receiver.specs.Run.{numberOfFate, imageRan};
+ghost use Rattle.report.specs.Report.{budget, printed, lineOf, lastLine, kindName, stopName};
 
 // The sections that the program takes at most.
 const BUDGET: usize = 65_536;
@@ -24,7 +24,7 @@ pub fn write_report(stretch: &[u8], image: &mut [u8], out: &mut [u8]) -> usize
         × (r ≡ reached 0 (length (printed (now (stretch .entry)) (now (image .entry)))) (length (now (out .entry))))
         × (now (image .exit) ≡ imageRan emptyRecord (now (stretch .entry)) (now (image .entry)) budget) ⌝ }
 {
-    let mut c = record::empty();
+    let mut c = carousel_record::empty();
     let mut at = text::put(out, 0, b"index,answer,kind\n");
     let mut index: usize = 0;
     let mut passed: usize = 0;
@@ -67,7 +67,7 @@ fn put_stop(out: &mut [u8], at: usize, stop: Stop) -> usize
 }
 
 fn number(fate: Fate) -> u8
-    ensures { λ r. ⌜ r ≡ numberOf fate ⌝ }
+    ensures { λ r. ⌜ r ≡ numberOfFate fate ⌝ }
 {
     match fate {
         Fate::Table => 0,
@@ -80,7 +80,7 @@ fn number(fate: Fate) -> u8
 }
 
 fn put_kind(out: &mut [u8], at: usize, fate: Fate) -> usize
-    ensures { λ r. ⌜ (now (out .exit) ≡ sets (now (out .entry)) at (kindOf fate)) × (r ≡ reached at (length (kindOf fate)) (length (now (out .entry)))) ⌝ }
+    ensures { λ r. ⌜ (now (out .exit) ≡ sets (now (out .entry)) at (kindName fate)) × (r ≡ reached at (length (kindName fate)) (length (now (out .entry)))) ⌝ }
 {
     match fate {
         Fate::Table => text::put(out, at, b"table"),

@@ -1,5 +1,4 @@
 -- Worked examples, computed from the definitions: the CRC's known check value, and an application section that is accepted, so that acceptance is not empty.
--- Assumes nothing.
 use mathlib.Core.Path.{_≡_, refl}
 use mathlib.Core.List.{List, [], _∷_}
 use Prim.Native.Nat.{ℕ}

@@ -1,5 +1,4 @@
 -- What `check` answers: the paper's number of each case, and its values.
--- Assumes nothing.
 use Prim.Native.Nat.{ℕ}
 use mathlib.Core.Bool.{cond}
 use mathlib.Core.List.{List}
@@ -13,9 +12,9 @@ use Rattle.section.specs.declared.Checked.{Checked}
 use Rattle.section.specs.declared.Checked.the-variants.{Refused, Accepted}
 
 -- the paper's number of an answer; 0 is no refusal
-abbrev pub numberOf : Checked → ℕ
-numberOf (Refused r) = r .number
-numberOf (Accepted h) = 0
+abbrev pub numberOfChecked : Checked → ℕ
+numberOfChecked (Refused r) = r .number
+numberOfChecked (Accepted h) = 0
 
 -- the section's refusal as one value
 abbrev pub refused : ℕ → Refusal

@@ -1,5 +1,4 @@
 -- The CRC of ISO/IEC 13818-1. 01, "The section": "generator 0x04C11DB7, register starts all ones, most significant bit first, no final change".
--- Assumes nothing.
 use Prim.Native.Nat.{ℕ, zero, suc, _*_, _/_, _%_, _^_}
 use mathlib.Core.Bool.{cond}
 use mathlib.Core.List.{List, [], _∷_}

@@ -1,5 +1,4 @@
 -- The section's header, and what the application's and the carousel's rules make of it. 01, "The section".
--- Assumes nothing.
 use Prim.Native.Nat.{ℕ, _-_}
 use mathlib.Core.Bool.{Bool, _||_}
 use mathlib.Core.List.{List}

@@ -1,5 +1,4 @@
 -- Refusals 2 to 6, one test for each row of the paper's table. 01, "Numbers a call may answer".
--- Assumes nothing.
 use Prim.Native.Nat.{ℕ, _+_, _≤_}
 use mathlib.Core.Path.{_≡_}
 use mathlib.Core.Bool.{Bool, true, not, _||_}

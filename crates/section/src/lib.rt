@@ -7,7 +7,7 @@ mod register;
 ghost use mathlib.Core.Path.{_≡_};
 ghost use Rattle.section.specs.Header.{isTable, limitOf, headerOf};
 ghost use Rattle.section.specs.Refusals.{refusalOf};
-ghost use Rattle.section.specs.Answer.{numberOf, checkedOf};
+ghost use Rattle.section.specs.Answer.{numberOfChecked, checkedOf};
 pub use register::crc;
 
 pub const APPLICATION_TABLE: u8 = 0x74;
@@ -48,7 +48,7 @@ pub enum Checked {
 
 // Whether `s` is one whole section by these rules.
 pub fn check(s: &[u8], rules: Rules) -> Checked
-    ensures { λ r. ⌜ (r ≡ checkedOf rules (now (s .entry))) × (numberOf r ≡ refusalOf rules (now (s .entry))) ⌝ }
+    ensures { λ r. ⌜ (r ≡ checkedOf rules (now (s .entry))) × (numberOfChecked r ≡ refusalOf rules (now (s .entry))) ⌝ }
 {
     let number = refusal_number(s, rules);
     if number != 0 {

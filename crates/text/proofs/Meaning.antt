@@ -1,5 +1,4 @@
 -- What a reader of the text finds: a number's digits read back are the number, in no more digits than it needs; and a text for which there is room is there whole.
--- Assumes nothing.
 use Prim.Native.Nat.{ℕ, zero, suc, _+_, _-_, _*_, _/_, _%_, _^_, _≤_, _<_}
 use mathlib.Core.Path.{_≡_, refl, ap, _∙_}
 use mathlib.Core.Bool.{Bool, true, false}

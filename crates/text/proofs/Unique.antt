@@ -1,5 +1,4 @@
 -- Each public call of this crate leaves one answer, and one text in what it was lent.
--- Assumes nothing.
 use mathlib.Core.Path.{_≡_, sym, _∙_}
 use contract.Lifetimes.{Lfts}
 use borrow.Fn.Kinds.{Dens, resT, endedOf}

@@ -1,5 +1,4 @@
 -- Text in lent bytes, and a number as text. Nothing here is of DVB.
--- Assumes nothing.
 use Prim.Native.Nat.{ℕ, zero, suc, _+_, _/_, _%_}
 use Prim.Native.Char.{code}
 use Prim.Native.String.{String}

@@ -1,6 +1,5 @@
 -- What it is for a contract to leave one answer, over the prover's own reading of it: any two results that meet it, at the same arguments, coincide.
 -- A call that also changes what a `&mut` lends says the same of what stands behind it at exit, beside this.
--- Assumes nothing.
 use Prim.Native.Nat.{ℕ}
 use mathlib.Core.Path.{_≡_}
 use mathlib.Core.List.{List}

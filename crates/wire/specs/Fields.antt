@@ -1,5 +1,4 @@
 -- Numbers in bytes. A byte past the end of a list reads as 0, so a field has one value in every list and at every place.
--- Assumes nothing.
 use Prim.Native.Nat.{ℕ, zero, suc, _+_, _*_, _/_, _%_, _^_}
 use mathlib.Core.List.{List, [], _∷_}
 use lib.ListN.{getD}

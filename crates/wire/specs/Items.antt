@@ -1,5 +1,4 @@
 -- Items that follow each other. A kind of item is one function, the size of the item that a list begins with, and 0 where it begins with no whole one.
--- Assumes nothing.
 use Prim.Native.Nat.{ℕ, zero, suc, _+_, _≤_, _<_}
 use mathlib.Core.Path.{_≡_}
 use mathlib.Core.Bool.{Bool, true, cond, _&&_}

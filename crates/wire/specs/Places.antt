@@ -1,5 +1,4 @@
 -- Where things lie. A finder says where in a list something lies; places count from the list's own byte 0.
--- Assumes nothing.
 use Prim.Native.Nat.{ℕ, zero, suc, _+_, _-_, _≤_}
 use mathlib.Core.Path.{_≡_}
 use mathlib.Core.Bool.{Bool, cond}

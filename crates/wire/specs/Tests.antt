@@ -1,5 +1,4 @@
 -- Numbered tests, as the paper's table of refusals has them: each a number, and whether it holds.
--- Assumes nothing.
 use Prim.Native.Nat.{ℕ, _<_, _≤_}
 use mathlib.Core.Bool.{Bool, true, false, cond, _&&_, _||_}
 use mathlib.Core.List.{List, [], _∷_}

@@ -183,7 +183,7 @@ fn range(span: Span) -> Range<usize> {
 fn counted(table: baseline::Table) -> Table {
     Table {
         test: table.test,
-        application: table.application,
+        application_type: table.application,
         version: table.version,
         section: table.section,
         last: table.last,
@@ -195,7 +195,7 @@ fn counted(table: baseline::Table) -> Table {
 fn built(read: &tree::Section) -> Table {
     Table {
         test: read.test,
-        application: read.application,
+        application_type: read.application,
         version: read.version,
         section: read.section,
         last: read.last,

@@ -2,7 +2,7 @@
 //! multiplex, section by section, and hands out a module once every block of it has come.
 //!
 //! [`Record`] is the carousel; [`table`] and the functions beside it read an application section. Each
-//! is one call of `libbox_api.a` (x86-64 Linux), which is proved to answer as the paper, the
+//! is one call of `libnebosvar.a` (x86-64 Linux), which is proved to answer as the paper, the
 //! association's document 01, states:
 //!
 //! * Any bytes, any record, any image: each call ends, with the one answer stated for them. There is

@@ -6,7 +6,7 @@ use std::ops::Range;
 #[cold]
 pub fn excluded() -> ! {
     unreachable!(
-        "libbox_api.a gave an answer that its proofs exclude: it is not the archive of this header"
+        "libnebosvar.a gave an answer that its proofs exclude: it is not the archive of this header"
     )
 }
 

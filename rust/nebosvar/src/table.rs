@@ -11,7 +11,7 @@ pub struct Table {
     /// The test flag, 0 or 1.
     pub test: u16,
     /// The application type.
-    pub application: u16,
+    pub application_type: u16,
     /// The version.
     pub version: u8,
     /// The section number.
@@ -270,7 +270,7 @@ pub fn table(section: &[u8]) -> Result<Table, Refusal> {
     Refusal::check(head.refusal)?;
     Ok(Table {
         test: head.test,
-        application: head.application,
+        application_type: head.application_type,
         version: head.version,
         section: head.section,
         last: head.last,
@@ -287,7 +287,7 @@ pub fn application(section: &[u8], i: usize) -> Result<Application, Refusal> {
     Ok(Application {
         organisation: head.organisation,
         number: head.number,
-        class: match head.class {
+        class: match head.class_number {
             1 => Class::Unsigned,
             2 => Class::Signed,
             3 => Class::Other,

@@ -1,5 +1,4 @@
 -- `inspect` stays within the stretch and ends: what `take` takes fits into what is left, and a turn uses up a part of the budget.
--- Assumes nothing.
 use borrow.Author.Needs.{needs}
 use Prim.Native.Nat.{ℕ, _+_, _-_, _≤_, _<_}
 use mathlib.Core.Path.{_≡_, sym, ap, _∙_}
@@ -9,9 +8,9 @@ use native.Mathlib.Omega.{arith}
 use native.Mathlib.Nat.{lt-of-le-of-lt}
 use lib.ListN.{length, take, drop, length-drop}
 use Rattle.wire.proofs.Laws.Loops.{tail}
-use Rattle.record.specs.declared.Carousel.{Carousel}
-use Rattle.record.specs.Record.{ruledOf}
-use Rattle.carousel.proofs.Simulation.{empty-ruled}
+use Rattle.carousel_record.specs.declared.Carousel.{Carousel}
+use Rattle.carousel_record.specs.Record.{ruledOf}
+use Rattle.carousel_step.proofs.Simulation.{empty-ruled}
 use Rattle.receiver.specs.declared.Section.{Section}
 use Rattle.receiver.specs.declared.Took.{Took}
 use Rattle.receiver.specs.declared.What.the-variants as what

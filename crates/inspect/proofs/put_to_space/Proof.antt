@@ -1,5 +1,4 @@
 -- `put_to_space` stays within the words and ends.
--- Assumes nothing.
 use borrow.Author.Needs.{needs}
 use Prim.Native.Nat.{_-_}
 use lib.ListN.{length}

@@ -1,5 +1,4 @@
 -- What the fate of a section tells of the answer behind it.
--- Assumes nothing.
 use Prim.Native.Nat.{ℕ}
 use mathlib.Core.Path.{_≡_, refl, sym, ap, _∙_}
 use mathlib.Core.Bool.{true, false}
@@ -8,10 +7,10 @@ use lib.Dec.{eqb}
 use Rattle.wire.specs.Fields.{byteAt}
 use Rattle.section.specs.Header.{applicationTable}
 use Rattle.section.specs.Answer.{refused}
-use Rattle.record.specs.declared.Carousel.{Carousel}
-use Rattle.carousel.specs.declared.Answer.{Answer}
-use Rattle.carousel.specs.declared.Answer.the-variants as answer
-use Rattle.carousel.specs.Step.{steppedOf}
+use Rattle.carousel_record.specs.declared.Carousel.{Carousel}
+use Rattle.carousel_step.specs.declared.Answer.{Answer}
+use Rattle.carousel_step.specs.declared.Answer.the-variants as answer
+use Rattle.carousel_step.specs.Step.{steppedOf}
 use Rattle.receiver.specs.declared.Fate.{Fate}
 use Rattle.receiver.specs.declared.Fate.the-variants as fate
 use Rattle.receiver.specs.Run.{tableFate, carouselFate, givenOf}

@@ -1,5 +1,4 @@
 -- One section taken, and the run one section at a time, as the loop takes them.
--- Assumes nothing.
 use Prim.Native.Nat.{ℕ, zero, suc, _+_, _-_, _<_}
 use mathlib.Core.Path.{_≡_, refl, sym, ap, ap₂, _∙_}
 use mathlib.Core.Bool.{true, false}
@@ -8,14 +7,14 @@ use native.Mathlib.Omega.{arith}
 use lib.ListN.{length, take, drop}
 use lib.Seq.{drop-drop}
 use borrow.Author.Tests.{eq-eqb, ne-eqb}
-use Rattle.record.specs.declared.Carousel.{Carousel}
-use Rattle.record.specs.Record.{ruledOf}
+use Rattle.carousel_record.specs.declared.Carousel.{Carousel}
+use Rattle.carousel_record.specs.Record.{ruledOf}
 use Rattle.receiver.specs.declared.Stop.{Stop}
 use Rattle.receiver.specs.declared.Stop.the-variants as stop
 use Rattle.receiver.specs.declared.What.the-variants as what
 use Rattle.receiver.specs.declared.Given.{Given}
 use Rattle.receiver.specs.declared.Took.{Took}
-use Rattle.receiver.specs.Run.{wholeAt, stopAt, givenOf, imageGiven, stoppedBy, tookOf, imageTook, Outcome, halted, after, runs, runOf, ranOf, imageRan}
+use Rattle.receiver.specs.Run.{wholeAt, stopAt, givenOf, imageGiven, stoppedBy, tookOf, imageTook, RunOutcome, halted, runAfter, runs, runOf, ranOf, imageRan}
 
 module _ (c : Carousel) (s image : List ℕ) (budget : ℕ) where
   pub took-state : ruledOf c ≡ false → (tookOf c s image budget ≡ stoppedBy c stop.State) × (imageTook c s image budget ≡ image)
@@ -49,18 +48,18 @@ module _ (c : Carousel) (s image : List ℕ) (budget : ℕ) where
   unfolding runOf
   run-ruled r = rw r
 
--- an outcome after t sections and p bytes
-abbrev pub ahead : (t p : ℕ) → Outcome → Outcome
+-- an outcome runAfter t sections and p bytes
+abbrev pub ahead : (t p : ℕ) → RunOutcome → RunOutcome
 ahead t p o = record { state = o .state; image = o .image; taken = t + o .taken; passed = p + o .passed; stop = o .stop }
 
-pub same-counts : (o : Outcome) (t t′ p p′ : ℕ) → t ≡ t′ → p ≡ p′
-    → _≡_ {A = Outcome} (record { state = o .state; image = o .image; taken = t; passed = p; stop = o .stop }) (record { state = o .state; image = o .image; taken = t′; passed = p′; stop = o .stop })
+pub same-counts : (o : RunOutcome) (t t′ p p′ : ℕ) → t ≡ t′ → p ≡ p′
+    → _≡_ {A = RunOutcome} (record { state = o .state; image = o .image; taken = t; passed = p; stop = o .stop }) (record { state = o .state; image = o .image; taken = t′; passed = p′; stop = o .stop })
 same-counts o t t′ p p′ e f = ap₂ (λ (x y : ℕ). record { state = o .state; image = o .image; taken = x; passed = y; stop = o .stop }) e f
 
-pub ahead-none : (o : Outcome) → o ≡ ahead 0 0 o
+pub ahead-none : (o : RunOutcome) → o ≡ ahead 0 0 o
 ahead-none o = same-counts o (o .taken) (0 + o .taken) (o .passed) (0 + o .passed) (omega arith) (omega arith)
 
-pub ahead-after : (t p n : ℕ) (o : Outcome) → ahead t p (after n o) ≡ ahead (t + 1) (p + n) o
+pub ahead-after : (t p n : ℕ) (o : RunOutcome) → ahead t p (runAfter n o) ≡ ahead (t + 1) (p + n) o
 ahead-after t p n o = same-counts o (t + suc (o .taken)) (t + 1 + o .taken) (p + (n + o .passed)) (p + n + o .passed) (omega arith) (omega arith)
 
 pub ahead-halted : (t p : ℕ) (c : Carousel) (image : List ℕ) (x : Stop) → ahead t p (halted c image x) ≡ record { state = c; image = image; taken = t; passed = p; stop = x }
@@ -79,7 +78,7 @@ runs-done (suc k) c s image z = absurd (omega arith)
 
 -- one section is
 pub runs-next : (k : ℕ) (c : Carousel) (s image : List ℕ) → (wholeAt s ≡ 0 → ⊥)
-    → runs (suc k) c s image ≡ after (wholeAt s) (runs k (givenOf c (take (wholeAt s) s) image .state) (drop (wholeAt s) s) (imageGiven c (take (wholeAt s) s) image))
+    → runs (suc k) c s image ≡ runAfter (wholeAt s) (runs k (givenOf c (take (wholeAt s) s) image .state) (drop (wholeAt s) s) (imageGiven c (take (wholeAt s) s) image))
 unfolding runs
 runs-next k c s image n = rw (ne-eqb (wholeAt s) 0 n)
 
@@ -90,7 +89,7 @@ pub turn : (stretch image : List ℕ) (d : Carousel) (t p b : ℕ) (n : ℕ) →
 turn stretch image d t p b n e z l =
     let f : b ≡ suc (b - 1) = omega arith in
     let g = drop-drop n p stretch in
-    let later : List ℕ → Outcome = λ x. ahead (t + 1) (p + n) (runs (b - 1) (givenOf d (take n (drop p stretch)) image .state) x (imageGiven d (take n (drop p stretch)) image)) in
+    let later : List ℕ → RunOutcome = λ x. ahead (t + 1) (p + n) (runs (b - 1) (givenOf d (take n (drop p stretch)) image .state) x (imageGiven d (take n (drop p stretch)) image)) in
     sym (ap (λ (k : ℕ). ahead t p (runs k d (drop p stretch) image)) f ∙ ap (ahead t p) (runs-next (b - 1) d (drop p stretch) image (λ y. z (e ∙ y))) ∙ rw (← e) (ahead-after t p n _ ∙ ap later g))
 
 -- what was taken, from what code has in hand
@@ -103,7 +102,7 @@ taken-is c s image n w g x e f h = rw (f, e) (sym h)
 pub ran-is : (c : Carousel) (s image : List ℕ) (budget : ℕ) (d : Carousel) (l : List ℕ) (t p : ℕ) (x : Stop) → runOf c s image budget ≡ record { state = d; image = l; taken = t; passed = p; stop = x }
     → (record { passage = record { taken = t; passed = p; stop = x }; state = d } ≡ ranOf c s image budget) × (l ≡ imageRan c s image budget)
 ran-is c s image budget d l t p x e =
-    (ap (λ (o : Outcome). record { passage = record { taken = o .taken; passed = o .passed; stop = o .stop }; state = o .state }) (sym e), ap (λ (o : Outcome). o .image) (sym e))
+    (ap (λ (o : RunOutcome). record { passage = record { taken = o .taken; passed = o .passed; stop = o .stop }; state = o .state }) (sym e), ap (λ (o : RunOutcome). o .image) (sym e))
 
 -- the loop's turn, from what code has in hand
 pub turned : (stretch image : List ℕ) (d : Carousel) (t p budget n : ℕ) (g : Given) (l part : List ℕ) → part ≡ take n (drop p stretch) → g ≡ givenOf d part image → l ≡ imageGiven d part image

@@ -1,5 +1,4 @@
 -- `take` from its answer on: its number, and what a caller who repeats it knows of the run.
--- Assumes nothing.
 use Prim.Native.Nat.{ℕ, zero, suc, _-_, _≤_, _<_}
 use mathlib.Core.Path.{_≡_, refl, sym, ap, _∙_}
 use mathlib.Core.Bool.{Bool, true, false, cond, _||_}
@@ -12,17 +11,17 @@ use Rattle.wire.specs.Fields.{byteAt}
 use Rattle.wire.specs.Tests.{firstMet}
 use Rattle.wire.proofs.Laws.Tests.{clash}
 use Rattle.section.specs.Header.{applicationTable}
-use Rattle.applications.specs.declared.ReadAnswer.{ReadAnswer}
-use Rattle.applications.specs.declared.ReadAnswer.the-variants as reading
-use Rattle.applications.specs.Answers.{readAnswer, numberOfRead, readNumber}
-use Rattle.applications.proofs.Laws.Numbers.{read-number}
-use Rattle.record.specs.declared.Carousel.{Carousel}
-use Rattle.carousel.specs.declared.Answer.{Answer}
-use Rattle.carousel.specs.declared.Answer.the-variants as answer
-use Rattle.record.specs.Record.{ruledOf}
-use Rattle.carousel.specs.Step.{steppedOf, stepTests}
-use Rattle.carousel.specs.Step.{numberOf as stepNumberOf}
-use Rattle.carousel.proofs.Exact.{step-number}
+use Rattle.ait_read.specs.declared.ReadAnswer.{ReadAnswer}
+use Rattle.ait_read.specs.declared.ReadAnswer.the-variants as reading
+use Rattle.ait_read.specs.Answers.{readAnswer, numberOfRead, readNumber}
+use Rattle.ait_read.proofs.Laws.Numbers.{read-number}
+use Rattle.carousel_record.specs.declared.Carousel.{Carousel}
+use Rattle.carousel_step.specs.declared.Answer.{Answer}
+use Rattle.carousel_step.specs.declared.Answer.the-variants as answer
+use Rattle.carousel_record.specs.Record.{ruledOf}
+use Rattle.carousel_step.specs.Step.{steppedOf, stepTests}
+use Rattle.carousel_step.specs.Step.{numberOfAnswer}
+use Rattle.carousel_step.proofs.Exact.{step-number}
 use Rattle.receiver.specs.declared.Stop.{Stop}
 use Rattle.receiver.specs.declared.Stop.the-variants as stop
 use Rattle.receiver.specs.declared.Section.{Section}
@@ -33,15 +32,15 @@ use Rattle.receiver.specs.declared.Took.{Took}
 use Rattle.receiver.proofs.Laws.Places.{whole-fits}
 use Rattle.receiver.proofs.Laws.Runs.{took-stop, took-budget, took-one, runs-stop, runs-done, runs-next}
 use Rattle.receiver.proofs.Runs.{given-rule}
-use Rattle.receiver.specs.Run.{stopAt, wholeAt, readFate, tableFate, carouselFate, givenOf, imageGiven, numberOf, givenNumber, stoppedBy, tookOf, imageTook, numberTook, tookNumber, halted, after, runs, fatesOf}
+use Rattle.receiver.specs.Run.{stopAt, wholeAt, readFate, tableFate, carouselFate, givenOf, imageGiven, numberOfFate, givenNumber, stoppedBy, tookOf, imageTook, numberTook, tookNumber, halted, runAfter, runs, fatesOf}
 
 -- THE NUMBER OF ONE SECTION is that of the paper's table, whichever rules it goes by
-read-fate : (a : ReadAnswer) → numberOf (readFate a) ≡ numberOfRead a
+read-fate : (a : ReadAnswer) → numberOfFate (readFate a) ≡ numberOfRead a
 unfolding readFate
 read-fate (reading.Refused r) = refl
 read-fate (reading.Accepted t) = refl
 
-pub carousel-fate : (a : Answer) → numberOf (carouselFate a) ≡ stepNumberOf a
+pub carousel-fate : (a : Answer) → numberOfFate (carouselFate a) ≡ numberOfAnswer a
 unfolding carouselFate
 carousel-fate answer.New = refl
 carousel-fate answer.Same = refl
@@ -49,11 +48,11 @@ carousel-fate answer.Stored = refl
 carousel-fate answer.Repeated = refl
 carousel-fate (answer.Refused r) = refl
 
-pub given-number : (c : Carousel) (s image : List ℕ) → numberOf (givenOf c s image .fate) ≡ givenNumber c s image
+pub given-number : (c : Carousel) (s image : List ℕ) → numberOfFate (givenOf c s image .fate) ≡ givenNumber c s image
 unfolding givenOf
 given-number c s image = go (eqb (byteAt s 0) applicationTable)
   where
-    go : (t : Bool) → numberOf (cond {A = Given} t (record { fate = tableFate s; state = c }) (record { fate = carouselFate (steppedOf c s image .answer); state = steppedOf c s image .state }) .fate)
+    go : (t : Bool) → numberOfFate (cond {A = Given} t (record { fate = tableFate s; state = c }) (record { fate = carouselFate (steppedOf c s image .answer); state = steppedOf c s image .state }) .fate)
         ≡ cond t (readNumber s) (firstMet (stepTests c s image))
     go true = read-fate (readAnswer s) ∙ read-number s
     go false = carousel-fate (steppedOf c s image .answer) ∙ step-number c s image
@@ -138,7 +137,7 @@ module _ (c : Carousel) (s image : List ℕ) (r : ruledOf c ≡ true) where
   GoesOn budget x d l =
       (0 < budget) × (x .length ≤ length s) × (ruledOf d ≡ true)
       × (fatesOf budget c s image ≡ x .fate ∷ fatesOf (budget - 1) d (drop (x .length) s) l)
-      × (runs budget c s image ≡ after (x .length) (runs (budget - 1) d (drop (x .length) s) l))
+      × (runs budget c s image ≡ runAfter (x .length) (runs (budget - 1) d (drop (x .length) s) l))
 
   pub goes-on : (budget : ℕ) (x : Section) → tookOf c s image budget .what ≡ what.Taken x → GoesOn budget x (tookOf c s image budget .state) (imageTook c s image budget)
   goes-on zero x e = let p = took-none c s image r in absurd (clash (isTaken (tookOf c s image 0 .what)) (ap isTaken e) (ap (λ (y : Took). isTaken (y .what)) (p .0)))

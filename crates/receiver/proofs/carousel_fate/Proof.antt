@@ -1,5 +1,4 @@
 -- `receiver::carousel_fate` meets its contract, case by case.
--- Assumes nothing.
 use Rattle.receiver.specs.Run.{carouselFate}
 use borrow.Author.Needs.{needs}
 use Rattle.receiver.proofs.carousel_fate.Statement.{statement}

@@ -1,8 +1,7 @@
 -- `receiver::give` meets its contract: a table leaves record and image; everything else is a step of the carousel.
--- Assumes nothing.
 use mathlib.Core.Path.{_≡_, refl, sym, _∙_}
 use borrow.Author.Tests.{eq-eqb, ne-eqb}
-use Rattle.carousel.specs.declared.Stepped.{Stepped}
+use Rattle.carousel_step.specs.declared.Stepped.{Stepped}
 use Rattle.receiver.specs.declared.Fate.{Fate}
 use Rattle.receiver.specs.declared.Given.{Given}
 use Rattle.receiver.specs.Run.{carouselFate, givenOf, imageGiven}

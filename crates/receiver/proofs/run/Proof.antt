@@ -1,5 +1,4 @@
 -- `receiver::run` meets its contract. The invariant: the run from here on, after what was taken and passed, is the run of the whole.
--- Assumes nothing.
 use borrow.Author.Needs.{needs}
 use Prim.Native.Nat.{ℕ, _+_, _-_, _≤_}
 use mathlib.Core.Path.{_≡_, refl, sym, ap, _∙_}
@@ -9,8 +8,8 @@ use lib.ListN.{length, take, drop, length-drop}
 use lib.Seq.{length-take-le}
 use borrow.Author.Tests.{not-true, not-false}
 use Rattle.wire.proofs.Laws.Loops.{tail}
-use Rattle.record.specs.declared.Carousel.{Carousel}
-use Rattle.record.specs.Record.{ruledOf}
+use Rattle.carousel_record.specs.declared.Carousel.{Carousel}
+use Rattle.carousel_record.specs.Record.{ruledOf}
 use Rattle.receiver.specs.declared.Stop.{Stop}
 use Rattle.receiver.specs.declared.Ran.{Ran}
 use Rattle.receiver.specs.Run.{wholeAt, stopAt, runs}

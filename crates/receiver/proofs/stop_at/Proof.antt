@@ -1,5 +1,4 @@
 -- `receiver::stop_at` meets its contract: the stops in the paper's order.
--- Assumes nothing.
 use mathlib.Core.Path.{sym, _∙_}
 use Rattle.receiver.proofs.Laws.Places.{stop-end, stop-stuffing, stop-short, stop-budget}
 use borrow.Author.Needs.{needs}

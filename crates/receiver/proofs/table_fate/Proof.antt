@@ -1,5 +1,4 @@
 -- `receiver::table_fate` meets its contract, case by case.
--- Assumes nothing.
 use mathlib.Core.Path.{sym, _∙_}
 use Rattle.receiver.specs.Run.{readFate}
 use borrow.Author.Needs.{needs}

@@ -1,11 +1,10 @@
 -- `receiver::take` meets its contract: "state" first, then the stops, then one section.
--- Assumes nothing.
 use mathlib.Core.Path.{_≡_, sym, ap, _∙_}
 use mathlib.Core.Bool.{true}
 use lib.ListN.{take}
 use lib.Seq.{length-take-le}
 use borrow.Author.Tests.{not-true, not-false}
-use Rattle.record.specs.Record.{ruledOf}
+use Rattle.carousel_record.specs.Record.{ruledOf}
 use Rattle.receiver.specs.Run.{stoppedBy, imageGiven}
 use Rattle.receiver.specs.declared.Stop.{Stop}
 use Rattle.receiver.proofs.Laws.Runs.{took-state, took-stop, took-budget, took-one, taken-is}

@@ -1,5 +1,4 @@
 -- `receiver::whole_at` meets its contract: three reasons for none, and else what is said.
--- Assumes nothing.
 use mathlib.Core.Path.{sym, _∙_}
 use native.Mathlib.Omega.{arith}
 use Rattle.receiver.proofs.Laws.Places.{whole-few, whole-stuffing, whole-short, whole-is}

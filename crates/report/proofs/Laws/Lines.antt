@@ -1,5 +1,4 @@
 -- The text of a run from a place on, one answer of `take` at a time.
--- Assumes nothing.
 use Prim.Native.Nat.{ℕ, suc, _+_, _-_, _≤_, _<_}
 use mathlib.Core.Path.{_≡_, refl, sym, ap, ap₂, _∙_}
 use mathlib.Core.Bool.{true}
@@ -7,16 +6,16 @@ use mathlib.Core.List.{List, [], _∷_, _++_, append-assoc}
 use native.Mathlib.Omega.{arith}
 use lib.ListN.{length, drop, length-drop}
 use lib.Seq.{sets, drop-drop}
-use Rattle.record.specs.declared.Carousel.{Carousel}
-use Rattle.record.specs.Record.{ruledOf}
-use Rattle.record.specs.Changes.{emptyRecord}
-use Rattle.carousel.proofs.Simulation.{empty-ruled}
+use Rattle.carousel_record.specs.declared.Carousel.{Carousel}
+use Rattle.carousel_record.specs.Record.{ruledOf}
+use Rattle.carousel_record.specs.Changes.{emptyRecord}
+use Rattle.carousel_step.proofs.Simulation.{empty-ruled}
 use Rattle.receiver.specs.declared.Stop.{Stop}
 use Rattle.receiver.specs.declared.Fate.{Fate}
 use Rattle.receiver.specs.declared.Section.{Section}
 use Rattle.receiver.specs.declared.Took.{Took}
 use Rattle.receiver.specs.declared.What.the-variants as what
-use Rattle.receiver.specs.Run.{tookOf, imageTook, imageRan, runs, fatesOf, Outcome}
+use Rattle.receiver.specs.Run.{tookOf, imageTook, imageRan, runs, fatesOf, RunOutcome}
 use Rattle.receiver.proofs.Laws.Runs.{run-ruled}
 use Rattle.receiver.proofs.Laws.Takes.{ends, goes-on}
 use Rattle.text.specs.Text.{reached}
@@ -41,8 +40,8 @@ module _ (c : Carousel) (s image : List ℕ) (r : ruledOf c ≡ true) (budget in
       → (textFrom budget index c s image ≡ lastLine x) × (runs budget c s image .image ≡ image) × (imageTook c s image budget ≡ image)
   text-ends x e =
       let p = ends c s image r budget x e in (
-        ap₂ (λ (fs : List Fate) (o : Outcome). linesFrom index fs ++ lastLine (o .stop)) (p .0) (p .1) ∙ ap (λ (l : List ℕ). l ++ lastLine x) (no-lines index),
-        ap (λ (o : Outcome). o .image) (p .1),
+        ap₂ (λ (fs : List Fate) (o : RunOutcome). linesFrom index fs ++ lastLine (o .stop)) (p .0) (p .1) ∙ ap (λ (l : List ℕ). l ++ lastLine x) (no-lines index),
+        ap (λ (o : RunOutcome). o .image) (p .1),
         p .2,
       )
 
@@ -56,10 +55,10 @@ module _ (c : Carousel) (s image : List ℕ) (r : ruledOf c ≡ true) (budget in
       let l = imageTook c s image budget in
       let fs = fatesOf (budget - 1) d (drop (x .length) s) l in
       let last = lastLine (runs (budget - 1) d (drop (x .length) s) l .stop) in (
-        ap₂ (λ (gs : List Fate) (o : Outcome). linesFrom index gs ++ lastLine (o .stop)) (p .3) (p .4)
+        ap₂ (λ (gs : List Fate) (o : RunOutcome). linesFrom index gs ++ lastLine (o .stop)) (p .3) (p .4)
             ∙ ap (λ (m : List ℕ). m ++ last) (more-lines index (x .fate) fs)
             ∙ append-assoc (lineOf index (x .fate)) (linesFrom (suc index) fs) last,
-        ap (λ (o : Outcome). o .image) (p .4),
+        ap (λ (o : RunOutcome). o .image) (p .4),
       )
 
 -- a turn of the loop, at byte p of a stretch and with this index, from what code has in hand
@@ -103,7 +102,7 @@ unfolding printed
 printed-is c s image e =
     ap (λ (d : Carousel). header ++ textFrom budget 0 d s image) e
     ∙ sym (append-assoc header (linesFrom 0 (fatesOf budget emptyRecord s image)) (lastLine (runs budget emptyRecord s image .stop)))
-    ∙ ap (λ (o : Outcome). header ++ linesFrom 0 (fatesOf budget emptyRecord s image) ++ lastLine (o .stop)) (sym (run-ruled emptyRecord s image budget empty-ruled))
+    ∙ ap (λ (o : RunOutcome). header ++ linesFrom 0 (fatesOf budget emptyRecord s image) ++ lastLine (o .stop)) (sym (run-ruled emptyRecord s image budget empty-ruled))
 
 pub image-is : (c : Carousel) (s image : List ℕ) → c ≡ emptyRecord → runs budget c s image .image ≡ imageRan emptyRecord s image budget
-image-is c s image e = ap (λ (d : Carousel). runs budget d s image .image) e ∙ ap (λ (o : Outcome). o .image) (sym (run-ruled emptyRecord s image budget empty-ruled))
+image-is c s image e = ap (λ (d : Carousel). runs budget d s image .image) e ∙ ap (λ (o : RunOutcome). o .image) (sym (run-ruled emptyRecord s image budget empty-ruled))

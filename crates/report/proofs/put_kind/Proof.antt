@@ -1,140 +1,109 @@
 -- `put_kind` meets its contract: a name for each case.
--- Assumes nothing.
 use mathlib.Core.Path.{_≡_, sym, ap}
 use Rattle.text.proofs.Laws.Puts.{puts-same}
 use Rattle.receiver.specs.declared.Fate.{Fate}
-use Rattle.report.specs.Report.{kindOf}
+use Rattle.report.specs.Report.{kindName}
 use borrow.Author.Needs.{needs}
 use Rattle.report.proofs.put_kind.Statement.{statement}
 use Rattle.report.proofs.put_kind.Tie as tie
 
-told : (x y : Fate) → x ≡ y → kindOf y ≡ kindOf x
-told x y e = sym (ap kindOf e)
+told : (x y : Fate) → x ≡ y → kindName y ≡ kindName x
+told x y e = sym (ap kindName e)
 
--- src/lib.rt:81:34
 enum-told : tie.Need-enum-told
 enum-told c = search needs
 
--- src/lib.rt:81:43
 slice-aggregate-put : tie.Need-slice-aggregate-put
 slice-aggregate-put c = search needs
 
--- src/lib.rt:81:24
 put-requires : tie.Need-put-requires
 put-requires c κs = search needs
 
--- src/lib.rt:82:32
 enum-told-2 : tie.Need-enum-told-2
 enum-told-2 c = search needs
 
--- src/lib.rt:82:41
 slice-aggregate-put-2 : tie.Need-slice-aggregate-put-2
 slice-aggregate-put-2 c = search needs
 
--- src/lib.rt:82:22
 put-requires-2 : tie.Need-put-requires-2
 put-requires-2 c κs = search needs
 
--- src/lib.rt:83:33
 enum-told-3 : tie.Need-enum-told-3
 enum-told-3 c = search needs
 
--- src/lib.rt:83:42
 slice-aggregate-put-3 : tie.Need-slice-aggregate-put-3
 slice-aggregate-put-3 c = search needs
 
--- src/lib.rt:83:23
 put-requires-3 : tie.Need-put-requires-3
 put-requires-3 c κs = search needs
 
--- src/lib.rt:84:35
 enum-told-4 : tie.Need-enum-told-4
 enum-told-4 c = search needs
 
--- src/lib.rt:84:44
 slice-aggregate-put-4 : tie.Need-slice-aggregate-put-4
 slice-aggregate-put-4 c = search needs
 
--- src/lib.rt:84:25
 put-requires-4 : tie.Need-put-requires-4
 put-requires-4 c κs = search needs
 
--- src/lib.rt:85:37
 enum-told-5 : tie.Need-enum-told-5
 enum-told-5 c = search needs
 
--- src/lib.rt:85:46
 slice-aggregate-put-5 : tie.Need-slice-aggregate-put-5
 slice-aggregate-put-5 c = search needs
 
--- src/lib.rt:85:27
 put-requires-5 : tie.Need-put-requires-5
 put-requires-5 c κs = search needs
 
--- src/lib.rt:86:39
 enum-told-6 : tie.Need-enum-told-6
 enum-told-6 c = search needs
 
--- src/lib.rt:86:48
 slice-aggregate-put-6 : tie.Need-slice-aggregate-put-6
 slice-aggregate-put-6 c = search needs
 
--- src/lib.rt:86:29
 put-requires-6 : tie.Need-put-requires-6
 put-requires-6 c κs = search needs
 
--- src/lib.rt:77:1
 same-length : tie.Need-same-length
 same-length c = search needs
 
--- src/lib.rt:77:1
 returns : tie.Need-returns
-unfolding kindOf
+unfolding kindName
 returns c = let a = c .before .before .before .before .before .before .before .before .args in puts-same (a .out .now) (a .at) _ _ _ _ (told _ _ (c .before .before .before .before .before .enum-told .given .1)) (c .before .before .put .ensures)
 
--- src/lib.rt:77:1
 same-length-2 : tie.Need-same-length-2
 same-length-2 c = search needs
 
--- src/lib.rt:77:1
 returns-2 : tie.Need-returns-2
-unfolding kindOf
+unfolding kindName
 returns-2 c = let a = c .before .before .before .before .before .before .before .before .args in puts-same (a .out .now) (a .at) _ _ _ _ (told _ _ (c .before .before .before .before .before .enum-told2 .given .1)) (c .before .before .put2 .ensures)
 
--- src/lib.rt:77:1
 same-length-3 : tie.Need-same-length-3
 same-length-3 c = search needs
 
--- src/lib.rt:77:1
 returns-3 : tie.Need-returns-3
-unfolding kindOf
+unfolding kindName
 returns-3 c = let a = c .before .before .before .before .before .before .before .before .args in puts-same (a .out .now) (a .at) _ _ _ _ (told _ _ (c .before .before .before .before .before .enum-told3 .given .1)) (c .before .before .put3 .ensures)
 
--- src/lib.rt:77:1
 same-length-4 : tie.Need-same-length-4
 same-length-4 c = search needs
 
--- src/lib.rt:77:1
 returns-4 : tie.Need-returns-4
-unfolding kindOf
+unfolding kindName
 returns-4 c = let a = c .before .before .before .before .before .before .before .before .args in puts-same (a .out .now) (a .at) _ _ _ _ (told _ _ (c .before .before .before .before .before .enum-told4 .given .1)) (c .before .before .put4 .ensures)
 
--- src/lib.rt:77:1
 same-length-5 : tie.Need-same-length-5
 same-length-5 c = search needs
 
--- src/lib.rt:77:1
 returns-5 : tie.Need-returns-5
-unfolding kindOf
+unfolding kindName
 returns-5 c = let a = c .before .before .before .before .before .before .before .before .args in puts-same (a .out .now) (a .at) _ _ _ _ (told _ _ (c .before .before .before .before .before .enum-told5 .given .1)) (c .before .before .put5 .ensures)
 
--- src/lib.rt:77:1
 same-length-6 : tie.Need-same-length-6
 same-length-6 c = search needs
 
--- src/lib.rt:77:1
 returns-6 : tie.Need-returns-6
-unfolding kindOf
+unfolding kindName
 returns-6 c = let a = c .before .before .before .before .before .before .before .before .args in puts-same (a .out .now) (a .at) _ _ _ _ (told _ _ (c .before .before .before .before .before .enum-told6 .given .1)) (c .before .before .put6 .ensures)
 
 pub put-kind-spec : {M : Type 1} → statement M

@@ -1,11 +1,10 @@
 -- `put_line` meets its contract: six pieces, one after another.
--- Assumes nothing.
 use mathlib.Core.Path.{ap}
 use Prim.Native.Nat.{ℕ}
 use mathlib.Core.List.{List, _++_}
 use Rattle.text.specs.Text.{codes, decimal}
-use Rattle.receiver.specs.Run.{numberOf}
-use Rattle.report.specs.Report.{kindOf}
+use Rattle.receiver.specs.Run.{numberOfFate}
+use Rattle.report.specs.Report.{kindName}
 use Rattle.text.proofs.Laws.Puts.{Puts, puts-then, puts-same}
 use borrow.Author.Needs.{needs}
 use Rattle.report.proofs.put_line.Statement.{statement}
@@ -15,55 +14,42 @@ use Rattle.report.proofs.put_line.Tie as tie
 then : (c : tie.After-slice-known7) (m l : List ℕ) (j e : ℕ) (a b : List ℕ) → let s = c .before .before .before .before .before .before .before .before .before .before .before .before .before .before .before .before .before .before .before .before .before .before .before .before .before .before .before .before .before .args in Puts (s .out .now) (s .at) a m j → Puts m j b l e → Puts (s .out .now) (s .at) (a ++ b) l e
 then c m l j e a b p q = let s = c .before .before .before .before .before .before .before .before .before .before .before .before .before .before .before .before .before .before .before .before .before .before .before .before .before .before .before .before .before .args in puts-then (s .out .now) (s .at) a b m l j e p q
 
--- src/lib.rt:52:9
 put-decimal-requires : tie.Need-put-decimal-requires
 put-decimal-requires c κs = search needs
 
--- src/lib.rt:53:31
 slice-aggregate-put : tie.Need-slice-aggregate-put
 slice-aggregate-put c = search needs
 
--- src/lib.rt:53:5
 put-requires : tie.Need-put-requires
 put-requires c κs = search needs
 
--- src/lib.rt:54:39
 number-requires : tie.Need-number-requires
 number-requires c κs = search needs
 
--- src/lib.rt:54:39
 cast-put-decimal : tie.Need-cast-put-decimal
 cast-put-decimal c = search needs
 
--- src/lib.rt:54:5
 put-decimal-requires-2 : tie.Need-put-decimal-requires-2
 put-decimal-requires-2 c κs = search needs
 
--- src/lib.rt:55:31
 slice-aggregate-put-2 : tie.Need-slice-aggregate-put-2
 slice-aggregate-put-2 c = search needs
 
--- src/lib.rt:55:5
 put-requires-2 : tie.Need-put-requires-2
 put-requires-2 c κs = search needs
 
--- src/lib.rt:56:5
 put-kind-requires : tie.Need-put-kind-requires
 put-kind-requires c κs = search needs
 
--- src/lib.rt:57:25
 slice-aggregate-put-3 : tie.Need-slice-aggregate-put-3
 slice-aggregate-put-3 c = search needs
 
--- src/lib.rt:57:5
 put-requires-3 : tie.Need-put-requires-3
 put-requires-3 c κs = search needs
 
--- src/lib.rt:49:1
 same-length : tie.Need-same-length
 same-length c = search needs
 
--- src/lib.rt:49:1
 returns : tie.Need-returns
 returns c =
     let a = c .before .before .before .before .before .before .before .before .before .before .before .before .before .before .before .before .before .before .before .before .before .before .before .before .before .before .before .before .before .args in
@@ -73,12 +59,12 @@ returns c =
     let comma2 = c .before .before .before .before .before .before .before .before .before .before .before .put2 in
     let kind = c .before .before .before .before .before .before .before .put-kind in
     let told = ap decimal (c .before .before .before .before .before .before .before .before .before .before .before .before .before .before .before .before .before .number .ensures) in
-    let said = puts-same (comma .last .0) (comma .result) _ (decimal (numberOf (a .fate))) (number .last .0) (number .result) told (number .ensures) in
+    let said = puts-same (comma .last .0) (comma .result) _ (decimal (numberOfFate (a .fate))) (number .last .0) (number .result) told (number .ensures) in
     let p = then c (index .last .0) (comma .last .0) (index .result) (comma .result) (decimal (a .index)) (codes ",") (index .ensures) (comma .ensures) in
-    let q = then c (comma .last .0) (number .last .0) (comma .result) (number .result) (decimal (a .index) ++ codes ",") (decimal (numberOf (a .fate))) p said in
-    let r = then c (number .last .0) (comma2 .last .0) (number .result) (comma2 .result) (decimal (a .index) ++ codes "," ++ decimal (numberOf (a .fate))) (codes ",") q (comma2 .ensures) in
-    let s = then c (comma2 .last .0) (kind .last .0) (comma2 .result) (kind .result) (decimal (a .index) ++ codes "," ++ decimal (numberOf (a .fate)) ++ codes ",") (kindOf (a .fate)) r (kind .ensures) in
-    then c (kind .last .0) _ (kind .result) _ (decimal (a .index) ++ codes "," ++ decimal (numberOf (a .fate)) ++ codes "," ++ kindOf (a .fate)) (codes "\n") s (c .before .before .put3 .ensures)
+    let q = then c (comma .last .0) (number .last .0) (comma .result) (number .result) (decimal (a .index) ++ codes ",") (decimal (numberOfFate (a .fate))) p said in
+    let r = then c (number .last .0) (comma2 .last .0) (number .result) (comma2 .result) (decimal (a .index) ++ codes "," ++ decimal (numberOfFate (a .fate))) (codes ",") q (comma2 .ensures) in
+    let s = then c (comma2 .last .0) (kind .last .0) (comma2 .result) (kind .result) (decimal (a .index) ++ codes "," ++ decimal (numberOfFate (a .fate)) ++ codes ",") (kindName (a .fate)) r (kind .ensures) in
+    then c (kind .last .0) _ (kind .result) _ (decimal (a .index) ++ codes "," ++ decimal (numberOfFate (a .fate)) ++ codes "," ++ kindName (a .fate)) (codes "\n") s (c .before .before .put3 .ensures)
 
 pub put-line-spec : {M : Type 1} → statement M
 put-line-spec =

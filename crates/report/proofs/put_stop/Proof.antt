@@ -1,5 +1,4 @@
 -- `put_stop` meets its contract: three pieces, one after another.
--- Assumes nothing.
 use mathlib.Core.List.{_++_}
 use Rattle.text.specs.Text.{codes}
 use Rattle.text.proofs.Laws.Puts.{puts-then}
@@ -8,31 +7,24 @@ use borrow.Author.Needs.{needs}
 use Rattle.report.proofs.put_stop.Statement.{statement}
 use Rattle.report.proofs.put_stop.Tie as tie
 
--- src/lib.rt:63:38
 slice-aggregate-put : tie.Need-slice-aggregate-put
 slice-aggregate-put c = search needs
 
--- src/lib.rt:63:9
 put-requires : tie.Need-put-requires
 put-requires c κs = search needs
 
--- src/lib.rt:64:5
 put-name-requires : tie.Need-put-name-requires
 put-name-requires c κs = search needs
 
--- src/lib.rt:65:25
 slice-aggregate-put-2 : tie.Need-slice-aggregate-put-2
 slice-aggregate-put-2 c = search needs
 
--- src/lib.rt:65:5
 put-requires-2 : tie.Need-put-requires-2
 put-requires-2 c κs = search needs
 
--- src/lib.rt:60:1
 same-length : tie.Need-same-length
 same-length c = search needs
 
--- src/lib.rt:60:1
 returns : tie.Need-returns
 returns c =
     let a = c .before .before .before .before .before .before .before .before .before .before .before .before .before .before .before .args in

@@ -1,5 +1,4 @@
 -- `write_report` meets its contract. The invariant: what is still to be put, put from here on, leaves what the whole text leaves.
--- Assumes nothing.
 use borrow.Author.Needs.{needs}
 use Prim.Native.Nat.{ℕ, _+_, _-_, _≤_}
 use mathlib.Core.Path.{_≡_, refl, sym, ap, _∙_}
@@ -9,8 +8,8 @@ use native.Mathlib.Omega.{arith}
 use native.Mathlib.Nat.{lt-of-le-of-lt}
 use lib.ListN.{length, take, drop}
 use Rattle.wire.proofs.Laws.Loops.{tail}
-use Rattle.record.specs.Record.{ruledOf}
-use Rattle.carousel.proofs.Simulation.{empty-ruled}
+use Rattle.carousel_record.specs.Record.{ruledOf}
+use Rattle.carousel_step.proofs.Simulation.{empty-ruled}
 use Rattle.receiver.specs.declared.Took.{Took}
 use Rattle.receiver.specs.declared.What.the-variants as what
 use Rattle.receiver.specs.Run.{tookOf, imageTook, runs}
@@ -50,61 +49,47 @@ taken c =
     let l = c .before .before .before .before .before .before .before .loop in
     turned (c .before .before .before .before .before .before .before .before .before .before .before .before .before .before .before .before .before .args .stretch .now) (l .image) (l .c) (l .index) (l .passed) (c .what2 .given .0 .0) _ _ (l .inv .4) (l .inv .0) (took (c .before .before .before .before)) (left (c .before .before .before .before)) (c .what2 .given .1)
 
--- src/lib.rt:26:9
 empty-requires : tie.Need-empty-requires Inv-loop μ-loop
 empty-requires c κs = search needs
 
--- src/lib.rt:27:36
 slice-aggregate-put : tie.Need-slice-aggregate-put Inv-loop μ-loop
 slice-aggregate-put c = search needs
 
--- src/lib.rt:27:9
 put-requires : tie.Need-put-requires Inv-loop μ-loop
 put-requires c κs = search needs
 
--- src/lib.rt:30:5
 loop-holds : tie.Need-loop-holds Inv-loop μ-loop
 loop-holds c =
     let ruled = ap ruledOf (c .before .before .before .before .before .empty .ensures) ∙ empty-ruled in
     (omega arith, omega arith, refl, refl, ruled, (refl, refl), refl)
 
--- src/lib.rt:31:38
 sub-take : tie.Need-sub-take Inv-loop μ-loop
 sub-take c = search needs
 
--- src/lib.rt:31:38
 part-take-start : tie.Need-part-take-start Inv-loop μ-loop
 part-take-start c = search needs
 
--- src/lib.rt:31:38
 part-take-end : tie.Need-part-take-end Inv-loop μ-loop
 part-take-end c = search needs
 
--- src/lib.rt:31:65
 sub-take-2 : tie.Need-sub-take-2 Inv-loop μ-loop
 sub-take-2 c = search needs
 
--- src/lib.rt:31:13
 take-requires : tie.Need-take-requires Inv-loop μ-loop
 take-requires c κs = search needs
 
--- src/lib.rt:34:27
 enum-known-what : tie.Need-enum-known-what Inv-loop μ-loop
 enum-known-what c = search needs
 
--- src/lib.rt:35:17
 put-stop-requires : tie.Need-put-stop-requires Inv-loop μ-loop
 put-stop-requires c κs = search needs
 
--- src/lib.rt:35:17
 same-length : tie.Need-same-length Inv-loop μ-loop
 same-length c = search needs
 
--- src/lib.rt:35:17
 same-length-2 : tie.Need-same-length-2 Inv-loop μ-loop
 same-length-2 c = search needs
 
--- src/lib.rt:35:17
 returns : tie.Need-returns Inv-loop μ-loop
 returns c =
     let a = c .before .before .before .before .before .before .before .before .before .before .before .before .before .before .before .before .before .before .before .before .before .before .args in
@@ -117,27 +102,21 @@ returns c =
     let r = puts-same (a .out .now) 0 (header ++ whole) (printed (a .stretch .now) (a .image .now)) _ _ (printed-is _ (a .stretch .now) (a .image .now) empty) q in
     (r .0, r .1, left (c .before .before .before .before .before .before .before .before .before) ∙ p .2 ∙ sym (p .1) ∙ l .inv .6 ∙ image-is _ (a .stretch .now) (a .image .now) empty)
 
--- src/lib.rt:37:25
 enum-known-what-2 : tie.Need-enum-known-what-2 Inv-loop μ-loop
 enum-known-what-2 c = search needs
 
--- src/lib.rt:40:17
 put-line-requires : tie.Need-put-line-requires Inv-loop μ-loop
 put-line-requires c κs = search needs
 
--- src/lib.rt:41:17
 add-passed : tie.Need-add-passed Inv-loop μ-loop
 add-passed c = record { fits = lt-of-le-of-lt (taken (c .before .before .before .before .before) .1) (c .before .before .before .before .before .before .before .before .before .before .before .before .before .before .before .before .before .before .before .before .before .before .good .0 .0) }
 
--- src/lib.rt:45:9
 add-index : tie.Need-add-index Inv-loop μ-loop
 add-index c = search needs
 
--- src/lib.rt:30:5
 loop-less : tie.Need-loop-less Inv-loop μ-loop
 loop-less c = let p = taken (c .before .before .before .before .before .before) in omega (arith, p .0)
 
--- src/lib.rt:30:5
 loop-again : tie.Need-loop-again Inv-loop μ-loop
 loop-again c =
     let a = c .before .before .before .before .before .before .before .before .before .before .before .before .before .before .before .before .before .before .before .before .before .before .before .args in

@@ -1,5 +1,4 @@
 -- Laws of the CRC: what the code's loops need, the register's width, and that bytes followed by their own CRC leave zero.
--- Assumes nothing.
 use mathlib.Core.Path.{_≡_, refl, sym, ap, _∙_}
 use mathlib.Core.Bool.{Bool, true, false, cond}
 use mathlib.Core.List.{List, [], _∷_, _++_}

@@ -1,5 +1,4 @@
 -- What an answer of `check` says, and when it is given: exactly the stated case.
--- Assumes nothing.
 use Prim.Native.Nat.{ℕ, _+_, _≤_, _<_, _-_}
 use mathlib.Core.Path.{_≡_, refl, sym, ap, _∙_}
 use mathlib.Core.Logic.{_↔_}
@@ -14,7 +13,7 @@ use Rattle.wire.proofs.Laws.Tests.{neither, lowest-met, none-met, met-within}
 use Rattle.wire.proofs.Laws.Fields.{bits-lt}
 use Rattle.section.specs.Header.{syntaxOf, lengthOf, currentOf, sectionOf, lastOf, limitOf, headerOf, bodyOf}
 use Rattle.section.specs.Refusals.{meets2, meets3, meets4, meets5, meets6, sectionTests, refusalOf, GoodSection}
-use Rattle.section.specs.Answer.{numberOf, refused, checkedOf}
+use Rattle.section.specs.Answer.{numberOfChecked, refused, checkedOf}
 use Rattle.section.specs.declared.Rules.{Rules}
 use Rattle.section.specs.declared.Refusal.{Refusal}
 use Rattle.section.specs.declared.Header.{Header}
@@ -31,17 +30,17 @@ module _ (rules : Rules) (s : List ℕ) where
   the-tests = (or-false (meets2 s), or-false (meets3 rules s), or-false (meets4 rules s), or-false (meets5 s), or-false (meets6 s))
 
   -- the answer's number, and its value where that is 0
-  pub number-is : numberOf (checkedOf rules s) ≡ refusalOf rules s
+  pub number-is : numberOfChecked (checkedOf rules s) ≡ refusalOf rules s
   unfolding checkedOf
   number-is = go (eqb (refusalOf rules s) 0) refl
     where
-      go : (b : Bool) → eqb (refusalOf rules s) 0 ≡ b → numberOf (cond b (Accepted (headerOf s)) (Refused (refused (refusalOf rules s)))) ≡ refusalOf rules s
+      go : (b : Bool) → eqb (refusalOf rules s) 0 ≡ b → numberOfChecked (cond b (Accepted (headerOf s)) (Refused (refused (refusalOf rules s)))) ≡ refusalOf rules s
       go true e = sym (eqb-true _ _ e)
       go false e = refl
 
   -- THE NUMBER IS n EXACTLY WHEN TEST n HOLDS AND NO LOWER ONE DOES
   pub refused-exactly : (n : ℕ) → 0 < n
-      → (numberOf (checkedOf rules s) ≡ n) ↔ ((holds n (sectionTests rules s) ≡ true) × ((m : ℕ) → m < n → holds m (sectionTests rules s) ≡ false))
+      → (numberOfChecked (checkedOf rules s) ≡ n) ↔ ((holds n (sectionTests rules s) ≡ true) × ((m : ℕ) → m < n → holds m (sectionTests rules s) ≡ false))
   unfolding refusalOf
   refused-exactly n p = rw number-is (lowest-met (sectionTests rules s) rising n p)
 
@@ -94,7 +93,7 @@ module _ (rules : Rules) (s : List ℕ) where
   -- an accepted section is a good one, its header is the section's, and it has its header and its CRC: 12 bytes at least
   pub accepted-has : (h : Header) → checkedOf rules s ≡ Accepted h → (h ≡ headerOf s) × (refusalOf rules s ≡ 0) × GoodSection rules s × (12 ≤ length s)
   accepted-has h e =
-      let z : refusalOf rules s ≡ 0 = sym number-is ∙ ap numberOf e in
+      let z : refusalOf rules s ≡ 0 = sym number-is ∙ ap numberOfChecked e in
       let a = accepted-with z in
       let g = good-exactly .0 z in
       (cc, z, g, omega (arith, g .exact, g .least))

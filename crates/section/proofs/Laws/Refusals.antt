@@ -1,5 +1,4 @@
 -- Each test of the paper's table from facts on numbers, and the answer from the tests: what the code's chain of tests cites, in its order.
--- Assumes nothing.
 use Prim.Native.Nat.{ℕ, _+_, _≤_, _<_}
 use mathlib.Core.Path.{_≡_, refl, sym}
 use mathlib.Core.Bool.{Bool, true, false}

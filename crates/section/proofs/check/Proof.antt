@@ -1,5 +1,4 @@
 -- `section::check` meets its contract.
--- Assumes nothing.
 use borrow.Author.Needs.{needs}
 use native.Mathlib.Omega.{arith}
 use mathlib.Core.Path.{_≡_, sym, ap, _∙_}
@@ -14,21 +13,17 @@ use Rattle.section.proofs.check.Lts as lts
 use Rattle.section.proofs.header_of.Reads as header-of-reads
 use Rattle.section.proofs.refusal_number.Reads as refusal-number-reads
 
--- src/lib.rt:51:9
 refusal-number-requires : tie.Need-refusal-number-requires
 refusal-number-requires c κs = search needs
 
--- src/lib.rt:53:9
 returns : tie.Need-returns
 returns c =
     let e = c .before .refusal-number .ensures in
     (ap (λ (n : ℕ). Refused (refused n)) e ∙ sym (refused-with _ _ (λ z. c .if1 .taken (e ∙ z))), e)
 
--- src/lib.rt:55:23
 header-of-requires : tie.Need-header-of-requires
 header-of-requires c κs = search needs
 
--- src/lib.rt:48:1
 returns-2 : tie.Need-returns-2
 returns-2 c =
     let z = sym (c .before .if1 .left) ∙ c .before .before .refusal-number .ensures in

@@ -1,5 +1,4 @@
 -- `section::has_table` meets its contract.
--- Assumes nothing.
 use borrow.Author.Needs.{needs}
 use borrow.Author.Tests.{eq-eqb, ne-eqb}
 use mathlib.Core.Path.{sym}
@@ -9,23 +8,18 @@ use Rattle.section.proofs.has_table.Tie as tie
 use Rattle.section.proofs.has_table.Reads as reads
 use Rattle.section.proofs.has_table.Lts as lts
 
--- src/lib.rt:98:31
 enum-told : tie.Need-enum-told
 enum-told c = search needs
 
--- src/lib.rt:100:16
 enum-told-2 : tie.Need-enum-told-2
 enum-told-2 c = search needs
 
--- src/lib.rt:101:17
 returns : tie.Need-returns
 returns c = rw (c .before .enum-told2 .given .1) (sym (rw (eq-eqb _ _ (c .if1 .taken))))
 
--- src/lib.rt:94:1
 returns-2 : tie.Need-returns-2
 returns-2 c = rw (c .enum-told .given .1)
 
--- src/lib.rt:94:1
 returns-3 : tie.Need-returns-3
 returns-3 c = rw (c .before .enum-told2 .given .1, ne-eqb _ _ (c .if1 .left))
 

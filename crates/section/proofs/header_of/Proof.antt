@@ -1,5 +1,4 @@
 -- `section::header_of` meets its contract: each field is what its reader answers.
--- Assumes nothing.
 use borrow.Author.Needs.{needs}
 use mathlib.Core.Path.{ap, _∙_}
 use Rattle.wire.specs.Fields.{bits}
@@ -11,27 +10,21 @@ use Rattle.section.proofs.header_of.Lts as lts
 use Rattle.wire.proofs.byte_at.Reads as byte-at-reads
 use Rattle.wire.proofs.sixteen_at.Reads as sixteen-at-reads
 
--- src/lib.rt:122:16
 byte-at-requires : tie.Need-byte-at-requires
 byte-at-requires c κs = search needs
 
--- src/lib.rt:123:20
 sixteen-at-requires : tie.Need-sixteen-at-requires
 sixteen-at-requires c κs = search needs
 
--- src/lib.rt:124:19
 byte-at-requires-2 : tie.Need-byte-at-requires-2
 byte-at-requires-2 c κs = search needs
 
--- src/lib.rt:125:18
 byte-at-requires-3 : tie.Need-byte-at-requires-3
 byte-at-requires-3 c κs = search needs
 
--- src/lib.rt:126:15
 byte-at-requires-4 : tie.Need-byte-at-requires-4
 byte-at-requires-4 c κs = search needs
 
--- src/lib.rt:118:1
 returns : tie.Need-returns
 returns c =
     rw (

@@ -1,5 +1,4 @@
 -- `section::limit` meets its contract.
--- Assumes nothing.
 use mathlib.Core.Path.{sym, ap}
 use borrow.Author.Needs.{needs}
 use Rattle.section.specs.Header.{limitOf}

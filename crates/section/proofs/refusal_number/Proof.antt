@@ -1,5 +1,4 @@
 -- `section::refusal_number` meets its contract: at each `return` the tests that led there say which test of the paper's table holds, and that no lower one does.
--- Assumes nothing.
 use borrow.Author.Needs.{needs}
 use native.Mathlib.Omega.{arith}
 use mathlib.Core.Path.{_≡_, sym, _∙_}
@@ -32,83 +31,63 @@ atS c e = c .if6 .left (omega arith)
 at4 : (c : tie.Else7) → meets4 (c .before .before .before .before .before .before .before .before .before .before .before .before .before .before .before .args .rules) (c .before .before .before .before .before .before .before .before .before .before .before .before .before .before .before .args .s .now) ≡ false
 at4 c = past4 _ _ (omega arith) (omega arith) (search atS) (omega arith)
 
--- src/lib.rt:63:9
 returns : tie.Need-returns
 returns c = is2 _ _ (short2 _ (c .if1 .taken))
 
--- src/lib.rt:65:9
 twelve-at-requires : tie.Need-twelve-at-requires
 twelve-at-requires c κs = search needs
 
--- src/lib.rt:66:19
 add-if2 : tie.Need-add-if2
 add-if2 c = search needs
 
--- src/lib.rt:67:9
 returns-2 : tie.Need-returns-2
 returns-2 c = is2 _ _ (uneven2 _ (omega arith) (λ e. omega (arith, c .if2 .taken)))
 
--- src/lib.rt:69:26
 shared-slice-read-has-table : tie.Need-shared-slice-read-has-table
 shared-slice-read-has-table c = search needs
 
--- src/lib.rt:69:9
 has-table-requires : tie.Need-has-table-requires
 has-table-requires c κs = search needs
 
--- src/lib.rt:70:9
 returns-3 : tie.Need-returns-3
 returns-3 c = is3 _ _ (search at2) (other3 _ _ (sym (c .before .has-table .ensures) ∙ not-true _ (c .if3 .taken)))
 
--- src/lib.rt:73:9
 returns-4 : tie.Need-returns-4
 returns-4 c = is4 _ _ (search at2) (search at3) (low4 _ _ (omega arith))
 
--- src/lib.rt:75:8
 limit-requires : tie.Need-limit-requires
 limit-requires c κs = search needs
 
--- src/lib.rt:76:9
 returns-5 : tie.Need-returns-5
 returns-5 c = is4 _ _ (search at2) (search at3) (long4 _ _ (omega arith) (omega arith))
 
--- src/lib.rt:78:8
 sixteen-at-requires : tie.Need-sixteen-at-requires
 sixteen-at-requires c κs = search needs
 
--- src/lib.rt:79:9
 returns-6 : tie.Need-returns-6
 returns-6 c = is4 _ _ (search at2) (search at3) (syntax4 _ _ (omega arith) (omega arith) (omega arith))
 
--- src/lib.rt:81:8
 shared-slice-read-if7 : tie.Need-shared-slice-read-if7
 shared-slice-read-if7 c = search needs
 
--- src/lib.rt:81:15
 shared-slice-read-if7-2 : tie.Need-shared-slice-read-if7-2
 shared-slice-read-if7-2 c = search needs
 
--- src/lib.rt:82:9
 returns-7 : tie.Need-returns-7
 returns-7 c = is4 _ _ (search at2) (search at3) (above4 _ _ (omega arith) (omega arith) (search atS) (omega arith))
 
--- src/lib.rt:84:8
 crc-requires : tie.Need-crc-requires
 crc-requires c κs = search needs
 
--- src/lib.rt:85:9
 returns-8 : tie.Need-returns-8
 returns-8 c = is5 _ _ (search at2) (search at3) (search at4) (bad5 _ (λ e. omega (arith, c .if8 .taken)))
 
--- src/lib.rt:87:8
 shared-slice-read-if9 : tie.Need-shared-slice-read-if9
 shared-slice-read-if9 c = search needs
 
--- src/lib.rt:88:9
 returns-9 : tie.Need-returns-9
 returns-9 c = is6 _ _ (search at2) (search at3) (search at4) (past5 _ (omega arith)) (next6 _ (sym (masked-low 1 _) ∙ c .if9 .taken))
 
--- src/lib.rt:59:1
 returns-10 : tie.Need-returns-10
 returns-10 c = is0 _ _ (search at2) (search at3) (search at4) (past5 _ (omega arith)) (past6 _ (λ e. c .if9 .left (masked-low 1 _ ∙ e)))
 

@@ -1,5 +1,4 @@
 -- `put_decimal` meets its contract: the digits of a tenth, and then the last. The measure is the number.
--- Assumes nothing.
 use native.Mathlib.Omega.{arith}
 use mathlib.Core.Path.{sym}
 use borrow.Author.Needs.{needs}
@@ -28,7 +27,6 @@ abbrev put-decimal-below : ℕ → In 1 put-decimal-kinds.ps
 put-decimal-below t =
     and 1 put-decimal-kinds.ps (falls 1 put-decimal-kinds.ps _<_ μ-put-decimal t) put-decimal.Pre
 
--- src/lib.rt:30:39
 put-decimal-cast-put-byte : (t : ℕ) → put-decimal-lts.Need-cast-put-byte (
   put-byte-reads.Asked,
   put-byte-reads.Learnt,
@@ -37,7 +35,6 @@ put-decimal-cast-put-byte : (t : ℕ) → put-decimal-lts.Need-cast-put-byte (
 ) (put-decimal-at t) put-decimal.Post
 put-decimal-cast-put-byte t c = search needs
 
--- src/lib.rt:30:34
 put-decimal-add-put-byte : (t : ℕ) → put-decimal-lts.Need-add-put-byte (
   put-byte-reads.Asked,
   put-byte-reads.Learnt,
@@ -46,7 +43,6 @@ put-decimal-add-put-byte : (t : ℕ) → put-decimal-lts.Need-add-put-byte (
 ) (put-decimal-at t) put-decimal.Post
 put-decimal-add-put-byte t c = search needs
 
--- src/lib.rt:30:9
 put-decimal-put-byte-requires : (t : ℕ) → put-decimal-lts.Need-put-byte-requires (
   put-byte-reads.Asked,
   put-byte-reads.Learnt,
@@ -55,7 +51,6 @@ put-decimal-put-byte-requires : (t : ℕ) → put-decimal-lts.Need-put-byte-requ
 ) (put-decimal-at t) put-decimal.Post
 put-decimal-put-byte-requires t c κs = search needs
 
--- src/lib.rt:30:9
 put-decimal-same-length : (t : ℕ) → put-decimal-lts.Need-same-length (
   put-byte-reads.Asked,
   put-byte-reads.Learnt,
@@ -64,7 +59,6 @@ put-decimal-same-length : (t : ℕ) → put-decimal-lts.Need-same-length (
 ) (put-decimal-at t) put-decimal.Post
 put-decimal-same-length t c = search needs
 
--- src/lib.rt:30:9
 put-decimal-returns : (t : ℕ) → put-decimal-lts.Need-returns (
   put-byte-reads.Asked,
   put-byte-reads.Learnt,
@@ -75,7 +69,6 @@ put-decimal-returns t c =
     let a = c .before .before .before .before .before .before .args in
     puts-same (a .out .now) (a .at) _ _ _ _ (sym (decimal-one (a .n) (omega arith))) (c .before .before .put-byte .ensures)
 
--- src/lib.rt:32:9
 put-decimal-put-decimal-requires : (t : ℕ) → put-decimal-lts.Need-put-decimal-requires (
   put-byte-reads.Asked,
   put-byte-reads.Learnt,
@@ -84,7 +77,6 @@ put-decimal-put-decimal-requires : (t : ℕ) → put-decimal-lts.Need-put-decima
 ) (put-decimal-at t) put-decimal.Post
 put-decimal-put-decimal-requires t c κs = (omega (arith, c .before .before .before .pre .0, c .before .if1 .left), tt)
 
--- src/lib.rt:33:30
 put-decimal-cast-put-byte-2 : (t : ℕ) → put-decimal-lts.Need-cast-put-byte-2 (
   put-byte-reads.Asked,
   put-byte-reads.Learnt,
@@ -93,7 +85,6 @@ put-decimal-cast-put-byte-2 : (t : ℕ) → put-decimal-lts.Need-cast-put-byte-2
 ) (put-decimal-at t) put-decimal.Post
 put-decimal-cast-put-byte-2 t c = search needs
 
--- src/lib.rt:33:25
 put-decimal-add-put-byte-2 : (t : ℕ) → put-decimal-lts.Need-add-put-byte-2 (
   put-byte-reads.Asked,
   put-byte-reads.Learnt,
@@ -102,7 +93,6 @@ put-decimal-add-put-byte-2 : (t : ℕ) → put-decimal-lts.Need-add-put-byte-2 (
 ) (put-decimal-at t) put-decimal.Post
 put-decimal-add-put-byte-2 t c = search needs
 
--- src/lib.rt:33:5
 put-decimal-put-byte-requires-2 : (t : ℕ) → put-decimal-lts.Need-put-byte-requires-2 (
   put-byte-reads.Asked,
   put-byte-reads.Learnt,
@@ -111,7 +101,6 @@ put-decimal-put-byte-requires-2 : (t : ℕ) → put-decimal-lts.Need-put-byte-re
 ) (put-decimal-at t) put-decimal.Post
 put-decimal-put-byte-requires-2 t c κs = search needs
 
--- src/lib.rt:26:1
 put-decimal-same-length-2 : (t : ℕ) → put-decimal-lts.Need-same-length-2 (
   put-byte-reads.Asked,
   put-byte-reads.Learnt,
@@ -120,7 +109,6 @@ put-decimal-same-length-2 : (t : ℕ) → put-decimal-lts.Need-same-length-2 (
 ) (put-decimal-at t) put-decimal.Post
 put-decimal-same-length-2 t c = search needs
 
--- src/lib.rt:26:1
 put-decimal-returns-2 : (t : ℕ) → put-decimal-lts.Need-returns-2 (
   put-byte-reads.Asked,
   put-byte-reads.Learnt,

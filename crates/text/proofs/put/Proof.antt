@@ -1,5 +1,4 @@
 -- `put` meets its contract. The invariant: the rest of the piece, put from here on, leaves what the whole leaves.
--- Assumes nothing.
 use Prim.Native.Nat.{ℕ, _+_, _-_, _≤_}
 use mathlib.Core.Path.{_≡_, refl, sym, ap, ap₂, _∙_}
 use mathlib.Core.List.{List}
@@ -19,30 +18,24 @@ Inv-loop out₀ at piece end₀ i₀ out end i =
 abbrev μ-loop : tie.MeasureT-loop
 μ-loop out₀ at piece end₀ i₀ out end i = length piece - i
 
--- src/lib.rt:18:5
 loop-holds : tie.Need-loop-holds Inv-loop μ-loop
 loop-holds c =
     let a = c .before .before .args in
     let n : length (a .piece .now) - 0 ≡ length (a .piece .now) = omega arith in
     (refl, omega arith, refl, ap (λ (k : ℕ). reached (a .at) k (length (a .out .now))) n)
 
--- src/lib.rt:19:34
 shared-slice-read-put-byte : tie.Need-shared-slice-read-put-byte Inv-loop μ-loop
 shared-slice-read-put-byte c = search needs
 
--- src/lib.rt:19:9
 put-byte-requires : tie.Need-put-byte-requires Inv-loop μ-loop
 put-byte-requires c κs = search needs
 
--- src/lib.rt:20:9
 add-i : tie.Need-add-i Inv-loop μ-loop
 add-i c = search needs
 
--- src/lib.rt:18:5
 loop-less : tie.Need-loop-less Inv-loop μ-loop
 loop-less c = search needs
 
--- src/lib.rt:18:5
 loop-again : tie.Need-loop-again Inv-loop μ-loop
 loop-again c =
     let l = c .before .before .before .before .before .before .loop in
@@ -55,11 +48,9 @@ loop-again c =
       ap₂ (λ (k n : ℕ). reached k (length p - (l .i + 1)) n) (e .1) room ∙ reached-next (l .end) (l .i) (length p) (length (l .out)) (omega arith) ∙ l .inv .3,
     )
 
--- src/lib.rt:12:1
 same-length : tie.Need-same-length Inv-loop μ-loop
 same-length c = c .before .loop .inv .0
 
--- src/lib.rt:12:1
 returns : tie.Need-returns Inv-loop μ-loop
 returns c =
     let a = c .before .before .before .before .args in

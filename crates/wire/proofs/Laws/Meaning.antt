@@ -1,5 +1,4 @@
 -- What `fills`, `count`, `itemAt` and `endOf` mean: the list is some whole items laid end to end; there is one way to see it so; these are their number, the place of each, and where the first n end.
--- Assumes nothing.
 use Prim.Native.Nat.{ℕ, zero, suc, _+_, _≤_, _<_}
 use mathlib.Core.Path.{_≡_, refl, sym, ap, _∙_}
 use mathlib.Core.Logic.{_↔_}

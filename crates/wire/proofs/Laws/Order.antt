@@ -1,5 +1,4 @@
 -- In a table whose numbers need not rise, the answer is the number of the first test that holds.
--- Assumes nothing.
 use Prim.Native.Nat.{ℕ, _<_}
 use mathlib.Core.Path.{_≡_, refl, ap}
 use mathlib.Core.Logic.{_↔_, _⊎_, inl, inr}

@@ -1,5 +1,4 @@
 -- Items of a list that lies at a place: there is one for every place below their count and for no other; and a part of a part is a part of the whole.
--- Assumes nothing.
 use Prim.Native.Nat.{ℕ, _+_, _≤_, _<_}
 use mathlib.Core.Path.{_≡_, refl, sym, ap, _∙_}
 use mathlib.Core.Bool.{Bool, true, false, _&&_}

@@ -1,5 +1,4 @@
 -- In a table whose numbers rise, the first test that holds is the lowest.
--- Assumes nothing.
 use Prim.Native.Nat.{ℕ, zero, suc, _<_, _≤_}
 use mathlib.Core.Path.{_≡_, refl, sym, ap, _∙_}
 use mathlib.Core.Logic.{_↔_}

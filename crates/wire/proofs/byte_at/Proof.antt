@@ -1,5 +1,4 @@
 -- `wire::byte_at` meets its contract.
--- Assumes nothing.
 use borrow.Author.Needs.{needs}
 use native.Mathlib.Omega.{arith}
 use mathlib.Core.Path.{refl, sym}
@@ -9,15 +8,12 @@ use Rattle.wire.proofs.byte_at.Tie as tie
 use Rattle.wire.proofs.byte_at.Reads as reads
 use Rattle.wire.proofs.byte_at.Lts as lts
 
--- src/lib.rt:35:9
 returns : tie.Need-returns
 returns c = (sym (byte-past (c .before .args .s .now) _ (c .if1 .taken)), omega arith)
 
--- src/lib.rt:37:5
 shared-slice-read-result : tie.Need-shared-slice-read-result
 shared-slice-read-result c = search needs
 
--- src/lib.rt:31:1
 returns-2 : tie.Need-returns-2
 returns-2 c = (refl, c .shared-slice-known .given (c .before .before .args .at) .fits)
 

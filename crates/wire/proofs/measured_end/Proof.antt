@@ -1,5 +1,4 @@
 -- `wire::measured_end` meets its contract. The invariant: what is left to count from i on ends where all ends.
--- Assumes nothing.
 use borrow.Author.Needs.{needs}
 use mathlib.Core.Path.{_≡_, refl, sym, ap, _∙_}
 use native.Mathlib.Omega.{arith}
@@ -16,6 +15,28 @@ Inv-loop s start count h at left₀ i₀ left i = endOf left i (items (measured 
 
 abbrev μ-loop : tie.MeasureT-loop
 μ-loop s start count h at left₀ i₀ left i = left
+
+-- the places that stand before a place, by name
+abbrev start-of-else1 : tie.Else1 Inv-loop μ-loop → tie.Start Inv-loop μ-loop
+start-of-else1 c = c .before .before .before .before
+
+abbrev loop-of-in-loop : tie.In-loop Inv-loop μ-loop → tie.At-loop Inv-loop μ-loop
+loop-of-in-loop c = c .before
+
+abbrev loop-of-then2 : tie.Then2 Inv-loop μ-loop → tie.At-loop Inv-loop μ-loop
+loop-of-then2 c = loop-of-in-loop (c .before .before .before .before)
+
+abbrev start-of-in-loop : tie.In-loop Inv-loop μ-loop → tie.Start Inv-loop μ-loop
+start-of-in-loop c = c .before .before .before
+
+abbrev start-of-then2 : tie.Then2 Inv-loop μ-loop → tie.Start Inv-loop μ-loop
+start-of-then2 c = start-of-in-loop (c .before .before .before .before)
+
+abbrev start-of-else2 : tie.Else2 Inv-loop μ-loop → tie.Start Inv-loop μ-loop
+start-of-else2 c = start-of-in-loop (c .before .before .before .before)
+
+abbrev loop-of-else2 : tie.Else2 Inv-loop μ-loop → tie.At-loop Inv-loop μ-loop
+loop-of-else2 c = loop-of-in-loop (c .before .before .before .before)
 
 loop-holds : tie.Need-loop-holds Inv-loop μ-loop
 loop-holds c = refl
@@ -36,16 +57,21 @@ measured-size-requires : tie.Need-measured-size-requires Inv-loop μ-loop
 measured-size-requires c κs = search needs
 
 -- what the call answered for the list from i on
-sized : (c : tie.After-measured-size Inv-loop μ-loop) → c .measured-size .result ≡ measured (c .before .before .before .before .before .before .args .h) (c .before .before .before .before .before .before .args .at) (drop (c .before .before .before .before .loop .i) (c .before .before .before .before .before .before .args .s .now))
-sized c = c .measured-size .ensures ∙ ap (measured (c .before .before .before .before .before .before .args .h) (c .before .before .before .before .before .before .args .at)) (tail (c .before .before .before .before .before .before .args .s .now) (c .before .before .before .before .loop .i))
+sized : (c : tie.After-measured-size Inv-loop μ-loop) → c .measured-size .result ≡ measured (start-of-else1 (c .before .before) .args .h) (start-of-else1 (c .before .before) .args .at) (drop (c .before .before .before .before .loop .i) (start-of-else1 (c .before .before) .args .s .now))
+sized c =
+    let s = start-of-else1 (c .before .before) in
+    c .measured-size .ensures ∙ ap (measured (s .args .h) (s .args .at)) (tail (s .args .s .now) (c .before .before .before .before .loop .i))
 
 returns-2 : tie.Need-returns-2 Inv-loop μ-loop
 returns-2 c =
-    let l = c .before .before .before .before .before .loop in
-    end-stop (measured (c .before .before .before .before .before .before .before .args .h) (c .before .before .before .before .before .before .before .args .at)) (framed-kind _ _) (c .before .before .before .before .before .before .before .args .s .now) (l .i) _ (sized (c .before)) _ _ (l .left) (omega arith, l .inv) (c .if2 .taken) (λ z. omega (arith, z))
+    let s = start-of-then2 c in
+    let l = loop-of-then2 c .loop in
+    end-stop (measured (s .args .h) (s .args .at)) (framed-kind _ _) (s .args .s .now) (l .i) _ (sized (c .before)) _ _ (l .left) (omega arith, l .inv) (c .if2 .taken) (λ z. omega (arith, z))
 
 add-i : tie.Need-add-i Inv-loop μ-loop
-add-i c = omega (arith, item-fits (measured (c .before .before .before .before .before .before .before .args .h) (c .before .before .before .before .before .before .before .args .at)) (framed-kind _ _) (c .before .before .before .before .before .before .before .args .s .now) (c .before .before .before .before .before .loop .i) _ (sized (c .before)) (omega arith))
+add-i c =
+    let s = start-of-else2 c in
+    omega (arith, item-fits (measured (s .args .h) (s .args .at)) (framed-kind _ _) (s .args .s .now) (loop-of-else2 c .loop .i) _ (sized (c .before)) (omega arith))
 
 sub-left : tie.Need-sub-left Inv-loop μ-loop
 sub-left c = omega arith
@@ -55,8 +81,9 @@ loop-less c = omega arith
 
 loop-again : tie.Need-loop-again Inv-loop μ-loop
 loop-again c =
-    let l = c .before .before .before .before .before .loop in
-    end-turn (measured (c .before .before .before .before .before .before .before .args .h) (c .before .before .before .before .before .before .before .args .at)) (framed-kind _ _) (c .before .before .before .before .before .before .before .args .s .now) (l .i) _ (sized (c .before)) _ _ (l .left) (omega arith, l .inv) (c .if2 .left) (λ z. omega (arith, z)) .1
+    let s = start-of-else2 c in
+    let l = loop-of-else2 c .loop in
+    end-turn (measured (s .args .h) (s .args .at)) (framed-kind _ _) (s .args .s .now) (l .i) _ (sized (c .before)) _ _ (l .left) (omega arith, l .inv) (c .if2 .left) (λ z. omega (arith, z)) .1
 
 returns-3 : tie.Need-returns-3 Inv-loop μ-loop
 returns-3 c = end-done (measured _ _) (c .before .before .before .args .s .now) _ _ (c .before .loop .i) (c .before .loop .left) (c .before .loop .inv) (omega arith)

@@ -1,5 +1,4 @@
 -- `wire::said_at` meets its contract.
--- Assumes nothing.
 use mathlib.Core.Path.{_≡_, refl, sym, ap, _∙_}
 use native.Mathlib.Omega.{arith}
 use lib.ListN.{take, length-take, List·getD-eq-default}

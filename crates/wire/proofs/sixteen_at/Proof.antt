@@ -1,5 +1,4 @@
 -- `wire::sixteen_at` meets its contract: two bytes joined are the field of both.
--- Assumes nothing.
 use borrow.Author.Needs.{needs}
 use native.Mathlib.Omega.{arith}
 use mathlib.Core.Path.{refl, sym, _∙_}
@@ -11,31 +10,24 @@ use Rattle.wire.proofs.sixteen_at.Reads as reads
 use Rattle.wire.proofs.sixteen_at.Lts as lts
 use Rattle.wire.proofs.byte_at.Reads as byte-at-reads
 
--- src/lib.rt:45:9
 returns : tie.Need-returns
 returns c = (sym (field-past 2 _ _ (c .if1 .taken)), omega arith)
 
--- src/lib.rt:47:7
 byte-at-requires : tie.Need-byte-at-requires
 byte-at-requires c κs = search needs
 
--- src/lib.rt:47:7
 cast-result : tie.Need-cast-result
 cast-result c = search needs
 
--- src/lib.rt:47:49
 add-byte-at : tie.Need-add-byte-at
 add-byte-at c = search needs
 
--- src/lib.rt:47:38
 byte-at-requires-2 : tie.Need-byte-at-requires-2
 byte-at-requires-2 c κs = search needs
 
--- src/lib.rt:47:38
 cast-result-2 : tie.Need-cast-result-2
 cast-result-2 c = search needs
 
--- src/lib.rt:41:1
 returns-2 : tie.Need-returns-2
 returns-2 c =
     let s = c .before .before .before .before .args .s .now in

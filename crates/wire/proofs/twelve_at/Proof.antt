@@ -1,5 +1,4 @@
 -- `wire::twelve_at` meets its contract: a mask of twelve ones leaves the twelve low bits.
--- Assumes nothing.
 use borrow.Author.Needs.{needs}
 use mathlib.Core.Path.{ap, _∙_}
 use Prim.Native.Nat.{ℕ}
@@ -12,15 +11,12 @@ use Rattle.wire.proofs.twelve_at.Reads as reads
 use Rattle.wire.proofs.twelve_at.Lts as lts
 use Rattle.wire.proofs.sixteen_at.Reads as sixteen-at-reads
 
--- src/lib.rt:54:6
 sixteen-at-requires : tie.Need-sixteen-at-requires
 sixteen-at-requires c κs = search needs
 
--- src/lib.rt:54:5
 cast-result : tie.Need-cast-result
 cast-result c = search needs
 
--- src/lib.rt:51:1
 returns : tie.Need-returns
 returns c = (masked-low 12 _ ∙ ap (bits 0 12) (c .sixteen-at .ensures .0), mask-lt (c .sixteen-at .result) 12)
 

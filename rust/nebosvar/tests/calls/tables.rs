@@ -60,7 +60,7 @@ fn others() -> Vec<u8> {
 fn the_header() {
     let expected = Table {
         test: 1,
-        application: 0x0010,
+        application_type: 0x0010,
         version: 3,
         section: 1,
         last: 2,
@@ -70,7 +70,7 @@ fn the_header() {
     assert_eq!(table(&drift()), Ok(expected));
     let expected = Table {
         test: 0,
-        application: 0x0010,
+        application_type: 0x0010,
         version: 0,
         section: 0,
         last: 0,

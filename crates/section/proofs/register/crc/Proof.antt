@@ -1,5 +1,4 @@
 -- `section::register::crc` meets its contract. The invariant: the register so far, carried over the bytes that are left, is the CRC of all.
--- Assumes nothing.
 use borrow.Author.Needs.{needs}
 use Prim.Native.Nat.{ℕ, _+_, _-_, _≤_}
 use mathlib.Core.Path.{_≡_, refl, sym, ap, _∙_}
@@ -19,35 +18,28 @@ Inv-loop s r₀ i₀ r i = (i ≤ length s) × (crcFrom r (drop i s) ≡ crcOf s
 abbrev μ-loop : tie.MeasureT-loop
 μ-loop s r₀ i₀ r i = length s - i
 
--- src/register.rt:13:5
 loop-holds : tie.Need-loop-holds Inv-loop μ-loop
 unfolding crcOf
 loop-holds c = (omega arith, refl)
 
--- src/register.rt:14:26
 shared-slice-read-with-byte : tie.Need-shared-slice-read-with-byte Inv-loop μ-loop
 shared-slice-read-with-byte c = omega arith
 
--- src/register.rt:14:9
 with-byte-requires : tie.Need-with-byte-requires Inv-loop μ-loop
 with-byte-requires c κs = search needs
 
--- src/register.rt:15:9
 add-i : tie.Need-add-i Inv-loop μ-loop
 add-i c = omega arith
 
--- src/register.rt:13:5
 loop-less : tie.Need-loop-less Inv-loop μ-loop
 loop-less c = omega arith
 
--- src/register.rt:13:5
 loop-again : tie.Need-loop-again Inv-loop μ-loop
 loop-again c =
     let h = c .before .before .before .loop in
     let s = c .before .before .before .before .before .args .s .now in
     (omega arith, ap (λ (x : ℕ). crcFrom x (drop (h .i + 1) s)) (c .with-byte .ensures) ∙ sym (from-next (h .r) (h .i) s (omega arith)) ∙ h .inv .1)
 
--- src/register.rt:8:1
 returns : tie.Need-returns Inv-loop μ-loop
 returns c = sym (from-end _ (c .before .loop .i) _ (omega arith)) ∙ c .before .loop .inv .1
 

@@ -1,5 +1,4 @@
 -- `section::register::with_bit` meets its contract.
--- Assumes nothing.
 use mathlib.Core.Path.{sym}
 use Rattle.section.proofs.Laws.Crc.{bit-same, bit-other}
 use Rattle.section.proofs.register.with_bit.Statement.{statement}
@@ -7,11 +6,9 @@ use Rattle.section.proofs.register.with_bit.Tie as tie
 use Rattle.section.proofs.register.with_bit.Reads as reads
 use Rattle.section.proofs.register.with_bit.Lts as lts
 
--- src/register.rt:41:9
 returns : tie.Need-returns
 returns c = sym (bit-same _ _ (c .if1 .taken))
 
--- src/register.rt:36:1
 returns-2 : tie.Need-returns-2
 returns-2 c = sym (bit-other _ _ (c .if1 .left))
 

@@ -1,5 +1,4 @@
 -- `section::register::with_byte` meets its contract. The invariant: the register so far, carried over the n bits that are left, is that after all eight.
--- Assumes nothing.
 use borrow.Author.Needs.{needs}
 use Prim.Native.Nat.{ℕ, _-_, _/_, _%_, _≤_, _^_}
 use mathlib.Core.Path.{_≡_, refl, sym, ap, _∙_}
@@ -19,27 +18,21 @@ Inv-loop r b byte x₀ n₀ x n = (n ≤ 8) × (crcBits n b x ≡ crcByte r b)
 abbrev μ-loop : tie.MeasureT-loop
 μ-loop r b byte x₀ n₀ x n = n
 
--- src/register.rt:27:5
 loop-holds : tie.Need-loop-holds Inv-loop μ-loop
 loop-holds c = (omega arith, refl)
 
--- src/register.rt:28:9
 sub-n : tie.Need-sub-n Inv-loop μ-loop
 sub-n c = omega arith
 
--- src/register.rt:29:26
 shr-with-bit : tie.Need-shr-with-bit Inv-loop μ-loop
 shr-with-bit c = omega arith
 
--- src/register.rt:29:9
 with-bit-requires : tie.Need-with-bit-requires Inv-loop μ-loop
 with-bit-requires c κs = search needs
 
--- src/register.rt:27:5
 loop-less : tie.Need-loop-less Inv-loop μ-loop
 loop-less c = omega arith
 
--- src/register.rt:27:5
 loop-again : tie.Need-loop-again Inv-loop μ-loop
 loop-again c =
     let h = c .before .before .loop in
@@ -47,7 +40,6 @@ loop-again c =
     let e : c .with-bit .result ≡ crcBit (h .x) (b / 2 ^ (h .n - 1) % 2) = c .with-bit .ensures ∙ ap (crcBit (h .x)) (and-mask (b / 2 ^ (h .n - 1)) 1) in
     (omega arith, ap (crcBits (h .n - 1) b) e ∙ sym (bits-next (h .n) b (h .x) (omega arith)) ∙ h .inv .1)
 
--- src/register.rt:21:1
 returns : tie.Need-returns Inv-loop μ-loop
 returns c =
     let h = c .before .loop in

@@ -1,0 +1,86 @@
+// Lists of items of every kind: one loop for each question.
+use crate::Kind;
+use crate::Test;
+use crate::contents::meets_at;
+use crate::kinds::size_at;
+use wire::Hit;
+use wire::Place;
+ghost use mathlib.Core.Path.{_≡_};
+ghost use Rattle.wire.specs.Items.{items, fills, number};
+ghost use Rattle.wire.specs.Places.{itemAt, first};
+ghost use Rattle.ait_descriptors.specs.Kinds.{sizeOf};
+ghost use Rattle.ait_descriptors.specs.Contents.{testOf};
+
+// Whether the items end exactly where `s` ends.
+pub fn fills(kind: Kind, s: &[u8]) -> bool
+    ensures { λ r. ⌜ r ≡ fills (sizeOf kind) (now (s .entry)) ⌝ }
+{
+    let mut i = 0;
+    while i < s.len() {
+        let n = size_at(kind, s, i);
+        if n == 0 {
+            return false;
+        }
+        i += n;
+    }
+    true
+}
+
+// Where item k lies, from 0.
+pub fn item(kind: Kind, s: &[u8], k: usize) -> Place
+    ensures { λ r. ⌜ r ≡ itemAt (sizeOf kind) k (now (s .entry)) ⌝ }
+{
+    let mut left = k;
+    let mut i = 0;
+    while i < s.len() {
+        let n = size_at(kind, s, i);
+        if n == 0 {
+            return Place::Nothing;
+        }
+        if left == 0 {
+            return Place::At { start: i, size: n };
+        }
+        i += n;
+        left -= 1;
+    }
+    Place::Nothing
+}
+
+// How many items meet a test.
+pub fn number_of(kind: Kind, test: Test, s: &[u8]) -> usize
+    ensures { λ r. ⌜ r ≡ number (testOf test) (items (sizeOf kind) (now (s .entry))) ⌝ }
+{
+    let mut m: usize = 0;
+    let mut i = 0;
+    while i < s.len() {
+        let n = size_at(kind, s, i);
+        if n == 0 {
+            return m;
+        }
+        if meets_at(test, s, i, n) {
+            m += 1;
+        }
+        i += n;
+    }
+    m
+}
+
+// Which item is the first to meet a test, from 0.
+pub fn find(kind: Kind, test: Test, s: &[u8]) -> Hit
+    ensures { λ r. ⌜ r ≡ first (testOf test) (items (sizeOf kind) (now (s .entry))) ⌝ }
+{
+    let mut k: usize = 0;
+    let mut i = 0;
+    while i < s.len() {
+        let n = size_at(kind, s, i);
+        if n == 0 {
+            return Hit::Missing;
+        }
+        if meets_at(test, s, i, n) {
+            return Hit::Item(k);
+        }
+        i += n;
+        k += 1;
+    }
+    Hit::Missing
+}

@@ -1,0 +1,70 @@
+-- `ait_read::extension_at` meets its contract.
+use mathlib.Core.Path.{_≡_, sym, ap, _∙_}
+use Prim.Native.Nat.{ℕ, _<_}
+use mathlib.Core.List.{List}
+use lib.ListN.{take, drop}
+use Rattle.ait_read.specs.declared.Scope.{Scope}
+use Rattle.ait_read.specs.declared.ExtensionAnswer.{ExtensionAnswer}
+use Rattle.ait_read.specs.declared.Located.the-variants as located
+use Rattle.ait_read.specs.declared.ExtensionAnswer.the-variants as extension
+use Rattle.ait_read.specs.Places.{extensionAt}
+use Rattle.ait_read.specs.Records.{extensionRead}
+use Rattle.ait_read.specs.Answers.{locatedOf, spanPart, extensionAnswer, numberOfExtension, placeNumber}
+use Rattle.ait_read.proofs.Laws.Acceptance.{told, cut}
+use Rattle.ait_read.proofs.Laws.Places.{sound-extension}
+use Rattle.ait_read.proofs.Laws.Numbers.{extension-number}
+use borrow.Author.Needs.{needs}
+use Rattle.ait_read.proofs.extension_at.Statement.{statement}
+use Rattle.ait_read.proofs.extension_at.Tie as tie
+
+extension-place-requires : tie.Need-extension-place-requires
+extension-place-requires c κs = search needs
+
+locate-requires : tie.Need-locate-requires
+locate-requires c κs = search needs
+
+enum-known-r : tie.Need-enum-known-r
+enum-known-r c = search needs
+
+enum-known-start : tie.Need-enum-known-start
+enum-known-start c = search needs
+
+-- where the thing lies, and the part that is cut out there
+found : (c : tie.After-known-told2) → locatedOf (c .before .before .before .before .before .before .args .s .now) (extensionAt (c .before .before .before .before .before .before .args .scope) (c .before .before .before .before .before .before .args .j) (c .before .before .before .before .before .before .args .k) (c .before .before .before .before .before .before .args .m) (c .before .before .before .before .before .before .args .s .now)) ≡ located.At (c .before .start .given .0 .0) (c .before .start .given .0 .1 .0)
+found c = told _ _ (extensionAt (c .before .before .before .before .before .before .args .scope) (c .before .before .before .before .before .before .args .j) (c .before .before .before .before .before .before .args .k) (c .before .before .before .before .before .before .args .m) (c .before .before .before .before .before .before .args .s .now)) _ _ (c .before .before .before .before .extension-place .ensures) (c .before .before .before .locate .ensures) (c .before .start .given .1)
+
+there : (c : tie.After-known-told2) → (spanPart (c .before .before .before .before .before .before .args .s .now) (c .before .start .given .0 .0) (c .before .start .given .0 .1 .0) ≡ take (c .before .start .given .0 .1 .0) (drop (c .before .start .given .0 .0) (c .before .before .before .before .before .before .args .s .now))) × (c .before .start .given .0 .0 < 65536)
+there c = cut _ (extensionAt (c .before .before .before .before .before .before .args .scope) (c .before .before .before .before .before .before .args .j) (c .before .before .before .before .before .before .args .k) (c .before .before .before .before .before .before .args .m) (c .before .before .before .before .before .before .args .s .now)) (sound-extension (c .before .before .before .before .before .before .args .scope) (c .before .before .before .before .before .before .args .j) (c .before .before .before .before .before .before .args .k) (c .before .before .before .before .before .before .args .m) (c .before .before .before .before .before .before .args .s .now)) _ _ (found c)
+
+part-requires : tie.Need-part-requires
+part-requires c κs = search needs
+
+extension-of-requires : tie.Need-extension-of-requires
+extension-of-requires c κs = there (c .before) .1
+
+-- an answer, with its number
+numbered : (s : List ℕ) (o : Scope) (j k m : ℕ) (r : ExtensionAnswer) → r ≡ extensionAnswer s o j k m → (r ≡ extensionAnswer s o j k m) × (numberOfExtension r ≡ placeNumber s (extensionAt o j k m s))
+numbered s o j k m r e = (e, ap numberOfExtension e ∙ extension-number s o j k m)
+
+returns : tie.Need-returns
+unfolding extensionAnswer
+returns c = numbered (c .before .before .before .before .before .before .args .s .now) (c .before .before .before .before .before .before .args .scope) (c .before .before .before .before .before .before .args .j) (c .before .before .before .before .before .before .args .k) (c .before .before .before .before .before .before .args .m) _ (rw (told _ _ (extensionAt (c .before .before .before .before .before .before .args .scope) (c .before .before .before .before .before .before .args .j) (c .before .before .before .before .before .before .args .k) (c .before .before .before .before .before .before .args .m) (c .before .before .before .before .before .before .args .s .now)) _ _ (c .before .before .before .before .extension-place .ensures) (c .before .before .before .locate .ensures) (c .before .r .given .1)))
+
+returns-2 : tie.Need-returns-2
+unfolding extensionAnswer
+returns-2 c =
+    let x = there (c .before .before) in
+    numbered (c .before .before .before .before .before .before .before .before .args .s .now) (c .before .before .before .before .before .before .before .before .args .scope) (c .before .before .before .before .before .before .before .before .args .j) (c .before .before .before .before .before .before .before .before .args .k) (c .before .before .before .before .before .before .before .before .args .m) _ (rw (found (c .before .before)) (ap extension.Found (c .extension-of .ensures ∙ ap (λ (l : List ℕ). extensionRead l (c .before .before .before .start .given .0 .0)) (c .before .part .ensures ∙ x .0))))
+
+pub extension-at-spec : {M : Type 1} → statement M
+extension-at-spec =
+    tie.close
+    (tie.spec
+    extension-place-requires
+    locate-requires
+    enum-known-r
+    enum-known-start
+    part-requires
+    extension-of-requires
+    returns
+    returns-2)

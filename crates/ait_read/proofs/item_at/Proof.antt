@@ -1,0 +1,71 @@
+-- `ait_read::item_at` meets its contract.
+use mathlib.Core.Path.{_≡_, sym, ap, _∙_}
+use Prim.Native.Nat.{ℕ, _<_}
+use mathlib.Core.List.{List}
+use lib.ListN.{take, drop}
+use Rattle.ait_read.specs.declared.Scope.{Scope}
+use Rattle.ait_read.specs.declared.Repeated.{Repeated}
+use Rattle.ait_read.specs.declared.ItemAnswer.{ItemAnswer}
+use Rattle.ait_read.specs.declared.Located.the-variants as located
+use Rattle.ait_read.specs.declared.ItemAnswer.the-variants as item
+use Rattle.ait_read.specs.Places.{repeatedAt}
+use Rattle.ait_read.specs.Records.{itemOf}
+use Rattle.ait_read.specs.Answers.{locatedOf, spanPart, itemAnswer, numberOfItem, placeNumber}
+use Rattle.ait_read.proofs.Laws.Acceptance.{told, cut}
+use Rattle.ait_read.proofs.Laws.Places.{sound-repeated}
+use Rattle.ait_read.proofs.Laws.Numbers.{item-number}
+use borrow.Author.Needs.{needs}
+use Rattle.ait_read.proofs.item_at.Statement.{statement}
+use Rattle.ait_read.proofs.item_at.Tie as tie
+
+repeated-place-requires : tie.Need-repeated-place-requires
+repeated-place-requires c κs = search needs
+
+locate-requires : tie.Need-locate-requires
+locate-requires c κs = search needs
+
+enum-known-r : tie.Need-enum-known-r
+enum-known-r c = search needs
+
+enum-known-start : tie.Need-enum-known-start
+enum-known-start c = search needs
+
+-- where the thing lies, and the part that is cut out there
+found : (c : tie.After-known-told2) → locatedOf (c .before .before .before .before .before .before .args .s .now) (repeatedAt (c .before .before .before .before .before .before .args .scope) (c .before .before .before .before .before .before .args .j) (c .before .before .before .before .before .before .args .what) (c .before .before .before .before .before .before .args .k) (c .before .before .before .before .before .before .args .s .now)) ≡ located.At (c .before .start .given .0 .0) (c .before .start .given .0 .1 .0)
+found c = told _ _ (repeatedAt (c .before .before .before .before .before .before .args .scope) (c .before .before .before .before .before .before .args .j) (c .before .before .before .before .before .before .args .what) (c .before .before .before .before .before .before .args .k) (c .before .before .before .before .before .before .args .s .now)) _ _ (c .before .before .before .before .repeated-place .ensures) (c .before .before .before .locate .ensures) (c .before .start .given .1)
+
+there : (c : tie.After-known-told2) → (spanPart (c .before .before .before .before .before .before .args .s .now) (c .before .start .given .0 .0) (c .before .start .given .0 .1 .0) ≡ take (c .before .start .given .0 .1 .0) (drop (c .before .start .given .0 .0) (c .before .before .before .before .before .before .args .s .now))) × (c .before .start .given .0 .0 < 65536)
+there c = cut _ (repeatedAt (c .before .before .before .before .before .before .args .scope) (c .before .before .before .before .before .before .args .j) (c .before .before .before .before .before .before .args .what) (c .before .before .before .before .before .before .args .k) (c .before .before .before .before .before .before .args .s .now)) (sound-repeated (c .before .before .before .before .before .before .args .scope) (c .before .before .before .before .before .before .args .j) (c .before .before .before .before .before .before .args .what) (c .before .before .before .before .before .before .args .k) (c .before .before .before .before .before .before .args .s .now)) _ _ (found c)
+
+part-requires : tie.Need-part-requires
+part-requires c κs = search needs
+
+item-of-requires : tie.Need-item-of-requires
+item-of-requires c κs = there (c .before) .1
+
+-- an answer, with its number
+numbered : (s : List ℕ) (o : Scope) (j : ℕ) (what : Repeated) (k : ℕ) (r : ItemAnswer) → r ≡ itemAnswer s o j what k → (r ≡ itemAnswer s o j what k) × (numberOfItem r ≡ placeNumber s (repeatedAt o j what k s))
+numbered s o j what k r e = (e, ap numberOfItem e ∙ item-number s o j what k)
+
+returns : tie.Need-returns
+unfolding itemAnswer
+returns c = numbered (c .before .before .before .before .before .before .args .s .now) (c .before .before .before .before .before .before .args .scope) (c .before .before .before .before .before .before .args .j) (c .before .before .before .before .before .before .args .what) (c .before .before .before .before .before .before .args .k) _ (rw (told _ _ (repeatedAt (c .before .before .before .before .before .before .args .scope) (c .before .before .before .before .before .before .args .j) (c .before .before .before .before .before .before .args .what) (c .before .before .before .before .before .before .args .k) (c .before .before .before .before .before .before .args .s .now)) _ _ (c .before .before .before .before .repeated-place .ensures) (c .before .before .before .locate .ensures) (c .before .r .given .1)))
+
+returns-2 : tie.Need-returns-2
+unfolding itemAnswer
+returns-2 c =
+    let x = there (c .before .before) in
+    numbered (c .before .before .before .before .before .before .before .before .args .s .now) (c .before .before .before .before .before .before .before .before .args .scope) (c .before .before .before .before .before .before .before .before .args .j) (c .before .before .before .before .before .before .before .before .args .what) (c .before .before .before .before .before .before .before .before .args .k) _ (rw (found (c .before .before)) (ap item.Found (c .item-of .ensures ∙ ap (λ (l : List ℕ). itemOf (c .before .before .before .before .before .before .before .before .args .what) l (c .before .before .before .start .given .0 .0)) (c .before .part .ensures ∙ x .0))))
+
+pub item-at-spec : {M : Type 1} → statement M
+item-at-spec =
+    tie.close
+    (tie.spec
+    repeated-place-requires
+    locate-requires
+    enum-known-r
+    enum-known-start
+    part-requires
+    item-of-requires
+    returns
+    returns-2)

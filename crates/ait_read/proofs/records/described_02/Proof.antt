@@ -1,0 +1,51 @@
+-- `ait_read::records::described_02` meets its contract.
+use mathlib.Core.Path.{sym, ap₂, _∙_}
+use Rattle.ait_read.specs.declared.Described.the-variants as described
+use Rattle.ait_read.proofs.Laws.Records.{is-1, is-3, is-other}
+use borrow.Author.Needs.{needs}
+use Rattle.ait_read.proofs.records.described_02.Statement.{statement}
+use Rattle.ait_read.proofs.records.described_02.Tie as tie
+
+sixteen-at-requires : tie.Need-sixteen-at-requires
+sixteen-at-requires c κs = search needs
+
+described-1-requires : tie.Need-described-1-requires
+described-1-requires c κs = search needs
+
+byte-at-requires : tie.Need-byte-at-requires
+byte-at-requires c κs = search needs
+
+repeated-count-requires : tie.Need-repeated-count-requires
+repeated-count-requires c κs = search needs
+
+byte-at-requires-2 : tie.Need-byte-at-requires-2
+byte-at-requires-2 c κs = search needs
+
+rest-of-requires : tie.Need-rest-of-requires
+rest-of-requires c κs = search needs
+
+returns : tie.Need-returns
+returns c = c .described-1 .ensures ∙ is-1 _ _ (sym (c .before .before .sixteen-at .ensures .0) ∙ c .before .match .keys1)
+
+returns-2 : tie.Need-returns-2
+returns-2 c = ap₂ described.Bases (c .before .byte-at .ensures .0) (c .repeated-count .ensures) ∙ is-3 _ _ (sym (c .before .before .before .sixteen-at .ensures .0) ∙ c .before .before .match .keys2)
+
+returns-3 : tie.Need-returns-3
+returns-3 c =
+    let t = c .before .before .before .sixteen-at .ensures .0 in
+    let n = c .before .before .match .rest in
+    (λ i. described.Selector (t i) (c .before .byte-at2 .ensures .0 i) (c .rest-of .ensures i)) ∙ is-other _ _ (λ e. n .0 .1 (t ∙ e)) (λ e. n .1 (t ∙ e))
+
+pub described-02-spec : {M : Type 1} → statement M
+described-02-spec =
+    tie.close
+    (tie.spec
+    sixteen-at-requires
+    described-1-requires
+    byte-at-requires
+    repeated-count-requires
+    byte-at-requires-2
+    rest-of-requires
+    returns
+    returns-2
+    returns-3)

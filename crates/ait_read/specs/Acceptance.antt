@@ -1,0 +1,38 @@
+-- Acceptance of an application section: the common check, then the body. 01, "The application section" and the table of numbers.
+use Prim.Native.Nat.{ℕ, _-_}
+use mathlib.Core.Path.{_≡_}
+use mathlib.Core.Bool.{cond, true}
+use mathlib.Core.List.{List, _++_}
+use lib.Dec.{eqb}
+use lib.ListN.{length, take, drop}
+use Rattle.section.specs.Header.{bodyOf}
+use Rattle.wire.specs.Items.{items, every}
+use Rattle.wire.specs.Tests.{Tests}
+use Rattle.section.specs.declared.Rules.the-variants.{Application}
+use Rattle.section.specs.declared.Refusal.{Refusal}
+use Rattle.section.specs.declared.Header.{Header}
+use Rattle.section.specs.declared.Checked.{Checked}
+use Rattle.section.specs.declared.Checked.the-variants.{Refused, Accepted}
+use Rattle.section.specs.Refusals.{sectionTests, GoodSection}
+use Rattle.section.specs.Answer.{refused, checkedOf, onChecked}
+use Rattle.ait_descriptors.specs.Kinds.{application}
+use Rattle.ait_body.specs.Body.{applicationLoop, ownLoop, soleLoop, bodyTests, bodyRefusal, WellFormed}
+
+-- the refusals of an application section, in the table's order: 2 to 7, 18
+abbrev pub applicationTests : List ℕ → Tests
+applicationTests s = sectionTests Application s ++ bodyTests (bodyOf s)
+
+-- The section check's refusal as it came; else the body's; else accepted with the header's fields.
+unfoldable pub tableJudged : List ℕ → Checked
+tableJudged s =
+    onChecked (checkedOf Application s) (λ r. Refused r) (λ h.
+    cond (eqb (bodyRefusal (bodyOf s)) 0) (Accepted h) (Refused (refused (bodyRefusal (bodyOf s)))))
+
+-- An accepted application section as a reader would say it: every clause of the paper, none of them a test.
+pub record GoodTable (s : List ℕ) : Type 0 where
+  -- the section: header, length, CRC
+  pub section : GoodSection Application s
+  -- the body: both loops, each descriptor and its known contents
+  pub body : WellFormed (bodyOf s)
+  -- each application has exactly one 0x00 of its own
+  pub sole : every (λ a. soleLoop (ownLoop a)) (items application (applicationLoop (bodyOf s))) ≡ true

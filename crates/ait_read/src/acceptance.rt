@@ -1,0 +1,41 @@
+// Acceptance of the section, and of a place in it.
+use crate::Located;
+use section::Checked;
+use section::Refusal;
+use section::Rules;
+use wire::Place;
+ghost use mathlib.Core.Path.{_≡_};
+ghost use Rattle.ait_read.specs.Acceptance.{tableJudged};
+ghost use Rattle.ait_read.specs.Answers.{locatedOf};
+
+// The section check's answer as it is, but for a body that 7 or 18 meets.
+pub fn judge(s: &[u8]) -> Checked
+    ensures { λ r. ⌜ r ≡ tableJudged (now (s .entry)) ⌝ }
+{
+    let checked = section::check(s, Rules::Application);
+    match checked {
+        Checked::Refused(r) => Checked::Refused(r),
+        Checked::Accepted(h) => {
+            let e = s.len() - 4;
+            let number = ait_body::body_refusal(&s[8..e]);
+            if number != 0 {
+                return Checked::Refused(Refusal { number: number });
+            }
+            Checked::Accepted(h)
+        }
+    }
+}
+
+// The section's own refusals, then 19.
+pub fn locate(s: &[u8], p: Place) -> Located
+    ensures { λ r. ⌜ r ≡ locatedOf (now (s .entry)) p ⌝ }
+{
+    let judged = judge(s);
+    match judged {
+        Checked::Refused(r) => Located::Refused(r),
+        Checked::Accepted(_) => match p {
+            Place::At { start, size } => Located::At { start, size },
+            Place::Nothing => Located::Refused(Refusal { number: 19 }),
+        },
+    }
+}

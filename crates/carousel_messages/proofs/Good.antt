@@ -1,0 +1,306 @@
+-- TAKEN EXACTLY WHEN WELL FORMED: an announcement and a block are read exactly where every clause of specs/Good.antt holds.
+use Prim.Native.Nat.{ℕ, _+_, _*_, _%_, _≤_}
+use mathlib.Core.Path.{_≡_, refl, sym, ap, subst, _∙_}
+use mathlib.Core.Logic.{_↔_, _⊎_, inl, inr}
+use mathlib.Core.Bool.{Bool, true, false, not, cond, _&&_, _||_}
+use mathlib.Core.List.{List, [], _∷_, List·Memᴰ, List·Memᴰ·head, List·Memᴰ·tail, List·Memᴰ·not-nil, List·Memᴰ·cases-cons}
+use native.Mathlib.Omega.{arith}
+use lib.Dec.{ltb, leb, eqb}
+use lib.ListN.{length, length-map}
+use borrow.Author.Tests.{ltb-false, leb-true, eqb-true, eqb-false, le-ltb, le-leb, eq-eqb, ne-eqb, not-true, not-false}
+use Rattle.wire.specs.Fields.{byteAt, sixteenAt}
+use Rattle.wire.proofs.Laws.Tests.{both, neither, clash}
+use Rattle.wire.proofs.Laws.Order.{None}
+use Rattle.section.specs.declared.Header.{Header}
+use Rattle.section.specs.declared.Rules.the-variants.{Carousel}
+use Rattle.section.specs.Header.{announcementTable, blockTable, headerOf, bodyOf}
+use Rattle.section.specs.Refusals.{GoodSection}
+use Rattle.carousel_messages.specs.declared.Table.{Table}
+use Rattle.carousel_messages.specs.declared.Table.the-variants.{Announcements, Blocks}
+use Rattle.carousel_messages.specs.declared.Judged.{Judged}
+use Rattle.carousel_messages.specs.declared.Judged.the-variants as judged
+use Rattle.carousel_messages.specs.Message.{messageOf, messageIdentifierOf, adaptationOf, messageLengthOf, payloadOf, wantedOf}
+use Rattle.carousel_messages.specs.Contents.{downloadOf, blockVersionOf, blockSizeOf, modulesStart, modulesEnd, modulesOf, moduleSizeOf, announcementFramed, blockModuleOf, blockNumberOf}
+use Rattle.carousel_messages.specs.Limits.{largestBlock, mostModules, mostBlocks, mostBytes, badSize, someBad, total, beyond10, among, twice11}
+use Rattle.carousel_messages.specs.Refusals.{short7, meets8, messageFramed, payloadFramed, messageMeets7, meets9, meets10, meets11, messageTests}
+use Rattle.carousel_messages.specs.Judged.{announcementOf, blockOf, judgedOf, carouselTableIn}
+use Rattle.carousel_messages.specs.declared.Listed.{Listed}
+use Rattle.carousel_messages.specs.Heard.{Announced, Arrived, announced, arrived, announcedIn, arrivedIn, heardIn, heardOf}
+use Rattle.carousel_messages.proofs.Laws.Heard.{modules-said, data-said}
+use Rattle.carousel_messages.specs.Good.{saidAnnouncement, saidBlock, GoodMessage, Distinct, announcedSizes, announcedNumbers, GoodList, GoodAnnouncement, GoodBlock}
+use Rattle.carousel_messages.proofs.Exact.{good-exactly, announced-exactly, carried-exactly}
+
+-- the message
+module _ (t : Table) (b : List ℕ) where
+  message-there : short7 b ≡ false → meets8 t b ≡ false → messageFramed b ≡ true → GoodMessage t b
+  unfolding short7 meets8 messageFramed
+  message-there e f g =
+      let p = neither (not (eqb (byteAt b 0) 0x11) || not (eqb (byteAt b 1) 0x03)) (not (eqb (messageOf b) (wantedOf t))) f in
+      let q = neither (not (eqb (byteAt b 0) 0x11)) (not (eqb (byteAt b 1) 0x03)) (p .0) in
+      let m = both (eqb (12 + messageLengthOf b) (length b)) (leb (adaptationOf b) (messageLengthOf b)) g in
+      record {
+        headed = ltb-false _ _ e;
+        first = eqb-true _ _ (not-false _ (q .0));
+        second = eqb-true _ _ (not-false _ (q .1));
+        wanted = eqb-true _ _ (not-false _ (p .1));
+        ends = eqb-true _ _ (m .0);
+        adapted = leb-true _ _ (m .1);
+      }
+
+  message-back : GoodMessage t b → (short7 b ≡ false) × (meets8 t b ≡ false) × (messageFramed b ≡ true)
+  unfolding short7 meets8 messageFramed
+  message-back g = (
+    le-ltb (length b) 12 (g .headed),
+    rw (eq-eqb (byteAt b 0) 0x11 (g .first), eq-eqb (byteAt b 1) 0x03 (g .second), eq-eqb (messageOf b) (wantedOf t) (g .wanted)),
+    rw (eq-eqb (12 + messageLengthOf b) (length b) (g .ends), le-leb (adaptationOf b) (messageLengthOf b) (g .adapted)),
+  )
+
+-- the limits: every size, and no number twice
+abbrev Fits : ℕ → ℕ → Type 0
+Fits bs z = (1 ≤ z) × (z ≤ mostBlocks * bs)
+
+sizes-there : (bs : ℕ) (zs : List ℕ) → someBad bs zs ≡ false → (z : ℕ) → List·Memᴰ z zs → Fits bs z
+unfolding someBad
+sizes-there bs [] e z m = absurd (List·Memᴰ·not-nil m)
+sizes-there bs (y ∷ ys) e z m =
+    let p = neither (badSize bs y) (someBad bs ys) e in
+    let q = neither (eqb y 0) (ltb (mostBlocks * bs) y) (p .0) in
+    go (List·Memᴰ·cases-cons m) (λ n. sizes-there bs ys (p .1) z n) (eqb-false y 0 (q .0)) (ltb-false (mostBlocks * bs) y (q .1))
+  where
+    go : (z ≡ y) ⊎ List·Memᴰ z ys → (List·Memᴰ z ys → Fits bs z) → (y ≡ 0 → ⊥) → y ≤ mostBlocks * bs → Fits bs z
+    go (inl e) ih n l = (omega (arith, n), omega arith)
+    go (inr m) ih n l = ih m
+
+sizes-back : (bs : ℕ) (zs : List ℕ) → ((z : ℕ) → List·Memᴰ z zs → Fits bs z) → someBad bs zs ≡ false
+unfolding someBad
+sizes-back bs [] f = refl
+sizes-back bs (y ∷ ys) f =
+    let p = f y (List·Memᴰ·head refl) in
+    let l = p .0 in
+    rw (ne-eqb y 0 (λ e. omega arith), le-ltb (mostBlocks * bs) y (p .1)) (sizes-back bs ys (λ z m. f z (List·Memᴰ·tail m)))
+
+among-there : (n : ℕ) (ks : List ℕ) → among n ks ≡ false → List·Memᴰ n ks → ⊥
+unfolding among
+among-there n [] e m = List·Memᴰ·not-nil m
+among-there n (k ∷ ks) e m =
+    let p = neither (eqb k n) (among n ks) e in
+    go (List·Memᴰ·cases-cons m) (λ h. among-there n ks (p .1) h) (eqb-false k n (p .0))
+  where
+    go : (n ≡ k) ⊎ List·Memᴰ n ks → (List·Memᴰ n ks → ⊥) → (k ≡ n → ⊥) → ⊥
+    go (inl e) ih d = d (sym e)
+    go (inr h) ih d = ih h
+
+among-back : (n : ℕ) (ks : List ℕ) → (List·Memᴰ n ks → ⊥) → among n ks ≡ false
+unfolding among
+among-back n [] f = refl
+among-back n (k ∷ ks) f = rw (ne-eqb k n (λ e. f (List·Memᴰ·head (sym e)))) (among-back n ks (λ m. f (List·Memᴰ·tail m)))
+
+distinct-there : (ks : List ℕ) → twice11 ks ≡ false → Distinct ks
+unfolding twice11
+distinct-there [] e = tt
+distinct-there (k ∷ ks) e = let p = neither (among k ks) (twice11 ks) e in (among-there k ks (p .0), distinct-there ks (p .1))
+
+distinct-back : (ks : List ℕ) → Distinct ks → twice11 ks ≡ false
+unfolding twice11
+distinct-back [] d = refl
+distinct-back (k ∷ ks) d = rw (among-back k ks (d .0)) (distinct-back ks (d .1))
+
+-- an announcement's payload
+module _ (p : List ℕ) where
+  list-there : announcementFramed p ≡ true → meets10 p ≡ false → meets11 p ≡ false → GoodList p
+  unfolding announcementFramed meets10 meets11 beyond10
+  list-there e f g =
+      let a = both (leb (modulesStart p) (length p) && not (eqb (modulesEnd p) 0)) (eqb (modulesEnd p + 2 + sixteenAt p (modulesEnd p)) (length p)) e in
+      let b = both (leb (modulesStart p) (length p)) (not (eqb (modulesEnd p) 0)) (a .0) in
+      let bs = blockSizeOf p in
+      let zs = announcedSizes p in
+      let l = length-map (modulesOf p) moduleSizeOf in
+      let q = neither (eqb bs 0 || ltb largestBlock bs || eqb (length zs) 0 || ltb mostModules (length zs) || someBad bs zs) (ltb mostBytes (total zs)) f in
+      let r = neither (eqb bs 0 || ltb largestBlock bs || eqb (length zs) 0 || ltb mostModules (length zs)) (someBad bs zs) (q .0) in
+      let v = neither (eqb bs 0 || ltb largestBlock bs || eqb (length zs) 0) (ltb mostModules (length zs)) (r .0) in
+      let w = neither (eqb bs 0 || ltb largestBlock bs) (eqb (length zs) 0) (v .0) in
+      let x = neither (eqb bs 0) (ltb largestBlock bs) (w .0) in
+      let n = eqb-false bs 0 (x .0) in
+      let m = eqb-false (length zs) 0 (w .1) in
+      let k = ltb-false mostModules (length zs) (v .1) in
+      record {
+        headed = leb-true _ _ (b .0);
+        counted = eqb-false _ _ (not-true _ (b .1));
+        ends = eqb-true _ _ (a .1);
+        blockSome = omega (arith, n);
+        blockMost = ltb-false largestBlock bs (x .1);
+        modulesSome = omega (arith, m);
+        modulesMost = omega arith;
+        sizes = sizes-there bs zs (r .1);
+        together = ltb-false mostBytes (total zs) (q .1);
+        distinct = distinct-there (announcedNumbers p) g;
+      }
+
+  list-back : GoodList p → (announcementFramed p ≡ true) × (meets10 p ≡ false) × (meets11 p ≡ false)
+  unfolding announcementFramed meets10 meets11 beyond10
+  list-back g =
+      let l = length-map (modulesOf p) moduleSizeOf in
+      let s = g .blockSome in
+      let m = g .modulesSome in
+      let k = g .modulesMost in (
+        rw (le-leb (modulesStart p) (length p) (g .headed), ne-eqb (modulesEnd p) 0 (g .counted), eq-eqb (modulesEnd p + 2 + sixteenAt p (modulesEnd p)) (length p) (g .ends)),
+        rw (
+          ne-eqb (blockSizeOf p) 0 (λ e. omega arith),
+          le-ltb largestBlock (blockSizeOf p) (g .blockMost),
+          ne-eqb (length (announcedSizes p)) 0 (λ e. omega arith),
+          le-ltb mostModules (length (announcedSizes p)) (omega arith),
+          sizes-back (blockSizeOf p) (announcedSizes p) (g .sizes),
+          le-ltb mostBytes (total (announcedSizes p)) (g .together),
+        ),
+        distinct-back (announcedNumbers p) (g .distinct),
+      )
+
+-- a block's
+module _ (h : Header) (p : List ℕ) where
+  nine-there : meets9 h p ≡ false → (h .extension ≡ blockModuleOf p) × (h .section ≡ blockNumberOf p % 256)
+  unfolding meets9
+  nine-there e =
+      let q = neither (not (eqb (h .extension) (blockModuleOf p))) (not (eqb (h .section) (blockNumberOf p % 256))) e in
+      (eqb-true _ _ (not-false _ (q .0)), eqb-true _ _ (not-false _ (q .1)))
+
+  nine-back : h .extension ≡ blockModuleOf p → h .section ≡ blockNumberOf p % 256 → meets9 h p ≡ false
+  unfolding meets9
+  nine-back e f = rw (eq-eqb (h .extension) (blockModuleOf p) e, eq-eqb (h .section) (blockNumberOf p % 256) f)
+
+-- 7's other cases: the message and its payload are framed
+module _ (t : Table) (b : List ℕ) where
+  seven-there : messageMeets7 t b ≡ false → (messageFramed b ≡ true) × (payloadFramed t (payloadOf b) ≡ true)
+  unfolding messageMeets7
+  seven-there e = both _ _ (not-false _ e)
+
+  seven-back : messageFramed b ≡ true → payloadFramed t (payloadOf b) ≡ true → messageMeets7 t b ≡ false
+  unfolding messageMeets7
+  seven-back e f = rw (e, f)
+
+module _ (s : List ℕ) where
+  is-announcements : headerOf s .table ≡ announcementTable → carouselTableIn s ≡ Announcements
+  is-announcements e = rw (eq-eqb (headerOf s .table) announcementTable e)
+
+  is-blocks : headerOf s .table ≡ blockTable → carouselTableIn s ≡ Blocks
+  is-blocks e = rw e
+
+  announcements-is : carouselTableIn s ≡ Announcements → headerOf s .table ≡ announcementTable
+  announcements-is e = go (eqb (headerOf s .table) announcementTable) refl e
+    where
+      go : (t : Bool) → eqb (headerOf s .table) announcementTable ≡ t → cond t Announcements Blocks ≡ Announcements → headerOf s .table ≡ announcementTable
+      go true f e = eqb-true _ _ f
+      go false f e = let z : _≡_ {A = ℕ} 0 1 = cc in absurd (omega arith)
+
+  blocks-is : GoodSection Carousel s → carouselTableIn s ≡ Blocks → headerOf s .table ≡ blockTable
+  blocks-is g e = go (eqb (headerOf s .table) announcementTable) (eqb (headerOf s .table) blockTable) refl refl e (g .table)
+    where
+      go : (t u : Bool) → eqb (headerOf s .table) announcementTable ≡ t → eqb (headerOf s .table) blockTable ≡ u → cond t Announcements Blocks ≡ Blocks → (t || u) ≡ true → headerOf s .table ≡ blockTable
+      go true u f k e h = let z : _≡_ {A = ℕ} 0 1 = cc in absurd (omega arith)
+      go false true f k e h = eqb-true _ _ k
+      go false false f k e h = absurd (clash false h refl)
+
+  -- AN ANNOUNCEMENT IS TAKEN EXACTLY WHEN IT IS WELL FORMED, and what is read of it are its fields
+  pub announcement-good : (judgedOf s ≡ judged.Announced (announcementOf (bodyOf s))) ↔ GoodAnnouncement s
+  unfolding payloadFramed
+  announcement-good = (there, back)
+    where
+      there : judgedOf s ≡ judged.Announced (announcementOf (bodyOf s)) → GoodAnnouncement s
+      there e =
+          let w = announced-exactly s (announcementOf (bodyOf s)) .0 e in
+          let g = good-exactly s .0 (w .0) in
+          let n = subst (λ (t : Table). None (messageTests t (headerOf s) (bodyOf s))) (w .1) (g .1) in
+          let f = seven-there Announcements (bodyOf s) (n .1 .1 .0) in
+          record {
+            section = g .0;
+            table = announcements-is (w .1);
+            message = message-there Announcements (bodyOf s) (n .0) (n .1 .0) (f .0);
+            list = list-there (payloadOf (bodyOf s)) (f .1) (n .1 .1 .1 .0) (n .1 .1 .1 .1 .0);
+          }
+
+      back : GoodAnnouncement s → judgedOf s ≡ judged.Announced (announcementOf (bodyOf s))
+      back g =
+          let m = message-back Announcements (bodyOf s) (g .message) in
+          let l = list-back (payloadOf (bodyOf s)) (g .list) in
+          let t = is-announcements (g .table) in
+          let n : None (messageTests Announcements (headerOf s) (bodyOf s)) = (m .0, (m .1, (seven-back Announcements (bodyOf s) (m .2) (l .0), (l .1, (l .2, tt))))) in
+          announced-exactly s (announcementOf (bodyOf s)) .1 (good-exactly s .1 (g .section, subst (λ (t : Table). None (messageTests t (headerOf s) (bodyOf s))) (sym t) n), t, refl)
+
+  -- A BLOCK IS TAKEN EXACTLY WHEN IT IS WELL FORMED
+  pub block-good : (judgedOf s ≡ judged.Carried (blockOf (bodyOf s))) ↔ GoodBlock s
+  unfolding payloadFramed
+  block-good = (there, back)
+    where
+      there : judgedOf s ≡ judged.Carried (blockOf (bodyOf s)) → GoodBlock s
+      there e =
+          let w = carried-exactly s (blockOf (bodyOf s)) .0 e in
+          let g = good-exactly s .0 (w .0) in
+          let n = subst (λ (t : Table). None (messageTests t (headerOf s) (bodyOf s))) (w .1) (g .1) in
+          let f = seven-there Blocks (bodyOf s) (n .1 .1 .0) in
+          let k = nine-there (headerOf s) (payloadOf (bodyOf s)) (n .1 .1 .1 .0) in
+          record {
+            section = g .0;
+            table = blocks-is (g .0) (w .1);
+            message = message-there Blocks (bodyOf s) (n .0) (n .1 .0) (f .0);
+            headed = leb-true _ _ (f .1);
+            extension = k .0;
+            number = k .1;
+          }
+
+      back : GoodBlock s → judgedOf s ≡ judged.Carried (blockOf (bodyOf s))
+      back g =
+          let m = message-back Blocks (bodyOf s) (g .message) in
+          let t = is-blocks (g .table) in
+          let f = seven-back Blocks (bodyOf s) (m .2) (le-leb 6 (length (payloadOf (bodyOf s))) (g .headed)) in
+          let n : None (messageTests Blocks (headerOf s) (bodyOf s)) = (m .0, (m .1, (f, (nine-back (headerOf s) (payloadOf (bodyOf s)) (g .extension) (g .number), tt)))) in
+          carried-exactly s (blockOf (bodyOf s)) .1 (good-exactly s .1 (g .section, subst (λ (t : Table). None (messageTests t (headerOf s) (bodyOf s))) (sym t) n), t, refl)
+
+  -- an announcement is heard, and a block, of nothing else
+  heard-announced : (x : Announced) → heardOf s ≡ announced x → judgedOf s ≡ judged.Announced (announcementOf (bodyOf s))
+  unfolding heardOf heardIn
+  heard-announced x e = go (judgedOf s) refl e
+    where
+      go : (j : Judged) → judgedOf s ≡ j → heardIn s j ≡ announced x → judgedOf s ≡ judged.Announced (announcementOf (bodyOf s))
+      go (judged.Refused r) j e = let z : _≡_ {A = ℕ} 0 1 = cc in absurd (omega arith)
+      go (judged.Announced a) j e = j ∙ ap judged.Announced (sym (announced-exactly s a .0 j .2))
+      go (judged.Carried b) j e = let z : _≡_ {A = ℕ} 0 1 = cc in absurd (omega arith)
+
+  heard-arrived : (x : Arrived) → heardOf s ≡ arrived x → judgedOf s ≡ judged.Carried (blockOf (bodyOf s))
+  unfolding heardOf heardIn
+  heard-arrived x e = go (judgedOf s) refl e
+    where
+      go : (j : Judged) → judgedOf s ≡ j → heardIn s j ≡ arrived x → judgedOf s ≡ judged.Carried (blockOf (bodyOf s))
+      go (judged.Refused r) j e = let z : _≡_ {A = ℕ} 0 1 = cc in absurd (omega arith)
+      go (judged.Announced a) j e = let z : _≡_ {A = ℕ} 0 1 = cc in absurd (omega arith)
+      go (judged.Carried b) j e = j ∙ ap judged.Carried (sym (carried-exactly s b .0 j .2))
+
+  -- WHAT IS HEARD OF IT IS WHAT THE TEXT SAYS, field by field
+  pub announcement-says : GoodAnnouncement s → heardOf s ≡ announced (saidAnnouncement s)
+  unfolding heardOf heardIn announcedIn announcementOf
+  announcement-says g =
+      let j = announcement-good .1 g in
+      ap (heardIn s) j ∙ ap (λ (ms : List Listed). announced (record { download = downloadOf (payloadOf (bodyOf s)); blockSize = blockSizeOf (payloadOf (bodyOf s)); modules = ms })) (modules-said s (announcementOf (bodyOf s)) j)
+
+  pub announcement-heard : (x : Announced) → (heardOf s ≡ announced x) ↔ (GoodAnnouncement s × (saidAnnouncement s ≡ x))
+  announcement-heard x = (
+    λ e. let g = announcement-good .0 (heard-announced x e) in (g, same (sym (announcement-says g) ∙ e)),
+    λ w. announcement-says (w .0) ∙ ap announced (w .1),
+  )
+    where
+      same : announced (saidAnnouncement s) ≡ announced x → saidAnnouncement s ≡ x
+      same e = cc
+
+  pub block-says : GoodBlock s → heardOf s ≡ arrived (saidBlock s)
+  unfolding heardOf heardIn arrivedIn blockOf
+  block-says g =
+      let j = block-good .1 g in
+      let p = payloadOf (bodyOf s) in
+      ap (heardIn s) j ∙ ap (λ (l : List ℕ). arrived (record { download = messageIdentifierOf (bodyOf s); number = blockModuleOf p; version = blockVersionOf p; block = blockNumberOf p; bytes = l })) (data-said s (blockOf (bodyOf s)) j)
+
+  pub block-heard : (x : Arrived) → (heardOf s ≡ arrived x) ↔ (GoodBlock s × (saidBlock s ≡ x))
+  block-heard x = (
+    λ e. let g = block-good .0 (heard-arrived x e) in (g, same (sym (block-says g) ∙ e)),
+    λ w. block-says (w .0) ∙ ap arrived (w .1),
+  )
+    where
+      same : arrived (saidBlock s) ≡ arrived x → saidBlock s ≡ x
+      same e = cc

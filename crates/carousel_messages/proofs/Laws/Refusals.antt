@@ -1,0 +1,217 @@
+-- Each test from the facts that code learns on its ways, and the answer from the tests.
+use Prim.Native.Nat.{ℕ, zero, suc, _+_, _%_, _≤_, _<_}
+use mathlib.Core.Path.{_≡_, refl, sym, ap, _∙_}
+use mathlib.Core.Bool.{Bool, true, false, not, _&&_, _||_}
+use mathlib.Core.List.{List, [], _∷_, map}
+use native.Mathlib.Omega.{arith}
+use lib.Dec.{eqb, leb, ltb}
+use lib.ListN.{length, length-map, take, drop, drop-of-length-le}
+use borrow.Author.Tests.{eq-eqb, ne-eqb, lt-ltb, le-ltb, le-leb, lt-leb, leb-true}
+use Rattle.section.specs.Header.{bodyOf}
+use Rattle.wire.proofs.Laws.Tests.{both}
+use Rattle.wire.specs.Fields.{byteAt, sixteenAt}
+use Rattle.wire.specs.Tests.{firstMet}
+use Rattle.wire.specs.Items.{items, endOf}
+use Rattle.section.specs.declared.Header.{Header}
+use Rattle.section.specs.declared.Refusal.{Refusal}
+use Rattle.section.specs.declared.Rules.the-variants.{Carousel}
+use Rattle.section.specs.declared.Checked.the-variants as checked
+use Rattle.section.specs.Answer.{refused, checkedOf}
+use Rattle.carousel_messages.specs.declared.Table.{Table}
+use Rattle.carousel_messages.specs.declared.Table.the-variants.{Announcements, Blocks}
+use Rattle.carousel_messages.specs.declared.Judged.the-variants as judged
+use Rattle.carousel_messages.specs.Message.{messageOf, adaptationOf, messageLengthOf, payloadOf, wantedOf}
+use Rattle.carousel_messages.specs.Contents.{moduleKind, modulesStart, modulesEnd, moduleCountOf, modulesFrom, modulesOf, blockSizeOf, moduleSizeOf, announcementFramed, blockModuleOf, blockNumberOf}
+use Rattle.carousel_messages.specs.Limits.{someBad, total, beyond10}
+use Rattle.carousel_messages.specs.Refusals.{short7, meets8, messageFramed, payloadFramed, messageMeets7, meets9, meets10, meets11, payloadRefusal, messageRefusal}
+use Rattle.carousel_messages.specs.Judged.{carouselTableOf, announcementOf, blockOf, readOf, messageJudged, judgedOf}
+
+-- the payload of a body too short to have one
+pub no-payload : (b : List ℕ) → length b < 12 + adaptationOf b → [] ≡ payloadOf b
+no-payload b h = let f : length b ≤ 12 + adaptationOf b = omega arith in sym (drop-of-length-le b f)
+
+module _ (t : Table) (b : List ℕ) where
+  pub first-other : (byteAt b 0 ≡ 0x11 → ⊥) → true ≡ meets8 t b
+  unfolding meets8
+  first-other n = rw (ne-eqb (byteAt b 0) 0x11 n)
+
+  pub second-other : byteAt b 0 ≡ 0x11 → (byteAt b 1 ≡ 0x03 → ⊥) → true ≡ meets8 t b
+  unfolding meets8
+  second-other e n = rw (eq-eqb (byteAt b 0) 0x11 e, ne-eqb (byteAt b 1) 0x03 n)
+
+  pub number-is : byteAt b 0 ≡ 0x11 → byteAt b 1 ≡ 0x03 → not (eqb (messageOf b) (wantedOf t)) ≡ meets8 t b
+  unfolding meets8
+  number-is e f = rw (eq-eqb (byteAt b 0) 0x11 e, eq-eqb (byteAt b 1) 0x03 f)
+
+module _ (b : List ℕ) where
+  pub uneven : (12 + messageLengthOf b ≡ length b → ⊥) → false ≡ messageFramed b
+  unfolding messageFramed
+  uneven n = rw (ne-eqb (12 + messageLengthOf b) (length b) n)
+
+  pub even : 12 + messageLengthOf b ≡ length b → leb (adaptationOf b) (messageLengthOf b) ≡ messageFramed b
+  unfolding messageFramed
+  even e = rw (eq-eqb (12 + messageLengthOf b) (length b) e)
+
+-- a block's payload
+module _ (h : Header) (p : List ℕ) where
+  pub block-short : length p < 6 → 7 ≡ payloadRefusal Blocks h p
+  unfolding payloadRefusal firstMet payloadFramed
+  block-short l = rw (lt-leb 6 (length p) l)
+
+  module _ (l : 6 ≤ length p) where
+    pub block-other : (h .extension ≡ blockModuleOf p → ⊥) → 9 ≡ payloadRefusal Blocks h p
+    unfolding payloadRefusal firstMet payloadFramed meets9
+    block-other n = rw (le-leb 6 (length p) l, ne-eqb (h .extension) (blockModuleOf p) n)
+
+    module _ (e : h .extension ≡ blockModuleOf p) where
+      pub block-number : (h .section ≡ blockNumberOf p % 256 → ⊥) → 9 ≡ payloadRefusal Blocks h p
+      unfolding payloadRefusal firstMet payloadFramed meets9
+      block-number n = rw (le-leb 6 (length p) l, eq-eqb (h .extension) (blockModuleOf p) e, ne-eqb (h .section) (blockNumberOf p % 256) n)
+
+      pub block-good : h .section ≡ blockNumberOf p % 256 → 0 ≡ payloadRefusal Blocks h p
+      unfolding payloadRefusal firstMet payloadFramed meets9
+      block-good f = rw (le-leb 6 (length p) l, eq-eqb (h .extension) (blockModuleOf p) e, eq-eqb (h .section) (blockNumberOf p % 256) f)
+
+  -- an announcement's
+  pub announcement-open : announcementFramed p ≡ false → 7 ≡ payloadRefusal Announcements h p
+  unfolding payloadRefusal firstMet payloadFramed
+  announcement-open f = rw f
+
+  module _ (f : announcementFramed p ≡ true) where
+    pub announcement-beyond : meets10 p ≡ true → 10 ≡ payloadRefusal Announcements h p
+    unfolding payloadRefusal firstMet payloadFramed
+    announcement-beyond m = rw (f, m)
+
+    module _ (m : meets10 p ≡ false) where
+      pub announcement-twice : meets11 p ≡ true → 11 ≡ payloadRefusal Announcements h p
+      unfolding payloadRefusal firstMet payloadFramed
+      announcement-twice k = rw (f, m, k)
+
+      pub announcement-good : meets11 p ≡ false → 0 ≡ payloadRefusal Announcements h p
+      unfolding payloadRefusal firstMet payloadFramed
+      announcement-good k = rw (f, m, k)
+
+-- an announcement framed whole
+module _ (p : List ℕ) where
+  pub framed-short : length p < modulesStart p → false ≡ announcementFramed p
+  unfolding announcementFramed
+  framed-short l = rw (lt-leb (modulesStart p) (length p) l)
+
+  module _ (l : modulesStart p ≤ length p) where
+    pub framed-fewer : modulesEnd p ≡ 0 → false ≡ announcementFramed p
+    unfolding announcementFramed
+    framed-fewer e = rw (le-leb (modulesStart p) (length p) l, eq-eqb (modulesEnd p) 0 e)
+
+    pub framed-rest : (modulesEnd p ≡ 0 → ⊥) → eqb (modulesEnd p + 2 + sixteenAt p (modulesEnd p)) (length p) ≡ announcementFramed p
+    unfolding announcementFramed
+    framed-rest n = rw (le-leb (modulesStart p) (length p) l, ne-eqb (modulesEnd p) 0 n)
+
+-- as many as are counted, where they do not end before
+pub counted : (k a : ℕ) (is : List (List ℕ)) → (endOf k a is ≡ 0 → ⊥) → length (take k is) ≡ k
+unfolding endOf
+counted zero a is n = refl
+counted (suc k) a [] n = absurd (n refl)
+counted (suc k) a (x ∷ is) n = ap suc (counted k (a + length x) is n)
+
+-- what an announcement has that is framed whole: its modules begin in it, and are as many as it says
+module _ (p : List ℕ) (f : announcementFramed p ≡ true) where
+  abbrev has : Bool
+  has = leb (modulesStart p) (length p) && not (eqb (modulesEnd p) 0)
+
+  framed-both : (leb (modulesStart p) (length p) ≡ true) × (not (eqb (modulesEnd p) 0) ≡ true)
+  unfolding announcementFramed
+  framed-both =
+      both (leb (modulesStart p) (length p)) (not (eqb (modulesEnd p) 0)) (both has (eqb (modulesEnd p + 2 + sixteenAt p (modulesEnd p)) (length p)) f .0)
+
+  pub framed-starts : modulesStart p ≤ length p
+  framed-starts = leb-true (modulesStart p) (length p) (framed-both .0)
+
+  pub framed-ends : modulesEnd p ≡ 0 → ⊥
+  framed-ends z =
+      let h = framed-both .1 in
+      let e = eq-eqb (modulesEnd p) 0 z in
+      let k : _≡_ {A = ℕ} 0 1 = cc in
+      absurd (omega arith)
+
+  framed-count : length (map moduleSizeOf (modulesOf p)) ≡ moduleCountOf p
+  framed-count = length-map (modulesOf p) moduleSizeOf ∙ counted (moduleCountOf p) (modulesStart p) (items moduleKind (drop (modulesStart p) p)) framed-ends
+
+-- the sizes, from the three fields that code reads for them
+pub sizes-said : (p : List ℕ) (i m bs : ℕ) → i ≡ modulesStart p → m ≡ moduleCountOf p → bs ≡ blockSizeOf p
+    → (someBad bs (map moduleSizeOf (modulesFrom p i m)) || ltb 65536 (total (map moduleSizeOf (modulesFrom p i m))))
+    ≡ (someBad (blockSizeOf p) (map moduleSizeOf (modulesOf p)) || ltb 65536 (total (map moduleSizeOf (modulesOf p))))
+sizes-said p i m bs e f g = rw (e, f, g)
+
+-- 10, one limit after another
+module _ (p : List ℕ) where
+  pub beyond-none : blockSizeOf p ≡ 0 → true ≡ meets10 p
+  unfolding meets10 beyond10
+  beyond-none e = rw (eq-eqb (blockSizeOf p) 0 e)
+
+  module _ (n : blockSizeOf p ≡ 0 → ⊥) where
+    pub beyond-large : 4066 < blockSizeOf p → true ≡ meets10 p
+    unfolding meets10 beyond10
+    beyond-large l = rw (ne-eqb (blockSizeOf p) 0 n, lt-ltb 4066 (blockSizeOf p) l)
+
+    module _ (l : blockSizeOf p ≤ 4066) (f : announcementFramed p ≡ true) where
+      pub beyond-empty : moduleCountOf p ≡ 0 → true ≡ meets10 p
+      unfolding meets10 beyond10
+      beyond-empty e = rw (ne-eqb (blockSizeOf p) 0 n, le-ltb 4066 (blockSizeOf p) l, framed-count p f, eq-eqb (moduleCountOf p) 0 e)
+
+      module _ (m : moduleCountOf p ≡ 0 → ⊥) where
+        pub beyond-many : 16 < moduleCountOf p → true ≡ meets10 p
+        unfolding meets10 beyond10
+        beyond-many g =
+            rw (ne-eqb (blockSizeOf p) 0 n, le-ltb 4066 (blockSizeOf p) l, framed-count p f, ne-eqb (moduleCountOf p) 0 m, lt-ltb 16 (moduleCountOf p) g)
+
+        pub beyond-sizes : moduleCountOf p ≤ 16
+            → (someBad (blockSizeOf p) (map moduleSizeOf (modulesOf p)) || ltb 65536 (total (map moduleSizeOf (modulesOf p)))) ≡ meets10 p
+        unfolding meets10 beyond10
+        beyond-sizes g =
+            rw (ne-eqb (blockSizeOf p) 0 n, le-ltb 4066 (blockSizeOf p) l, framed-count p f, ne-eqb (moduleCountOf p) 0 m, le-ltb 16 (moduleCountOf p) g)
+
+-- the order of the whole
+module _ (t : Table) (h : Header) (b : List ℕ) where
+  pub is-short : length b < 12 → 7 ≡ messageRefusal t h b
+  unfolding messageRefusal firstMet short7
+  is-short l = rw (lt-ltb (length b) 12 l)
+
+  module _ (l : 12 ≤ length b) where
+    pub is-8 : meets8 t b ≡ true → 8 ≡ messageRefusal t h b
+    unfolding messageRefusal firstMet short7
+    is-8 m = rw (le-ltb (length b) 12 l, m)
+
+    module _ (m : meets8 t b ≡ false) where
+      pub is-open : messageFramed b ≡ false → 7 ≡ messageRefusal t h b
+      unfolding messageRefusal firstMet short7 messageMeets7
+      is-open f = rw (le-ltb (length b) 12 l, m, f)
+
+      pub is-payload : messageFramed b ≡ true → payloadRefusal t h (payloadOf b) ≡ messageRefusal t h b
+      unfolding messageRefusal payloadRefusal firstMet short7 messageMeets7
+      is-payload f = rw (le-ltb (length b) 12 l, m, f)
+
+  pub judged-bad : (messageRefusal t h b ≡ 0 → ⊥) → judged.Refused (refused (messageRefusal t h b)) ≡ messageJudged t h b
+  unfolding messageJudged
+  judged-bad n = rw (ne-eqb (messageRefusal t h b) 0 n)
+
+  pub judged-good : messageRefusal t h b ≡ 0 → readOf t b ≡ messageJudged t h b
+  unfolding messageJudged
+  judged-good e = rw (eq-eqb (messageRefusal t h b) 0 e)
+
+module _ (t : Table) (b : List ℕ) where
+  pub read-announced : t ≡ Announcements → judged.Announced (announcementOf b) ≡ readOf t b
+  unfolding readOf
+  read-announced e = rw e
+
+  pub read-carried : t ≡ Blocks → judged.Carried (blockOf b) ≡ readOf t b
+  unfolding readOf
+  read-carried e = rw e
+
+module _ (s : List ℕ) where
+  pub judged-refused : (r : Refusal) → checkedOf Carousel s ≡ checked.Refused r → judged.Refused r ≡ judgedOf s
+  unfolding judgedOf
+  judged-refused r e = rw e
+
+  pub judged-message : (h : Header) → checkedOf Carousel s ≡ checked.Accepted h → messageJudged (carouselTableOf (h .table)) h (bodyOf s) ≡ judgedOf s
+  unfolding judgedOf
+  judged-message h e = rw e

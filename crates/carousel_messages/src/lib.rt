@@ -1,0 +1,106 @@
+// Announcements (DII) and blocks (DDB): a carousel section, judged before any record is looked at
+// (refusals 2 to 11).
+//
+// What a message's fields are is said in specs/Message.antt and specs/Contents.antt, the limits of
+// 10 and 11 in specs/Limits.antt, one test for each number in specs/Refusals.antt, and the answer,
+// an equation for every slice, in specs/Judged.antt.
+
+mod limits;
+mod message;
+mod modules;
+
+pub use limits::LARGEST_BLOCK;
+pub use limits::MOST_BLOCKS;
+pub use limits::MOST_BYTES;
+pub use limits::MOST_MODULES;
+use message::judge_message;
+use section::Checked;
+use section::Refusal;
+use section::Rules;
+use wire::byte_at;
+use wire::sixteen_at;
+use wire::thirty_two_at;
+ghost use mathlib.Core.Path.{_≡_};
+ghost use Rattle.wire.specs.Tests.{firstMet};
+ghost use Rattle.carousel_messages.specs.Judged.{judgedOf, numberOfJudged, carouselTests};
+ghost use Rattle.carousel_messages.specs.Heard.{noneListed, listedAt};
+
+// Which of the carousel's two tables.
+pub enum Table {
+    Announcements,
+    Blocks,
+}
+
+// An announcement, and where its modules lie in the section.
+pub struct Announcement {
+    pub download: u32,
+    pub block_size: u16,
+    pub count: usize,
+    pub start: usize,
+    pub size: usize,
+}
+
+// A block, and where its data lie in the section.
+pub struct Block {
+    pub download: u32,
+    pub number: u16,
+    pub version: u8,
+    pub block: u16,
+    pub start: usize,
+    pub size: usize,
+}
+
+// A module as it is announced.
+pub struct Listed {
+    pub number: u16,
+    pub size: u32,
+    pub version: u8,
+}
+
+pub enum Judged {
+    Refused(Refusal),
+    Announced(Announcement),
+    Carried(Block),
+}
+
+// What a carousel section is, whatever was announced before.
+pub fn judge(s: &[u8]) -> Judged
+    ensures { λ r. ⌜ (r ≡ judgedOf (now (s .entry))) × (numberOfJudged r ≡ firstMet (carouselTests (now (s .entry)))) ⌝ }
+{
+    let checked = section::check(s, Rules::Carousel);
+    match checked {
+        Checked::Refused(r) => Judged::Refused(r),
+        Checked::Accepted(h) => {
+            let e = s.len() - 4;
+            judge_message(&s[8..e], h)
+        }
+    }
+}
+
+// The module at a place of an announcement's modules, `list`; all zero where there is none.
+pub fn module_at(list: &[u8], place: usize) -> Listed
+    ensures { λ r. ⌜ r ≡ listedAt (now (list .entry)) place ⌝ }
+{
+    if list.len() <= place {
+        return none_listed();
+    }
+    if wire::measured_end(list, 0, place + 1, 8, 7) == 0 {
+        return none_listed();
+    }
+    let i = wire::measured_end(list, 0, place, 8, 7);
+    Listed {
+        number: sixteen_at(list, i),
+        size: thirty_two_at(list, i + 2),
+        version: byte_at(list, i + 6),
+    }
+}
+
+fn none_listed() -> Listed
+    ensures { λ r. ⌜ r ≡ noneListed ⌝ }
+{
+    Listed {
+        number: 0,
+        size: 0,
+        version: 0,
+    }
+}

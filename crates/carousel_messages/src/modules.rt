@@ -1,0 +1,76 @@
+// The payload of an announcement.
+use crate::limits::has_twice;
+use crate::limits::is_beyond;
+use section::Header;
+use wire::sixteen_at;
+ghost use mathlib.Core.Path.{_≡_};
+ghost use Prim.Native.Nat.{_+_, _≤_, _<_};
+ghost use lib.Dec.{eqb};
+ghost use lib.ListN.{length};
+ghost use Rattle.wire.specs.Fields.{sixteenAt};
+ghost use Rattle.carousel_messages.specs.declared.Table.the-variants.{Announcements};
+ghost use Rattle.carousel_messages.specs.Contents.{announcementFramed, moduleCountOf, modulesStart, modulesEnd};
+ghost use Rattle.carousel_messages.specs.Refusals.{payloadRefusal};
+
+// 0 where an announcement's payload is taken, else 7, 10 or 11.
+pub fn announcement_refusal(p: &[u8], h: Header) -> u8
+    ensures { λ r. ⌜ r ≡ payloadRefusal Announcements h (now (p .entry)) ⌝ }
+{
+    if !is_announcement(p) {
+        return 7;
+    }
+    if is_beyond(p) {
+        return 10;
+    }
+    if has_twice(p) {
+        return 11;
+    }
+    0
+}
+
+fn is_announcement(p: &[u8]) -> bool
+    ensures { λ r. ⌜ r ≡ announcementFramed (now (p .entry)) ⌝ }
+{
+    if p.len() < modules_start(p) {
+        return false;
+    }
+    let e = modules_end(p);
+    if e == 0 {
+        return false;
+    }
+    ends_with_private(p, e)
+}
+
+// Where the modules begin, after the compatibility bytes and the count.
+pub fn modules_start(p: &[u8]) -> usize
+    ensures { λ r. ⌜ (r ≡ modulesStart (now (p .entry))) × (r ≤ 65555) ⌝ }
+{
+    20 + sixteen_at(p, 16) as usize
+}
+
+// How many modules there should be; the count stands just before them.
+pub fn module_count(p: &[u8]) -> usize
+    ensures { λ r. ⌜ (r ≡ moduleCountOf (now (p .entry))) × (r < 65536) ⌝ }
+{
+    sixteen_at(p, modules_start(p) - 2) as usize
+}
+
+// Where the counted modules end, 0 where there are fewer.
+pub fn modules_end(p: &[u8]) -> usize
+    ensures { λ r. ⌜ r ≡ modulesEnd (now (p .entry)) ⌝ }
+{
+    wire::measured_end(p, modules_start(p), module_count(p), 8, 7)
+}
+
+// Whether private bytes, after their length at `e`, are all that is left.
+fn ends_with_private(p: &[u8], e: usize) -> bool
+    ensures { λ r. ⌜ r ≡ eqb (e + 2 + sixteenAt (now (p .entry)) e) (length (now (p .entry))) ⌝ }
+{
+    if p.len() < 2 {
+        return false;
+    }
+    if p.len() - 2 < e {
+        return false;
+    }
+    e + 2 + sixteen_at(p, e) as usize == p.len()
+}

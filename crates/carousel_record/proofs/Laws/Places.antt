@@ -1,0 +1,148 @@
+-- Laws of the announcement: what the limits give, the place of a number, and that modules do not overlap.
+use Prim.Native.Nat.{ℕ, zero, suc, _+_, _*_, _≤_, _<_}
+use mathlib.Core.Path.{_≡_, refl, sym, ap, _∙_}
+use mathlib.Core.Bool.{Bool, true, false, cond, _||_}
+use mathlib.Core.List.{List, [], _∷_, map}
+use native.Mathlib.Omega.{arith}
+use lib.Dec.{eqb, ltb, leb·suc-suc}
+use lib.ListN.{length, getD, length-map}
+use borrow.Author.Tests.{eq-eqb, ne-eqb, eqb-true, eqb-false, lt-ltb, ltb-false}
+use Rattle.wire.proofs.Laws.Tests.{both, neither, clash}
+use Rattle.carousel_messages.specs.declared.Listed.{Listed}
+use Rattle.carousel_messages.specs.Limits.{largestBlock, mostModules, mostBlocks, mostBytes, badSize, someBad, total, beyond10, among, twice11}
+use Rattle.carousel_messages.specs.Heard.{noneListed}
+use Rattle.carousel_record.specs.Record.{sizesOf, numbersOf, placeIn, sums, sameNumbers}
+
+-- the same numbers are the same list
+pub same-is : (xs ys : List ℕ) → sameNumbers xs ys ≡ true → xs ≡ ys
+unfolding sameNumbers
+same-is [] [] e = refl
+same-is [] (y ∷ ys) e = absurd (clash _ e refl)
+same-is (x ∷ xs) [] e = absurd (clash _ e refl)
+same-is (x ∷ xs) (y ∷ ys) e =
+    let h = both (eqb x y) (sameNumbers xs ys) e in
+    rw (eqb-true x y (h .0), same-is xs ys (h .1))
+
+pub is-same : (xs : List ℕ) → sameNumbers xs xs ≡ true
+unfolding sameNumbers
+is-same [] = refl
+is-same (x ∷ xs) = rw (eq-eqb x x refl) (is-same xs)
+
+-- the number of the module at a found place
+pub number-at : (n : ℕ) (ms : List Listed) → placeIn n ms < length ms → getD ms (placeIn n ms) noneListed .number ≡ n
+unfolding placeIn
+number-at n [] h = absurd (omega arith)
+number-at n (m ∷ ms) h = go (eqb (m .number) n) refl h (λ k. number-at n ms k)
+  where
+    go : (t : Bool) → eqb (m .number) n ≡ t → cond t 0 (suc (placeIn n ms)) < suc (length ms)
+        → (placeIn n ms < length ms → getD ms (placeIn n ms) noneListed .number ≡ n)
+        → getD (m ∷ ms) (cond t 0 (suc (placeIn n ms))) noneListed .number ≡ n
+    go true e k f = eqb-true (m .number) n e
+    go false e k f = f (omega arith)
+
+-- a module's number is found, at its place or before
+pub place-le : (n : ℕ) (ms : List Listed) (i : ℕ) → i < length ms → getD ms i noneListed .number ≡ n → placeIn n ms ≤ i
+unfolding placeIn
+place-le n [] i h e = absurd (omega arith)
+place-le n (m ∷ ms) zero h e = rw (eq-eqb (m .number) n e) (omega arith)
+place-le n (m ∷ ms) (suc i) h e = go (eqb (m .number) n) (place-le n ms i (omega arith) e)
+  where
+    go : (t : Bool) → placeIn n ms ≤ i → cond t 0 (suc (placeIn n ms)) ≤ suc i
+    go true k = omega arith
+    go false k = omega arith
+
+-- a number is among those announced exactly where it has a place
+pub among-place : (n : ℕ) (ms : List Listed) → among n (numbersOf ms) ≡ ltb (placeIn n ms) (length ms)
+unfolding among placeIn
+among-place n [] = refl
+among-place n (m ∷ ms) = go (eqb (m .number) n) (among-place n ms)
+  where
+    go : (t : Bool) → among n (numbersOf ms) ≡ ltb (placeIn n ms) (length ms) → (t || among n (numbersOf ms)) ≡ ltb (cond t 0 (suc (placeIn n ms))) (suc (length ms))
+    go true e = sym (lt-ltb 0 (suc (length ms)) (omega arith))
+    go false e = e ∙ sym (leb·suc-suc (suc (placeIn n ms)) (length ms))
+
+-- where no number comes twice, a module's number is found at its place
+pub place-is : (ms : List Listed) (i : ℕ) → twice11 (numbersOf ms) ≡ false → i < length ms → placeIn (getD ms i noneListed .number) ms ≡ i
+unfolding placeIn twice11
+place-is [] i t h = absurd (omega arith)
+place-is (m ∷ ms) zero t h = rw (eq-eqb (m .number) (m .number) refl)
+place-is (m ∷ ms) (suc i) t h =
+    let n = neither (among (m .number) (numbersOf ms)) (twice11 (numbersOf ms)) t in
+    let l = ltb-false (placeIn (m .number) ms) (length ms) (sym (among-place (m .number) ms) ∙ n .0) in
+    let k : i < length ms = omega arith in
+    rw (ne-eqb (m .number) (getD ms i noneListed .number) (λ e. let p = place-le (m .number) ms i k (sym e) in absurd (omega arith))) (ap suc (place-is ms i (n .1) k))
+
+-- f of each size, by place
+pub sized : (f : ℕ → ℕ) (ms : List Listed) (i : ℕ) → i < length ms → getD (map f (sizesOf ms)) i 0 ≡ f (getD ms i noneListed .size)
+sized f [] i h = absurd (omega arith)
+sized f (m ∷ ms) zero h = refl
+sized f (m ∷ ms) (suc i) h = sized f ms i (omega arith)
+
+-- a module begins at s or later and ends within the sizes together
+pub starts-from : (s : ℕ) (ms : List Listed) (j : ℕ) → j < length ms → s ≤ getD (sums s (sizesOf ms)) j 0
+unfolding sums
+starts-from s [] j h = absurd (omega arith)
+starts-from s (m ∷ ms) zero h = omega arith
+starts-from s (m ∷ ms) (suc j) h = let k = starts-from (s + m .size) ms j (omega arith) in omega arith
+
+pub module-fits : (s : ℕ) (ms : List Listed) (j : ℕ) → j < length ms → getD (sums s (sizesOf ms)) j 0 + getD ms j noneListed .size ≤ s + total (sizesOf ms)
+unfolding sums total
+module-fits s [] j h = absurd (omega arith)
+module-fits s (m ∷ ms) zero h = omega arith
+module-fits s (m ∷ ms) (suc j) h = let k = module-fits (s + m .size) ms j (omega arith) in omega arith
+
+-- of two modules, the first ends before the second begins
+pub modules-apart : (s : ℕ) (ms : List Listed) (j k : ℕ) → j < k → k < length ms → getD (sums s (sizesOf ms)) j 0 + getD ms j noneListed .size ≤ getD (sums s (sizesOf ms)) k 0
+unfolding sums
+modules-apart s [] j k l h = absurd (omega arith)
+modules-apart s (m ∷ ms) j zero l h = absurd (omega arith)
+modules-apart s (m ∷ ms) zero (suc k) l h = starts-from (s + m .size) ms k (omega arith)
+modules-apart s (m ∷ ms) (suc j) (suc k) l h = modules-apart (s + m .size) ms j k (omega arith) (omega arith)
+
+-- what the limits of refusal 10 give
+size-limits : (bs : ℕ) (ms : List Listed) (i : ℕ) → someBad bs (sizesOf ms) ≡ false → i < length ms
+    → (0 < getD ms i noneListed .size) × (getD ms i noneListed .size ≤ mostBlocks * bs)
+unfolding someBad
+size-limits bs [] i e h = absurd (omega arith)
+size-limits bs (m ∷ ms) zero e h =
+    let n = neither (badSize bs (m .size)) (someBad bs (sizesOf ms)) e in
+    let k = neither (eqb (m .size) 0) (ltb (mostBlocks * bs) (m .size)) (n .0) in
+    let z = eqb-false (m .size) 0 (k .0) in
+    (omega arith, ltb-false (mostBlocks * bs) (m .size) (k .1))
+size-limits bs (m ∷ ms) (suc i) e h = size-limits bs ms i (neither (badSize bs (m .size)) (someBad bs (sizesOf ms)) e .1) (omega arith)
+
+six : (o p q r s t : Bool) → (o || p || q || r || s || t) ≡ false → (o ≡ false) × (p ≡ false) × (q ≡ false) × (r ≡ false) × (s ≡ false) × (t ≡ false)
+six o p q r s t e =
+    let h = neither (o || p || q || r || s) t e in
+    let k = neither (o || p || q || r) s (h .0) in
+    let l = neither (o || p || q) r (k .0) in
+    let m = neither (o || p) q (l .0) in
+    let n = neither o p (m .0) in
+    (n .0, n .1, m .1, l .1, k .1, h .1)
+
+module _ (bs : ℕ) (ms : List Listed) (e : beyond10 bs (sizesOf ms) ≡ false) where
+  limits : (eqb bs 0 ≡ false) × (ltb largestBlock bs ≡ false) × (eqb (length (sizesOf ms)) 0 ≡ false) × (ltb mostModules (length (sizesOf ms)) ≡ false)
+      × (someBad bs (sizesOf ms) ≡ false) × (ltb mostBytes (total (sizesOf ms)) ≡ false)
+  unfolding beyond10
+  limits = six (eqb bs 0) (ltb largestBlock bs) (eqb (length (sizesOf ms)) 0) (ltb mostModules (length (sizesOf ms))) (someBad bs (sizesOf ms)) (ltb mostBytes (total (sizesOf ms))) e
+
+  pub block-size-pos : 0 < bs
+  block-size-pos = let z = eqb-false bs 0 (limits .0) in omega arith
+
+  pub block-size-most : bs ≤ largestBlock
+  block-size-most = ltb-false largestBlock bs (limits .1)
+
+  pub some-modules : 0 < length ms
+  some-modules = let z = eqb-false (length (sizesOf ms)) 0 (limits .2) in let l = length-map ms (λ m. m .size) in omega arith
+
+  pub few-modules : length ms ≤ mostModules
+  few-modules = let z = ltb-false mostModules (length (sizesOf ms)) (limits .3) in let l = length-map ms (λ m. m .size) in omega arith
+
+  pub size-pos : (i : ℕ) → i < length ms → 0 < getD ms i noneListed .size
+  size-pos i h = size-limits bs ms i (limits .4) h .0
+
+  pub size-most : (i : ℕ) → i < length ms → getD ms i noneListed .size ≤ mostBlocks * bs
+  size-most i h = size-limits bs ms i (limits .4) h .1
+
+  pub bytes-most : total (sizesOf ms) ≤ mostBytes
+  bytes-most = ltb-false mostBytes (total (sizesOf ms)) (limits .5)

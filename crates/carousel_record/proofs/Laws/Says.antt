@@ -1,0 +1,28 @@
+-- What a record of 16 entries says, entry by entry.
+use Prim.Native.Nat.{ℕ, _≤_, _<_}
+use mathlib.Core.Path.{_≡_, ap, _∙_}
+use mathlib.Core.List.{List, map}
+use native.Mathlib.Omega.{arith}
+use lib.ListN.{length, getD, take, length-map, List·getD-map}
+use lib.Seq.{getD-take, length-take-le}
+use Rattle.carousel_record.specs.declared.Module.{Module}
+use Rattle.carousel_record.specs.declared.Carousel.{Carousel}
+use Rattle.carousel_record.specs.Record.{listedIn, startIn, announcedBy, startsBy, moduleAt, unused}
+
+-- the listed ones are as many as are counted
+pub listed-length : (ms : List Module) (n : ℕ) → n ≤ length ms → length (map listedIn (take n ms)) ≡ n
+listed-length ms n h = length-map (take n ms) listedIn ∙ length-take-le n ms h
+
+module _ (c : Carousel) (l : length (c .modules) ≡ 16) (few : c .count ≤ 16) where
+  pub says-count : length (announcedBy c .modules) ≡ c .count
+  unfolding announcedBy
+  says-count = listed-length (c .modules) (c .count) (omega arith)
+
+  module _ (i : ℕ) (h : i < c .count) where
+    pub says-module : moduleAt (announcedBy c) i ≡ listedIn (getD (c .modules) i unused)
+    unfolding announcedBy
+    says-module = List·getD-map listedIn (take (c .count) (c .modules)) i unused ∙ ap listedIn (getD-take (c .count) (c .modules) i unused h)
+
+    pub says-start : getD (startsBy c) i 0 ≡ getD (c .modules) i unused .start
+    unfolding startsBy
+    says-start = List·getD-map startIn (take (c .count) (c .modules)) i unused ∙ ap startIn (getD-take (c .count) (c .modules) i unused h)

@@ -1,0 +1,46 @@
+-- The two ways in which a record changes, and the one in which an image does. 01, "The carousel record".
+use Prim.Native.Nat.{ℕ, _+_, _-_}
+use mathlib.Core.List.{List, [], _∷_, _++_}
+use lib.ListN.{length, take, drop, replicate}
+use Rattle.carousel_messages.specs.declared.Listed.{Listed}
+use Rattle.carousel_messages.specs.Limits.{mostModules}
+use Rattle.carousel_messages.specs.Heard.{Announced}
+use Rattle.carousel_record.specs.declared.Module.{Module}
+use Rattle.carousel_record.specs.declared.Carousel.{Carousel}
+use Rattle.carousel_record.specs.Marks.{markWords, marksWith}
+use Rattle.carousel_record.specs.Record.{Record, sizesOf, sums, unused}
+
+-- "Starting gives the empty record."
+unfoldable pub emptyRecord : Carousel
+emptyRecord = record { download = 0; «block_size» = 0; count = 0; modules = replicate mostModules unused; marks = replicate markWords 0 }
+
+-- modules with their running sums, from s on
+unfoldable pub entries : ℕ → List Listed → List Module
+entries s [] = []
+entries s (m ∷ ms) = record { number = m .number; size = m .size; version = m .version; start = s } ∷ entries (s + m .size) ms
+
+-- "the record is made afresh", marks "all clear on a new announcement". One function of the old record and the announcement.
+unfoldable pub madeAfresh : Carousel → Announced → Carousel
+madeAfresh c a =
+    record {
+      download = a .download;
+      «block_size» = a .blockSize;
+      count = length (a .modules);
+      modules = entries 0 (a .modules) ++ replicate (mostModules - length (a .modules)) unused;
+      marks = replicate markWords 0;
+    }
+
+-- "its mark is set, nothing else changes"
+unfoldable pub withMark : Carousel → ℕ → Carousel
+withMark c k = record { download = c .download; «block_size» = c .«block_size»; count = c .count; modules = c .modules; marks = marksWith (c .marks) k }
+
+-- the same of what a record says
+unfoldable pub afresh : Record → Announced → Record
+afresh r a = record { announced = a; starts = sums 0 (sizesOf (a .modules)); marks = replicate markWords 0 }
+
+unfoldable pub marking : Record → ℕ → Record
+marking r k = record { announced = r .announced; starts = r .starts; marks = marksWith (r .marks) k }
+
+-- the image with these bytes from index `at` on, and every other byte as it was
+unfoldable pub overwrite : List ℕ → ℕ → List ℕ → List ℕ
+overwrite image at bytes = take at image ++ (bytes ++ drop (at + length bytes) image)

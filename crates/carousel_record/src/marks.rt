@@ -1,0 +1,72 @@
+// Received marks, in any number of words.
+use crate::Carousel;
+ghost use mathlib.Core.Path.{_≡_};
+ghost use Prim.Native.Nat.{_-_, _/_, _^_};
+ghost use lib.Dec.{eqb};
+ghost use Rattle.carousel_record.specs.Marks.{isMarked, clearFrom};
+ghost use Rattle.carousel_record.specs.Changes.{withMark};
+
+// The words of all marks of a record.
+const MARK_WORDS: usize = 128;
+
+// Mark k. Past the words there is none.
+pub fn is_marked(words: &[u32], k: usize) -> bool
+    ensures { λ r. ⌜ r ≡ isMarked (now (words .entry)) k ⌝ }
+{
+    let w = k / 32;
+    if words.len() <= w {
+        return false;
+    }
+    (words[w] >> (k % 32) as u32) % 2 == 1
+}
+
+// The record with mark k set. Past the words there is none to set.
+pub fn with_mark(c: Carousel, k: usize) -> Carousel
+    ensures { λ r. ⌜ r ≡ withMark c k ⌝ }
+{
+    let word = k / 32;
+    if MARK_WORDS <= word {
+        return c;
+    }
+    let bit = (k % 32) as u32;
+    let mut next = c;
+    let before = next.marks[word];
+    next.marks[word] = before | (1u32 << bit);
+    next
+}
+
+// Whether no mark from n on is set.
+pub fn is_clear_from(words: &[u32], n: usize) -> bool
+    ensures { λ r. ⌜ r ≡ clearFrom n (now (words .entry)) ⌝ }
+{
+    let mut left = n;
+    let mut i: usize = 0;
+    while i < words.len() {
+        if !is_word_clear(words[i], left) {
+            return false;
+        }
+        left = after_word(left);
+        i += 1;
+    }
+    true
+}
+
+// Whether nothing is left of a word above its first n marks.
+fn is_word_clear(word: u32, n: usize) -> bool
+    ensures { λ r. ⌜ r ≡ eqb (word / 2 ^ n) 0 ⌝ }
+{
+    if 32 <= n {
+        return true;
+    }
+    word >> n as u32 == 0
+}
+
+// What is left of n after a word's marks.
+fn after_word(n: usize) -> usize
+    ensures { λ r. ⌜ r ≡ n - 32 ⌝ }
+{
+    if n < 32 {
+        return 0;
+    }
+    n - 32
+}

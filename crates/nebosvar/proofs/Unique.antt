@@ -1,0 +1,67 @@
+-- Each exported call leaves one answer, one record and one image.
+use Prim.Native.Nat.{ℕ}
+use mathlib.Core.Path.{_≡_, sym, _∙_}
+use mathlib.Core.List.{List}
+use Rattle.wire.proofs.Once.{OneAnswer}
+use Rattle.carousel_record.specs.declared.Carousel.{Carousel}
+use Rattle.carousel_step.specs.Step.{imageOf}
+use Rattle.carousel_handout.specs.Calls.{reportOf}
+use Rattle.receiver.specs.Run.{imageTook, imageRan}
+use Rattle.nebosvar.specs.declared.FateOut.{FateOut}
+use Rattle.nebosvar.specs.declared.TakenOut.{TakenOut}
+use Rattle.nebosvar.specs.declared.PassageOut.{PassageOut}
+use Rattle.ait_numbers.specs.declared.PartOut.{PartOut}
+use Rattle.nebosvar.specs.declared.LackOut.{LackOut}
+use Rattle.nebosvar.specs.Box.{stepOut, takeOut, runOut, partOut, lackOut}
+use Rattle.nebosvar.proofs.nebosvar_start.Kinds as nebosvar-start-kinds
+use Rattle.nebosvar.proofs.nebosvar_start.Reads as nebosvar-start-reads
+use Rattle.nebosvar.proofs.nebosvar_table.Kinds as nebosvar-table-kinds
+use Rattle.nebosvar.proofs.nebosvar_table.Reads as nebosvar-table-reads
+use Rattle.nebosvar.proofs.nebosvar_application.Kinds as nebosvar-application-kinds
+use Rattle.nebosvar.proofs.nebosvar_application.Reads as nebosvar-application-reads
+use Rattle.nebosvar.proofs.nebosvar_descriptor.Kinds as nebosvar-descriptor-kinds
+use Rattle.nebosvar.proofs.nebosvar_descriptor.Reads as nebosvar-descriptor-reads
+use Rattle.nebosvar.proofs.nebosvar_item.Kinds as nebosvar-item-kinds
+use Rattle.nebosvar.proofs.nebosvar_item.Reads as nebosvar-item-reads
+use Rattle.nebosvar.proofs.nebosvar_extension.Kinds as nebosvar-extension-kinds
+use Rattle.nebosvar.proofs.nebosvar_extension.Reads as nebosvar-extension-reads
+use Rattle.nebosvar.proofs.nebosvar_label.Kinds as nebosvar-label-kinds
+use Rattle.nebosvar.proofs.nebosvar_label.Reads as nebosvar-label-reads
+
+nebosvar-start : OneAnswer 0 nebosvar-start-kinds.ps nebosvar-start-kinds.r nebosvar-start-reads.Post
+nebosvar-start κs a x y s t p q = p ∙ sym q
+
+nebosvar-table : OneAnswer 1 nebosvar-table-kinds.ps nebosvar-table-kinds.r nebosvar-table-reads.Post
+nebosvar-table κs a x y s t p q = p ∙ sym q
+
+nebosvar-application : OneAnswer 1 nebosvar-application-kinds.ps nebosvar-application-kinds.r nebosvar-application-reads.Post
+nebosvar-application κs a x y s t p q = p ∙ sym q
+
+nebosvar-descriptor : OneAnswer 1 nebosvar-descriptor-kinds.ps nebosvar-descriptor-kinds.r nebosvar-descriptor-reads.Post
+nebosvar-descriptor κs a x y s t p q = p ∙ sym q
+
+nebosvar-item : OneAnswer 1 nebosvar-item-kinds.ps nebosvar-item-kinds.r nebosvar-item-reads.Post
+nebosvar-item κs a x y s t p q = p ∙ sym q
+
+nebosvar-extension : OneAnswer 1 nebosvar-extension-kinds.ps nebosvar-extension-kinds.r nebosvar-extension-reads.Post
+nebosvar-extension κs a x y s t p q = p ∙ sym q
+
+nebosvar-label : OneAnswer 1 nebosvar-label-kinds.ps nebosvar-label-kinds.r nebosvar-label-reads.Post
+nebosvar-label κs a x y s t p q = p ∙ sym q
+
+-- The entries behind a pointer. Their proofs are walks by hand, for which the prover has no reading of the kind above; these are over the equations of their contracts.
+module _ (c : Carousel) (s image : List ℕ) (d d′ : Carousel) (l l′ : List ℕ) where
+  pub nebosvar-step : (r r′ : FateOut) → (r ≡ stepOut c s image .answer) × (d ≡ stepOut c s image .state) × (l ≡ imageOf c s image) → (r′ ≡ stepOut c s image .answer) × (d′ ≡ stepOut c s image .state) × (l′ ≡ imageOf c s image) → (r ≡ r′) × (d ≡ d′) × (l ≡ l′)
+  nebosvar-step r r′ p q = (p .0 ∙ sym (q .0), p .1 ∙ sym (q .1), p .2 ∙ sym (q .2))
+
+  pub nebosvar-take : (budget : ℕ) (r r′ : TakenOut) → (r ≡ takeOut c s image budget .answer) × (d ≡ takeOut c s image budget .state) × (l ≡ imageTook c s image budget) → (r′ ≡ takeOut c s image budget .answer) × (d′ ≡ takeOut c s image budget .state) × (l′ ≡ imageTook c s image budget) → (r ≡ r′) × (d ≡ d′) × (l ≡ l′)
+  nebosvar-take budget r r′ p q = (p .0 ∙ sym (q .0), p .1 ∙ sym (q .1), p .2 ∙ sym (q .2))
+
+  pub nebosvar-run : (budget : ℕ) (r r′ : PassageOut) → (r ≡ runOut c s image budget .answer) × (d ≡ runOut c s image budget .state) × (l ≡ imageRan c s image budget) → (r′ ≡ runOut c s image budget .answer) × (d′ ≡ runOut c s image budget .state) × (l′ ≡ imageRan c s image budget) → (r ≡ r′) × (d ≡ d′) × (l ≡ l′)
+  nebosvar-run budget r r′ p q = (p .0 ∙ sym (q .0), p .1 ∙ sym (q .1), p .2 ∙ sym (q .2))
+
+pub nebosvar-handout : (c : Carousel) (image : List ℕ) (number : ℕ) (r r′ : PartOut) → r ≡ partOut c image number → r′ ≡ partOut c image number → r ≡ r′
+nebosvar-handout c image number r r′ p q = p ∙ sym q
+
+pub nebosvar-missing : (c : Carousel) (number : ℕ) (r r′ : LackOut) → r ≡ lackOut (reportOf c number) → r′ ≡ lackOut (reportOf c number) → r ≡ r′
+nebosvar-missing c number r r′ p q = p ∙ sym q

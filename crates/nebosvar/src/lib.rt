@@ -1,0 +1,346 @@
+// What a program in C or Rust calls: numbers, byte slices and the record behind a pointer. The C side
+// is include/nebosvar.h, which names every number.
+//
+// Nothing is decided here. Each call is one of the library's, its answer laid out as a struct of
+// numbers; specs/Box.antt says how, and of tables the specs/ of crate `ait_numbers`.
+
+use ait_numbers::ApplicationOut;
+use ait_numbers::DescriptorOut;
+use ait_numbers::ItemOut;
+use ait_numbers::LabelOut;
+use ait_numbers::PartOut;
+use ait_numbers::TableOut;
+use carousel_handout::Report;
+use carousel_record::Carousel;
+use receiver::Fate;
+use receiver::Stop;
+use receiver::What;
+ghost use mathlib.Core.Path.{_≡_};
+ghost use lib.ListN.{take, drop};
+ghost use Rattle.ait_read.specs.Answers.{readAnswer, applicationAnswer, descriptorAnswer, extensionAnswer, resolveAnswer};
+ghost use Rattle.carousel_record.specs.Changes.{emptyRecord};
+ghost use Rattle.carousel_step.specs.Step.{imageOf};
+ghost use Rattle.carousel_handout.specs.Calls.{handedOut, reportOf};
+ghost use Rattle.receiver.specs.Run.{imageTook, imageRan};
+ghost use Rattle.ait_numbers.specs.Reading.{tableOut, applicationOut, descriptorOut, itemAsked, itemOut, extensionOut, labelOut, scopeOf};
+ghost use Rattle.nebosvar.specs.Box.{fateOut, stopNumber, stepOut, whatOut, takeOut, runOut, partOut, lackOut};
+
+// The kinds of a section.
+const NONE: u8 = 0;
+
+const TABLE: u8 = 1;
+
+const NEW: u8 = 2;
+
+const SAME: u8 = 3;
+
+const STORED: u8 = 4;
+
+const REPEATED: u8 = 5;
+
+// What became of a section: its refusal, 0 for none, and its kind.
+#[repr(C)]
+pub struct FateOut {
+    pub refusal: u8,
+    pub kind: u8,
+}
+
+// What stood at a place: a stop, or (stop 0) a section of that length and what became of it.
+#[repr(C)]
+pub struct TakenOut {
+    pub length: usize,
+    pub stop: u8,
+    pub refusal: u8,
+    pub kind: u8,
+}
+
+// How far a run came.
+#[repr(C)]
+pub struct PassageOut {
+    pub taken: usize,
+    pub passed: usize,
+    pub stop: u8,
+}
+
+// How many blocks are missing, and the lowest of them; both 0 for none, and on a refusal.
+#[repr(C)]
+pub struct LackOut {
+    pub count: usize,
+    pub lowest: usize,
+    pub refusal: u8,
+}
+
+// An answer, beside the record after it: what the entries in place are thin over.
+pub struct SteppedOut {
+    pub answer: FateOut,
+    pub state: Carousel,
+}
+
+pub struct TookOut {
+    pub answer: TakenOut,
+    pub state: Carousel,
+}
+
+pub struct RanOut {
+    pub answer: PassageOut,
+    pub state: Carousel,
+}
+
+// The record that one starts with.
+#[no_mangle]
+pub extern "C" fn nebosvar_start() -> Carousel
+    ensures { λ r. ⌜ r ≡ emptyRecord ⌝ }
+{
+    carousel_record::empty()
+}
+
+// One section of the carousel.
+#[no_mangle]
+pub extern "C" fn nebosvar_step(c: &mut Carousel, s: &[u8], image: &mut [u8]) -> FateOut
+    ensures { λ r. ⌜ (r ≡ stepOut (now (c .entry)) (now (s .entry)) (now (image .entry)) .answer)
+        × (now (c .exit) ≡ stepOut (now (c .entry)) (now (s .entry)) (now (image .entry)) .state)
+        × (now (image .exit) ≡ imageOf (now (c .entry)) (now (s .entry)) (now (image .entry))) ⌝ }
+{
+    let st = step(*c, s, image);
+    *c = st.state;
+    st.answer
+}
+
+// What stands at the head of a stretch: a stop, or one section, taken.
+#[no_mangle]
+pub extern "C" fn nebosvar_take(
+    c: &mut Carousel,
+    stretch: &[u8],
+    image: &mut [u8],
+    budget: usize,
+) -> TakenOut
+    ensures { λ r. ⌜ (r ≡ takeOut (now (c .entry)) (now (stretch .entry)) (now (image .entry)) budget .answer)
+        × (now (c .exit) ≡ takeOut (now (c .entry)) (now (stretch .entry)) (now (image .entry)) budget .state)
+        × (now (image .exit) ≡ imageTook (now (c .entry)) (now (stretch .entry)) (now (image .entry)) budget) ⌝ }
+{
+    let took = take(*c, stretch, image, budget);
+    *c = took.state;
+    took.answer
+}
+
+// The run over a stretch.
+#[no_mangle]
+pub extern "C" fn nebosvar_run(
+    c: &mut Carousel,
+    stretch: &[u8],
+    image: &mut [u8],
+    budget: usize,
+) -> PassageOut
+    ensures { λ r. ⌜ (r ≡ runOut (now (c .entry)) (now (stretch .entry)) (now (image .entry)) budget .answer)
+        × (now (c .exit) ≡ runOut (now (c .entry)) (now (stretch .entry)) (now (image .entry)) budget .state)
+        × (now (image .exit) ≡ imageRan (now (c .entry)) (now (stretch .entry)) (now (image .entry)) budget) ⌝ }
+{
+    let ran = run(*c, stretch, image, budget);
+    *c = ran.state;
+    ran.answer
+}
+
+// Where the module with this number lies in the image, if it is handed out.
+#[no_mangle]
+pub extern "C" fn nebosvar_handout(c: &Carousel, image: &[u8], number: u16) -> PartOut
+    ensures { λ r. ⌜ (r ≡ partOut (now (c .entry)) (now (image .entry)) number)
+        × (take (r .length) (drop (r .at) (now (image .entry))) ≡ handedOut (now (c .entry)) (now (image .entry)) number) ⌝ }
+{
+    handout(*c, image, number)
+}
+
+// What the module with this number lacks.
+#[no_mangle]
+pub extern "C" fn nebosvar_missing(c: &Carousel, number: u16) -> LackOut
+    ensures { λ r. ⌜ r ≡ lackOut (reportOf (now (c .entry)) number) ⌝ }
+{
+    missing(*c, number)
+}
+
+// The section's header, and how many common descriptors and applications it has.
+#[no_mangle]
+pub extern "C" fn nebosvar_table(s: &[u8]) -> TableOut
+    ensures { λ r. ⌜ r ≡ tableOut (readAnswer (now (s .entry))) ⌝ }
+{
+    ait_numbers::table(s)
+}
+
+// The application at place i.
+#[no_mangle]
+pub extern "C" fn nebosvar_application(s: &[u8], i: usize) -> ApplicationOut
+    ensures { λ r. ⌜ r ≡ applicationOut (applicationAnswer (now (s .entry)) i) ⌝ }
+{
+    ait_numbers::application(s, i)
+}
+
+// The descriptor at place j of the application at place i, or of the common loop.
+#[no_mangle]
+pub extern "C" fn nebosvar_descriptor(s: &[u8], i: usize, j: usize) -> DescriptorOut
+    ensures { λ r. ⌜ r ≡ descriptorOut (descriptorAnswer (now (s .entry)) (scopeOf i) j) ⌝ }
+{
+    ait_numbers::descriptor(s, i, j)
+}
+
+// The item at place k of those of a kind in that descriptor. A kind that is none of the five has no place.
+#[no_mangle]
+pub extern "C" fn nebosvar_item(s: &[u8], i: usize, j: usize, kind: u8, k: usize) -> ItemOut
+    ensures { λ r. ⌜ r ≡ itemOut (itemAsked (now (s .entry)) (scopeOf i) j kind k) ⌝ }
+{
+    ait_numbers::item(s, i, j, kind, k)
+}
+
+// The extension at place m of the base at place k in that descriptor.
+#[no_mangle]
+pub extern "C" fn nebosvar_extension(s: &[u8], i: usize, j: usize, k: usize, m: usize) -> PartOut
+    ensures { λ r. ⌜ r ≡ extensionOut (extensionAnswer (now (s .entry)) (scopeOf i) j k m) ⌝ }
+{
+    ait_numbers::extension(s, i, j, k, m)
+}
+
+// Where the descriptor stands that label k of the application at place i names.
+#[no_mangle]
+pub extern "C" fn nebosvar_label(s: &[u8], i: usize, k: usize) -> LabelOut
+    ensures { λ r. ⌜ r ≡ labelOut (resolveAnswer (now (s .entry)) i k) ⌝ }
+{
+    ait_numbers::label(s, i, k)
+}
+
+fn step(c: Carousel, s: &[u8], image: &mut [u8]) -> SteppedOut
+    ensures { λ r. ⌜ (r ≡ stepOut c (now (s .entry)) (now (image .entry))) × (now (image .exit) ≡ imageOf c (now (s .entry)) (now (image .entry))) ⌝ }
+{
+    let st = carousel_step::step(c, s, image);
+    let next = st.state;
+    let answer = st.answer;
+    let out = fate_out(receiver::carousel_fate(answer));
+    SteppedOut {
+        answer: out,
+        state: next,
+    }
+}
+
+fn take(c: Carousel, stretch: &[u8], image: &mut [u8], budget: usize) -> TookOut
+    ensures { λ r. ⌜ (r ≡ takeOut c (now (stretch .entry)) (now (image .entry)) budget)
+        × (now (image .exit) ≡ imageTook c (now (stretch .entry)) (now (image .entry)) budget) ⌝ }
+{
+    let took = receiver::take(c, stretch, image, budget);
+    let next = took.state;
+    let what = took.what;
+    let out = what_out(what);
+    TookOut {
+        answer: out,
+        state: next,
+    }
+}
+
+fn run(c: Carousel, stretch: &[u8], image: &mut [u8], budget: usize) -> RanOut
+    ensures { λ r. ⌜ (r ≡ runOut c (now (stretch .entry)) (now (image .entry)) budget)
+        × (now (image .exit) ≡ imageRan c (now (stretch .entry)) (now (image .entry)) budget) ⌝ }
+{
+    let ran = receiver::run(c, stretch, image, budget);
+    let next = ran.state;
+    let passage = ran.passage;
+    let stop = passage.stop;
+    let out = PassageOut {
+        taken: passage.taken,
+        passed: passage.passed,
+        stop: stop_number(stop),
+    };
+    RanOut {
+        answer: out,
+        state: next,
+    }
+}
+
+fn handout(c: Carousel, image: &[u8], number: u16) -> PartOut
+    ensures { λ r. ⌜ (r ≡ partOut c (now (image .entry)) number)
+        × (take (r .length) (drop (r .at) (now (image .entry))) ≡ handedOut c (now (image .entry)) number) ⌝ }
+{
+    let h = carousel_handout::handout_place(c, image, number);
+    PartOut {
+        at: h.start,
+        length: h.size,
+        refusal: h.number,
+    }
+}
+
+fn missing(c: Carousel, number: u16) -> LackOut
+    ensures { λ r. ⌜ r ≡ lackOut (reportOf c number) ⌝ }
+{
+    match carousel_handout::missing(c, number) {
+        Report::Refused(r) => LackOut {
+            count: 0,
+            lowest: 0,
+            refusal: r.number,
+        },
+        Report::Whole => LackOut {
+            count: 0,
+            lowest: 0,
+            refusal: 0,
+        },
+        Report::Lacking(lack) => LackOut {
+            count: lack.count,
+            lowest: lack.lowest,
+            refusal: 0,
+        },
+    }
+}
+
+fn fate_out(f: Fate) -> FateOut
+    ensures { λ r. ⌜ r ≡ fateOut f ⌝ }
+{
+    match f {
+        Fate::Table => accepted(TABLE),
+        Fate::New => accepted(NEW),
+        Fate::Same => accepted(SAME),
+        Fate::Stored => accepted(STORED),
+        Fate::Repeated => accepted(REPEATED),
+        Fate::Refused(r) => FateOut {
+            refusal: r.number,
+            kind: NONE,
+        },
+    }
+}
+
+fn accepted(kind: u8) -> FateOut
+    ensures { λ r. ⌜ r ≡ record { refusal = 0; kind = kind } ⌝ }
+{
+    FateOut {
+        refusal: 0,
+        kind: kind,
+    }
+}
+
+fn what_out(w: What) -> TakenOut
+    ensures { λ r. ⌜ r ≡ whatOut w ⌝ }
+{
+    match w {
+        What::Stopped(stop) => TakenOut {
+            length: 0,
+            stop: stop_number(stop),
+            refusal: 0,
+            kind: NONE,
+        },
+        What::Taken(x) => {
+            let fate = x.fate;
+            let out = fate_out(fate);
+            TakenOut {
+                length: x.length,
+                stop: 0,
+                refusal: out.refusal,
+                kind: out.kind,
+            }
+        }
+    }
+}
+
+fn stop_number(s: Stop) -> u8
+    ensures { λ r. ⌜ r ≡ stopNumber s ⌝ }
+{
+    match s {
+        Stop::End => 1,
+        Stop::Stuffing => 2,
+        Stop::Short => 3,
+        Stop::Budget => 4,
+        Stop::State => 5,
+    }
+}

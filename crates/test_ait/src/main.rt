@@ -1,0 +1,375 @@
+// Reads stretches from standard input, each after its length (16 bits), takes each as an application
+// section, and writes all that can be asked of it by place, up to the first refusal of each list.
+// tests/applications_test.py, an independent second program, makes the input and says what must
+// come out.
+
+use ait_read::Application;
+use ait_read::ApplicationAnswer;
+use ait_read::Class;
+use ait_read::Control;
+use ait_read::Described;
+use ait_read::DescriptorAnswer;
+use ait_read::ExtensionAnswer;
+use ait_read::Item;
+use ait_read::ItemAnswer;
+use ait_read::ReadAnswer;
+use ait_read::Repeated;
+use ait_read::Resolved;
+use ait_read::Scope;
+use ait_read::Span;
+use section::Refusal;
+
+fn main() {
+    let mut buffer = io::large_buffer();
+    let n = io::read_full(0, &mut buffer);
+    print_each(&buffer[..n]);
+}
+
+// Each stretch, as far as whole ones go.
+fn print_each(s: &[u8]) {
+    let mut at: usize = 0;
+    while at < s.len() {
+        let rest = &s[at..];
+        if rest.len() < 2 {
+            return;
+        }
+        let end = 2 + wire::sixteen_at(rest, 0) as usize;
+        if rest.len() < end {
+            return;
+        }
+        print_section(&rest[2..end]);
+        at += end;
+    }
+}
+
+fn print_section(s: &[u8]) {
+    io::write_all(1, b"section");
+    match ait_read::read(s) {
+        ReadAnswer::Refused(r) => {
+            print_number(r.number as u64);
+            io::write_all(1, b"\n");
+        }
+        ReadAnswer::Accepted(t) => {
+            print_number(0);
+            print_number(t.test as u64);
+            print_number(t.application_type as u64);
+            print_number(t.version as u64);
+            print_number(t.section as u64);
+            print_number(t.last as u64);
+            print_number(t.common as u64);
+            print_number(t.applications as u64);
+            io::write_all(1, b"\n");
+        }
+    }
+    print_descriptors(s, Scope::Common);
+    print_applications(s);
+}
+
+fn print_applications(s: &[u8]) {
+    let mut i: usize = 0;
+    while i < 256 {
+        match ait_read::application_at(s, i) {
+            ApplicationAnswer::Refused(r) => {
+                print_end(r);
+                return;
+            }
+            ApplicationAnswer::Found(a) => {
+                print_application(a);
+            }
+        }
+        print_descriptors(s, Scope::Own(i));
+        print_labels(s, i);
+        i += 1;
+    }
+}
+
+fn print_descriptors(s: &[u8], scope: Scope) {
+    let mut j: usize = 0;
+    while j < 1024 {
+        match ait_read::descriptor_at(s, scope, j) {
+            DescriptorAnswer::Refused(r) => {
+                print_end(r);
+                return;
+            }
+            DescriptorAnswer::Found(d) => {
+                print_described(s, d);
+            }
+        }
+        print_items(s, scope, j, Repeated::Profiles);
+        print_items(s, scope, j, Repeated::Labels);
+        print_items(s, scope, j, Repeated::Names);
+        print_items(s, scope, j, Repeated::Bases);
+        print_items(s, scope, j, Repeated::Identifiers);
+        j += 1;
+    }
+}
+
+fn print_items(s: &[u8], scope: Scope, j: usize, what: Repeated) {
+    let mut k: usize = 0;
+    while k < 1024 {
+        match ait_read::item_at(s, scope, j, what, k) {
+            ItemAnswer::Refused(r) => {
+                print_end(r);
+                return;
+            }
+            ItemAnswer::Found(x) => {
+                print_item(s, x);
+                if let Item::Base(_) = x {
+                    print_extensions(s, scope, j, k);
+                }
+            }
+        }
+        k += 1;
+    }
+}
+
+fn print_extensions(s: &[u8], scope: Scope, j: usize, k: usize) {
+    let mut m: usize = 0;
+    while m < 1024 {
+        match ait_read::extension_at(s, scope, j, k, m) {
+            ExtensionAnswer::Refused(r) => {
+                print_end(r);
+                return;
+            }
+            ExtensionAnswer::Found(x) => {
+                io::write_all(1, b"extension");
+                print_span(s, x);
+                io::write_all(1, b"\n");
+            }
+        }
+        m += 1;
+    }
+}
+
+fn print_labels(s: &[u8], i: usize) {
+    let mut k: usize = 0;
+    while k < 1024 {
+        let resolved = ait_read::resolve(s, i, k);
+        print_resolved(resolved);
+        if let Resolved::Refused(_) = resolved {
+            return;
+        }
+        k += 1;
+    }
+}
+
+// A line for each answer.
+fn print_number(n: u64) {
+    io::write_all(1, b" ");
+    io::print_decimal(1, n);
+}
+
+fn print_end(r: Refusal) {
+    io::write_all(1, b"end");
+    print_number(r.number as u64);
+    io::write_all(1, b"\n");
+}
+
+// The bytes of a span, in hexadecimal.
+fn print_span(s: &[u8], x: Span) {
+    io::write_all(1, b" ");
+    print_bytes(ait_read::part(s, x.start, x.size));
+}
+
+fn print_bytes(b: &[u8]) {
+    io::write_all(1, b"<");
+    let mut i = 0;
+    while i < b.len() {
+        io::print_hex(1, b[i] as u64, 2);
+        i += 1;
+    }
+    io::write_all(1, b">");
+}
+
+fn print_application(a: Application) {
+    io::write_all(1, b"application");
+    print_number(a.organisation as u64);
+    print_number(a.number as u64);
+    let class = a.class;
+    print_class(class);
+    print_number(a.code as u64);
+    let control = a.control;
+    print_control(control);
+    print_number(a.descriptors as u64);
+    io::write_all(1, b"\n");
+}
+
+fn print_class(c: Class) {
+    match c {
+        Class::Unsigned => {
+            io::write_all(1, b" unsigned");
+        }
+        Class::Signed => {
+            io::write_all(1, b" signed");
+        }
+        Class::Other => {
+            io::write_all(1, b" other");
+        }
+        Class::Wildcard => {
+            io::write_all(1, b" wildcard");
+        }
+    }
+}
+
+fn print_control(c: Control) {
+    match c {
+        Control::Autostart => {
+            io::write_all(1, b" autostart");
+        }
+        Control::Present => {
+            io::write_all(1, b" present");
+        }
+        Control::Destroy => {
+            io::write_all(1, b" destroy");
+        }
+        Control::Kill => {
+            io::write_all(1, b" kill");
+        }
+        Control::Remote => {
+            io::write_all(1, b" remote");
+        }
+        Control::Reserved => {
+            io::write_all(1, b" reserved");
+        }
+    }
+}
+
+fn print_described(s: &[u8], d: Described) {
+    io::write_all(1, b"descriptor");
+    match d {
+        Described::Application {
+            profiles,
+            bound,
+            visibility,
+            priority,
+            labels,
+        } => {
+            io::write_all(1, b" application");
+            print_number(profiles as u64);
+            print_number(bound as u64);
+            print_number(visibility as u64);
+            print_number(priority as u64);
+            print_number(labels as u64);
+        }
+        Described::Names { names } => {
+            io::write_all(1, b" names");
+            print_number(names as u64);
+        }
+        Described::Identifiers { identifiers } => {
+            io::write_all(1, b" identifiers");
+            print_number(identifiers as u64);
+        }
+        Described::Path { path } => {
+            io::write_all(1, b" path");
+            print_span(s, path);
+        }
+        Described::Raw { tag, contents } => {
+            io::write_all(1, b" raw");
+            print_number(tag as u64);
+            print_span(s, contents);
+        }
+        _ => {
+            print_transport(s, d);
+        }
+    }
+    io::write_all(1, b"\n");
+}
+
+fn print_transport(s: &[u8], d: Described) {
+    match d {
+        Described::Local { label, component } => {
+            io::write_all(1, b" local");
+            print_number(label as u64);
+            print_number(component as u64);
+        }
+        Described::Remote {
+            label,
+            network,
+            transport,
+            service,
+            component,
+        } => {
+            io::write_all(1, b" remote");
+            print_number(label as u64);
+            print_number(network as u64);
+            print_number(transport as u64);
+            print_number(service as u64);
+            print_number(component as u64);
+        }
+        Described::Bases { label, bases } => {
+            io::write_all(1, b" http");
+            print_number(label as u64);
+            print_number(bases as u64);
+        }
+        Described::Selector {
+            protocol,
+            label,
+            selector,
+        } => {
+            io::write_all(1, b" transport");
+            print_number(protocol as u64);
+            print_number(label as u64);
+            print_span(s, selector);
+        }
+        _ => {}
+    }
+}
+
+fn print_item(s: &[u8], x: Item) {
+    match x {
+        Item::Profile(p) => {
+            io::write_all(1, b"profile");
+            print_number(p.number as u64);
+            print_number(p.major as u64);
+            print_number(p.minor as u64);
+            print_number(p.micro as u64);
+        }
+        Item::Label(l) => {
+            io::write_all(1, b"label");
+            print_number(l as u64);
+        }
+        Item::Name(n) => {
+            io::write_all(1, b"name");
+            print_number(n.first as u64);
+            print_number(n.second as u64);
+            print_number(n.third as u64);
+            let text = n.text;
+            print_span(s, text);
+        }
+        Item::Base(b) => {
+            io::write_all(1, b"base");
+            let text = b.text;
+            print_span(s, text);
+            print_number(b.extensions as u64);
+        }
+        Item::Identifier(i) => {
+            io::write_all(1, b"identifier");
+            print_number(i.organisation as u64);
+            print_number(i.number as u64);
+            print_number(i.priority as u64);
+        }
+    }
+    io::write_all(1, b"\n");
+}
+
+fn print_resolved(r: Resolved) {
+    match r {
+        Resolved::Refused(n) => {
+            print_end(n);
+        }
+        Resolved::Own(j) => {
+            io::write_all(1, b"own");
+            print_number(j as u64);
+            io::write_all(1, b"\n");
+        }
+        Resolved::Common(n, j) => {
+            io::write_all(1, b"common");
+            print_number(n as u64);
+            print_number(j as u64);
+            io::write_all(1, b"\n");
+        }
+        Resolved::Unresolved => {
+            io::write_all(1, b"unresolved\n");
+        }
+    }
+}
