@@ -3,8 +3,8 @@ use mathlib.Core.Path.{sym, _∙_}
 use Rattle.wire.proofs.Once.{OneAnswer}
 use Rattle.ait_descriptors.proofs.kinds.size_of.Kinds as size-of-kinds
 use Rattle.ait_descriptors.proofs.kinds.size_of.Reads as size-of-reads
-use Rattle.ait_descriptors.proofs.lists.fills.Kinds as fills-kinds
-use Rattle.ait_descriptors.proofs.lists.fills.Reads as fills-reads
+use Rattle.ait_descriptors.proofs.kinds.fills.Kinds as fills-kinds
+use Rattle.ait_descriptors.proofs.kinds.fills.Reads as fills-reads
 use Rattle.ait_descriptors.proofs.lists.item.Kinds as item-kinds
 use Rattle.ait_descriptors.proofs.lists.item.Reads as item-reads
 use Rattle.ait_descriptors.proofs.lists.number_of.Kinds as number-of-kinds

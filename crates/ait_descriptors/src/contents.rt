@@ -1,7 +1,7 @@
 // Whether contentsGood contents are well formed.
 use crate::Kind;
 use crate::Test;
-use crate::lists::fills;
+use crate::kinds::fills;
 use wire::byte_at;
 use wire::eight_at;
 ghost use mathlib.Core.Path.{_≡_};

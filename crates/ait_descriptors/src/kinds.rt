@@ -1,4 +1,4 @@
-// The size of the item that a slice begins with, 0 where it begins with no whole one.
+// The size of the item that a slice begins with, 0 where it begins with no whole one; and whether items fill a slice.
 use crate::Kind;
 use wire::eight_at;
 ghost use mathlib.Core.Path.{_≡_};
@@ -6,6 +6,7 @@ ghost use mathlib.Core.Bool.{cond};
 ghost use Prim.Native.Nat.{_+_, _≤_};
 ghost use lib.Dec.{leb};
 ghost use lib.ListN.{length, drop};
+ghost use Rattle.wire.specs.Items.{fills};
 ghost use Rattle.ait_descriptors.specs.Kinds.{sizeOf, base};
 
 // One line for each kind: the bytes of its header, and how many more there are, or which byte of
@@ -31,6 +32,21 @@ pub fn size_at(kind: Kind, s: &[u8], i: usize) -> usize
     ensures { λ r. ⌜ (r ≡ sizeOf kind (drop i (now (s .entry)))) × (i + r ≤ length (now (s .entry))) ⌝ }
 {
     size_of(kind, &s[i..])
+}
+
+// Whether the items end exactly where `s` ends.
+pub fn fills(kind: Kind, s: &[u8]) -> bool
+    ensures { λ r. ⌜ r ≡ fills (sizeOf kind) (now (s .entry)) ⌝ }
+{
+    let mut i = 0;
+    while i < s.len() {
+        let n = size_at(kind, s, i);
+        if n == 0 {
+            return false;
+        }
+        i += n;
+    }
+    true
 }
 
 // A header of `h` bytes and `m` bytes more, where they are all there.

@@ -1,13 +1,13 @@
 // The kinds of descriptor and application, and their contents.
 //
 // A kind of item is its size function (specs/Kinds.antt); one loop for each question goes over items
-// of every kind (src/lists.rt). What well-formed contents are is said in specs/Contents.antt.
+// of every kind (`fills` in src/kinds.rt, the others in src/lists.rt). What well-formed contents are is said in specs/Contents.antt.
 mod contents;
 mod kinds;
 mod lists;
 
+pub use kinds::fills;
 pub use kinds::size_of;
-pub use lists::fills;
 pub use lists::find;
 pub use lists::item;
 pub use lists::number_of;

@@ -1,4 +1,4 @@
-// Lists of items of every kind: one loop for each question.
+// Lists of items of every kind, and a test: one loop for each question.
 use crate::Kind;
 use crate::Test;
 use crate::contents::meets_at;
@@ -6,25 +6,10 @@ use crate::kinds::size_at;
 use wire::Hit;
 use wire::Place;
 ghost use mathlib.Core.Path.{_≡_};
-ghost use Rattle.wire.specs.Items.{items, fills, number};
+ghost use Rattle.wire.specs.Items.{items, number};
 ghost use Rattle.wire.specs.Places.{itemAt, first};
 ghost use Rattle.ait_descriptors.specs.Kinds.{sizeOf};
 ghost use Rattle.ait_descriptors.specs.Contents.{testOf};
-
-// Whether the items end exactly where `s` ends.
-pub fn fills(kind: Kind, s: &[u8]) -> bool
-    ensures { λ r. ⌜ r ≡ fills (sizeOf kind) (now (s .entry)) ⌝ }
-{
-    let mut i = 0;
-    while i < s.len() {
-        let n = size_at(kind, s, i);
-        if n == 0 {
-            return false;
-        }
-        i += n;
-    }
-    true
-}
 
 // Where item k lies, from 0.
 pub fn item(kind: Kind, s: &[u8], k: usize) -> Place

@@ -133,7 +133,8 @@ module _ (x : Held) (start : Begun x) (i : ℕ) (there : i < modules x) where
     unfolding handedOut
     handed-by = rw (handout-by, found)
 
-  pub same-handout : (ss us : List (List ℕ)) (n : NoNew x ss) (m : NoNew x us) → bytesIn (walk x ss) i ≡ bytesIn (walk x us) i → missingIn (walk x ss) i ≡ missingIn (walk x us) i → let k = moduleAt (told x) i .number in
+  pub same-handout : (ss us : List (List ℕ)) (n : NoNew x ss) (m : NoNew x us) → bytesIn (walk x ss) i ≡ bytesIn (walk x us) i
+      → missingIn (walk x ss) i ≡ missingIn (walk x us) i → let k = moduleAt (told x) i .number in
       (handoutNumber (walk x ss .state) (walk x ss .image) k ≡ handoutNumber (walk x us .state) (walk x us .image) k)
       × (handedOut (walk x ss .state) (walk x ss .image) k ≡ handedOut (walk x us .state) (walk x us .image) k)
   same-handout ss us n m b e =

@@ -24,7 +24,8 @@ use Rattle.carousel_handout.specs.Calls.{handoutNumber, handedOut}
 use Rattle.carousel_step.specs.Step.{steppedOf}
 use Rattle.carousel_step.proofs.Matching.{matching-means}
 use Rattle.receiver.specs.Run.{Held, givenOf, carouselFate, walk}
-use Rattle.demands.specs.Demand.{fates, Begun, NoNew, told, modules, blocks, isFor, matches, sectionsFor, answersFor, bytesIn, missingIn, isComplete, Holds, Came, firstData, joinedBlocks, RepeatsAgree, FoundIn, Call, called, tookBy, stepped}
+use Rattle.demands.specs.Demand.{fates, Begun, NoNew, told, modules, blocks, isFor, matches, sectionsFor, answersFor, bytesIn, missingIn}
+use Rattle.demands.specs.Demand.{isComplete, Holds, Came, firstData, joinedBlocks, RepeatsAgree, FoundIn, Call, called, tookBy, stepped}
 use Rattle.demands.proofs.Given.{begun-ruled, for-fate}
 use Rattle.demands.proofs.Alike.{alike-bytes, alike-missing}
 use Rattle.demands.proofs.Walks.{alone}

@@ -94,7 +94,8 @@ module _ (a : Announced) (n i b : ℕ) (u : i < length (a .modules)) (v : b < bl
     where
       go : (t : Bool) → slot (saying (given x s)) i b ≡ cond t (hit (sectionData s) (slot (saying x) i b)) (slot (saying x) i b)
           → slot (saying (walk (given x s) ss)) i b ≡ cond (some (λ s. fitting s) ss) (hit (firstMatching (λ s. fitting s) ss) (slot (saying (given x s)) i b)) (slot (saying (given x s)) i b)
-          → slot (saying (walk (given x s) ss)) i b ≡ cond (cond t true (some (λ s. fitting s) ss)) (hit (cond t (sectionData s) (firstMatching (λ s. fitting s) ss)) (slot (saying x) i b)) (slot (saying x) i b)
+          → slot (saying (walk (given x s) ss)) i b ≡ cond (cond t true (some (λ s. fitting s) ss))
+          (hit (cond t (sectionData s) (firstMatching (λ s. fitting s) ss)) (slot (saying x) i b)) (slot (saying x) i b)
       go true p q = q ∙ rw p (hit-stays (some (λ s. fitting s) ss) (firstMatching (λ s. fitting s) ss) (sectionData s) (slot (saying x) i b))
       go false p q = q ∙ rw p
 

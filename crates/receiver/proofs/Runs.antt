@@ -43,7 +43,8 @@ run-walks (suc budget) c s image = go (eqb (wholeAt s) 0) (run-walks budget (giv
     rest = sectionsOf budget (drop (wholeAt s) s)
 
     go : (t : Bool)
-        → (heldBy next ≡ walk (record { state = givenOf c (take (wholeAt s) s) image .state; image = imageGiven c (take (wholeAt s) s) image }) rest) × (next .taken ≡ length rest) × (next .passed ≡ length (joined rest))
+        → (heldBy next ≡ walk (record { state = givenOf c (take (wholeAt s) s) image .state; image = imageGiven c (take (wholeAt s) s) image }) rest)
+        × (next .taken ≡ length rest) × (next .passed ≡ length (joined rest))
         → (heldBy (cond t (halted c image (stopAt s)) (runAfter (wholeAt s) next)) ≡ walk (record { state = c; image = image }) (cond t [] (take (wholeAt s) s ∷ rest)))
         × (cond t (halted c image (stopAt s)) (runAfter (wholeAt s) next) .taken ≡ length (cond t [] (take (wholeAt s) s ∷ rest)))
         × (cond t (halted c image (stopAt s)) (runAfter (wholeAt s) next) .passed ≡ length (joined (cond t [] (take (wholeAt s) s ∷ rest))))
@@ -76,7 +77,9 @@ taken-most zero c s image = omega arith
 taken-most (suc budget) c s image = go (eqb (wholeAt s) 0) (taken-most budget (givenOf c (take (wholeAt s) s) image .state) (drop (wholeAt s) s) (imageGiven c (take (wholeAt s) s) image))
   where
     go : (t : Bool) → runs budget (givenOf c (take (wholeAt s) s) image .state) (drop (wholeAt s) s) (imageGiven c (take (wholeAt s) s) image) .taken ≤ budget
-        → cond t (halted c image (stopAt s)) (runAfter (wholeAt s) (runs budget (givenOf c (take (wholeAt s) s) image .state) (drop (wholeAt s) s) (imageGiven c (take (wholeAt s) s) image))) .taken ≤ suc budget
+        → cond t (halted c image (stopAt s))
+        (runAfter (wholeAt s) (runs budget (givenOf c (take (wholeAt s) s) image .state) (drop (wholeAt s) s)
+        (imageGiven c (take (wholeAt s) s) image))) .taken ≤ suc budget
     go true h = omega arith
     go false h = omega arith
 
@@ -86,7 +89,9 @@ passed-most zero c s image = omega arith
 passed-most (suc budget) c s image = go (eqb (wholeAt s) 0) (passed-most budget (givenOf c (take (wholeAt s) s) image .state) (drop (wholeAt s) s) (imageGiven c (take (wholeAt s) s) image))
   where
     go : (t : Bool) → runs budget (givenOf c (take (wholeAt s) s) image .state) (drop (wholeAt s) s) (imageGiven c (take (wholeAt s) s) image) .passed ≤ length (drop (wholeAt s) s)
-        → cond t (halted c image (stopAt s)) (runAfter (wholeAt s) (runs budget (givenOf c (take (wholeAt s) s) image .state) (drop (wholeAt s) s) (imageGiven c (take (wholeAt s) s) image))) .passed ≤ length s
+        → cond t (halted c image (stopAt s))
+        (runAfter (wholeAt s) (runs budget (givenOf c (take (wholeAt s) s) image .state) (drop (wholeAt s) s)
+        (imageGiven c (take (wholeAt s) s) image))) .passed ≤ length s
     go true h = omega arith
     go false h = let f = whole-fits s in let l = length-drop (wholeAt s) s in omega arith
 
@@ -112,7 +117,8 @@ pub given-rule : (c : Carousel) (s image : List ℕ) → ruledOf c ≡ true → 
 unfolding givenOf
 given-rule c s image r = go (eqb (byteAt s 0) applicationTable)
   where
-    go : (t : Bool) → ruledOf (cond {A = Given} t (record { fate = tableFate s; state = c }) (record { fate = carouselFate (steppedOf c s image .answer); state = steppedOf c s image .state }) .state) ≡ true
+    go : (t : Bool) → ruledOf (cond {A = Given} t (record { fate = tableFate s; state = c })
+        (record { fate = carouselFate (steppedOf c s image .answer); state = steppedOf c s image .state }) .state) ≡ true
     go true = r
     go false = step-rule c s image r
 
@@ -123,7 +129,9 @@ runs-rule (suc budget) c s image r =
     go (eqb (wholeAt s) 0) (runs-rule budget (givenOf c (take (wholeAt s) s) image .state) (drop (wholeAt s) s) (imageGiven c (take (wholeAt s) s) image) (given-rule c (take (wholeAt s) s) image r))
   where
     go : (t : Bool) → ruledOf (runs budget (givenOf c (take (wholeAt s) s) image .state) (drop (wholeAt s) s) (imageGiven c (take (wholeAt s) s) image) .state) ≡ true
-        → ruledOf (cond t (halted c image (stopAt s)) (runAfter (wholeAt s) (runs budget (givenOf c (take (wholeAt s) s) image .state) (drop (wholeAt s) s) (imageGiven c (take (wholeAt s) s) image))) .state) ≡ true
+        → ruledOf (cond t (halted c image (stopAt s))
+        (runAfter (wholeAt s) (runs budget (givenOf c (take (wholeAt s) s) image .state) (drop (wholeAt s) s)
+        (imageGiven c (take (wholeAt s) s) image))) .state) ≡ true
     go true h = r
     go false h = h
 

@@ -44,8 +44,11 @@ module _ (b : List ℕ) where
     where
       there : wellFormed b ≡ true → WellFormed b
       there w =
-          let p = both (eqb (4 + commonLength b + loopLength b) (length b) && (fills descriptor (commonLoop b) && every wellMade (items descriptor (commonLoop b))) && fills application (applicationLoop b)) (every (λ a. goodLoop (ownLoop a)) apps) w in
-          let q = both (eqb (4 + commonLength b + loopLength b) (length b) && (fills descriptor (commonLoop b) && every wellMade (items descriptor (commonLoop b)))) (fills application (applicationLoop b)) (p .0) in
+          let p = both (eqb (4 + commonLength b + loopLength b) (length b)
+          && (fills descriptor (commonLoop b) && every wellMade (items descriptor (commonLoop b))) && fills application (applicationLoop b))
+          (every (λ a. goodLoop (ownLoop a)) apps) w in
+          let q = both (eqb (4 + commonLength b + loopLength b) (length b)
+          && (fills descriptor (commonLoop b) && every wellMade (items descriptor (commonLoop b)))) (fills application (applicationLoop b)) (p .0) in
           let r = both (eqb (4 + commonLength b + loopLength b) (length b)) (fills descriptor (commonLoop b) && every wellMade (items descriptor (commonLoop b))) (q .0) in
           let c = both (fills descriptor (commonLoop b)) (every wellMade (items descriptor (commonLoop b))) (r .1) in
           let o = both (every (λ a. fills descriptor (ownLoop a)) apps) (every (λ a. every wellMade (items descriptor (ownLoop a))) apps) (sym own-loops ∙ p .1) in

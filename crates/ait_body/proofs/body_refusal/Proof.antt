@@ -16,6 +16,10 @@ use borrow.Author.Needs.{needs}
 use Rattle.ait_body.proofs.body_refusal.Statement.{statement}
 use Rattle.ait_body.proofs.body_refusal.Tie as tie
 
+-- the places that stand before a place, by name
+abbrev start-of-else1 : tie.Else1 → tie.Start
+start-of-else1 c = c .before .before .before
+
 well-formed-requires : tie.Need-well-formed-requires
 well-formed-requires c κs = search needs
 
@@ -23,10 +27,13 @@ well-formed-requires c κs = search needs
 formed : (c : tie.Else1) → wellFormed (c .before .before .before .args .b .now) ≡ true
 formed c = sym (c .before .well-formed .ensures) ∙ not-false _ (c .if1 .left)
 
-each : (c : tie.After-every-application) → c .every-application .result ≡ every (λ a. clauseOf Sole (ownLoop a)) (items application (applicationLoop (c .before .before .before .before .before .before .args .b .now)))
+each : (c : tie.After-every-application)
+    → c .every-application .result ≡ every (λ a. clauseOf Sole (ownLoop a))
+    (items application (applicationLoop (start-of-else1 (c .before .before .before) .args .b .now)))
 each c =
-    let b = c .before .before .before .before .before .before .args .b .now in
-    c .every-application .ensures ∙ ap (λ (l : List ℕ). every (λ a. clauseOf Sole (ownLoop a)) (items application l)) (tail b _ ∙ ap (λ (x : ℕ). drop (4 + x) b) (c .before .before .twelve-at .ensures .0))
+    let b = start-of-else1 (c .before .before .before) .args .b .now in
+    c .every-application .ensures ∙ ap (λ (l : List ℕ). every (λ a. clauseOf Sole (ownLoop a)) (items application l))
+    (tail b _ ∙ ap (λ (x : ℕ). drop (4 + x) b) (c .before .before .twelve-at .ensures .0))
 
 returns : tie.Need-returns
 returns c = is7 _ (sym (c .before .well-formed .ensures) ∙ not-true _ (c .if1 .taken))

@@ -20,6 +20,19 @@ Inv-loop clause s i₀ i = Testing application (λ a. clauseOf clause (ownLoop a
 abbrev μ-loop : tie.MeasureT-loop
 μ-loop clause s i₀ i = length s - i
 
+-- the places that stand before a place, by name
+abbrev start-of-in-loop : tie.In-loop Inv-loop μ-loop → tie.Start Inv-loop μ-loop
+start-of-in-loop c = c .before .before .before
+
+abbrev loop-of-else1 : tie.Else1 Inv-loop μ-loop → tie.At-loop Inv-loop μ-loop
+loop-of-else1 c = c .before .before .before .before
+
+abbrev loop-of-then2 : tie.Then2 Inv-loop μ-loop → tie.At-loop Inv-loop μ-loop
+loop-of-then2 c = loop-of-else1 (c .before .before .before)
+
+abbrev loop-of-else2 : tie.Else2 Inv-loop μ-loop → tie.At-loop Inv-loop μ-loop
+loop-of-else2 c = loop-of-else1 (c .before .before .before)
+
 loop-holds : tie.Need-loop-holds Inv-loop μ-loop
 loop-holds c = (omega arith, refl)
 
@@ -37,7 +50,7 @@ size-of-requires c κs = search needs
 
 -- what the calls answered: the size of the application at i, that it ends within the slice and has its nine bytes, and whether its own loop keeps the clause
 abbrev slice : tie.After-size-of Inv-loop μ-loop → List ℕ
-slice c = c .before .before .before .before .before .args .s .now
+slice c = start-of-in-loop (c .before .before) .args .s .now
 
 abbrev here : tie.After-size-of Inv-loop μ-loop → ℕ
 here c = c .before .before .before .loop .i
@@ -53,7 +66,7 @@ nine : (c : tie.Else1 Inv-loop μ-loop) → 9 ≤ c .before .size-of .result
 nine c = let h = application-least _ (λ z. c .if1 .left (sized (c .before) ∙ z)) in omega (arith, sized (c .before))
 
 kept : (c : tie.After-keeps Inv-loop μ-loop) → let d = c .before .before .before in
-    c .keeps .result ≡ clauseOf (d .before .before .before .before .before .args .clause) (ownLoop (take (d .size-of .result) (drop (here d) (slice d))))
+    c .keeps .result ≡ clauseOf (start-of-in-loop (d .before .before) .args .clause) (ownLoop (take (d .size-of .result) (drop (here d) (slice d))))
 kept c =
     let d = c .before .before .before in
     c .keeps .ensures ∙ ap (clauseOf _) (rest-in (slice d) (here d) 9 (d .size-of .result) (nine (c .before .before)) (within d))
@@ -80,13 +93,15 @@ keeps-requires : tie.Need-keeps-requires Inv-loop μ-loop
 keeps-requires c κs = search needs
 
 returns-2 : tie.Need-returns-2 Inv-loop μ-loop
-returns-2 c = test-miss application application-kind _ _ _ (sized (c .before .before .before .before)) _ (c .before .before .before .before .before .before .before .loop .inv) (c .before .before .before .if1 .left) (sym (kept (c .before)) ∙ not-true _ (c .if2 .taken))
+returns-2 c = test-miss application application-kind _ _ _ (sized (c .before .before .before .before)) _ (loop-of-then2 c .loop .inv)
+    (c .before .before .before .if1 .left) (sym (kept (c .before)) ∙ not-true _ (c .if2 .taken))
 
 loop-less : tie.Need-loop-less Inv-loop μ-loop
 loop-less c = omega (arith, c .before .before .before .if1 .left, within (c .before .before .before .before))
 
 loop-again : tie.Need-loop-again Inv-loop μ-loop
-loop-again c = test-turn application application-kind _ _ _ (sized (c .before .before .before .before)) _ (c .before .before .before .before .before .before .before .loop .inv) (c .before .before .before .if1 .left) (sym (kept (c .before)) ∙ not-false _ (c .if2 .left))
+loop-again c = test-turn application application-kind _ _ _ (sized (c .before .before .before .before)) _ (loop-of-else2 c .loop .inv)
+    (c .before .before .before .if1 .left) (sym (kept (c .before)) ∙ not-false _ (c .if2 .left))
 
 returns-3 : tie.Need-returns-3 Inv-loop μ-loop
 returns-3 c = test-done application application-kind (c .before .before .before .args .s .now) (c .before .loop .i) (omega arith) _ (c .before .loop .inv)

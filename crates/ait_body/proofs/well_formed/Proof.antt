@@ -18,6 +18,28 @@ use borrow.Author.Needs.{needs}
 use Rattle.ait_body.proofs.well_formed.Statement.{statement}
 use Rattle.ait_body.proofs.well_formed.Tie as tie
 
+-- the places that stand before a place, by name
+abbrev start-of-else1 : tie.Else1 → tie.Start
+start-of-else1 c = c .before .before .before .before
+
+abbrev start-of-else2 : tie.Else2 → tie.Start
+start-of-else2 c = start-of-else1 (c .before .before .before)
+
+abbrev else1-of-else2 : tie.Else2 → tie.Else1
+else1-of-else2 c = c .before .before .before
+
+abbrev else1-of-then3 : tie.Then3 → tie.Else1
+else1-of-then3 c = else1-of-else2 (c .before .before .before)
+
+abbrev start-of-else3 : tie.Else3 → tie.Start
+start-of-else3 c = start-of-else2 (c .before .before .before)
+
+abbrev else1-of-else3 : tie.Else3 → tie.Else1
+else1-of-else3 c = else1-of-else2 (c .before .before .before)
+
+abbrev else2-of-else3 : tie.Else3 → tie.Else2
+else2-of-else3 c = c .before .before .before
+
 twelve-at-requires : tie.Need-twelve-at-requires
 twelve-at-requires c κs = search needs
 
@@ -34,28 +56,30 @@ add-if1 : tie.Need-add-if1
 add-if1 c = search needs
 
 -- what the calls answered: the two lengths, and what stands in the two loops
-lengths : (c : tie.After-twelve-at2) → (c .before .twelve-at .result ≡ commonLength (c .before .before .before .args .b .now)) × (c .twelve-at2 .result ≡ loopLength (c .before .before .before .args .b .now))
+lengths : (c : tie.After-twelve-at2) → (c .before .twelve-at .result ≡ commonLength (c .before .before .before .args .b .now))
+    × (c .twelve-at2 .result ≡ loopLength (c .before .before .before .args .b .now))
 lengths c =
     let n = c .before .twelve-at .ensures .0 in
     (n, c .twelve-at2 .ensures .0 ∙ ap (λ (x : ℕ). twelveAt (c .before .before .before .args .b .now) (2 + x)) n)
 
-ended : (c : tie.Else1) → 4 + commonLength (c .before .before .before .before .args .b .now) + loopLength (c .before .before .before .before .args .b .now) ≡ length (c .before .before .before .before .args .b .now)
+ended : (c : tie.Else1) → 4 + commonLength (c .before .before .before .before .args .b .now) + loopLength
+    (c .before .before .before .before .args .b .now) ≡ length (c .before .before .before .before .args .b .now)
 ended c = omega (arith, lengths (c .before))
 
-common : (c : tie.After-good-loop) → c .good-loop .result ≡ goodLoop (commonLoop (c .before .before .before .before .before .before .args .b .now))
+common : (c : tie.After-good-loop) → c .good-loop .result ≡ goodLoop (commonLoop (start-of-else1 (c .before .before) .args .b .now))
 common c =
-    let b = c .before .before .before .before .before .before .args .b .now in
+    let b = start-of-else1 (c .before .before) .args .b .now in
     let n = lengths (c .before .before .before) in
     c .good-loop .ensures ∙ ap goodLoop (part b 2 (c .before .before .before .before .twelve-at .result) ∙ ap (λ (x : ℕ). take x (drop 2 b)) (n .0))
 
-made : (c : tie.Else2) → goodLoop (commonLoop (c .before .before .before .before .before .before .before .args .b .now)) ≡ true
+made : (c : tie.Else2) → goodLoop (commonLoop (start-of-else2 c .args .b .now)) ≡ true
 made c = sym (common (c .before)) ∙ not-false _ (c .if2 .left)
 
-filled : (c : tie.After-fills) → c .fills .result ≡ fills application (applicationLoop (c .before .before .before .before .before .before .before .before .before .args .b .now))
+filled : (c : tie.After-fills) → c .fills .result ≡ fills application (applicationLoop (start-of-else2 (c .before .before) .args .b .now))
 unfolding sizeOf
 filled c =
-    let b = c .before .before .before .before .before .before .before .before .before .args .b .now in
-    let n = lengths (c .before .before .before .before .before .before) in
+    let b = start-of-else2 (c .before .before) .args .b .now in
+    let n = lengths (else1-of-else2 (c .before .before) .before) in
     c .fills .ensures ∙ ap (fills application) (tail b _ ∙ ap (λ (x : ℕ). drop (4 + x) b) (n .0))
 
 returns : tie.Need-returns
@@ -89,7 +113,7 @@ fills-requires : tie.Need-fills-requires
 fills-requires c κs = search needs
 
 returns-3 : tie.Need-returns-3
-returns-3 c = applications-open _ (ended (c .before .before .before .before .before .before)) (made (c .before .before .before)) (sym (filled (c .before)) ∙ not-true _ (c .if3 .taken))
+returns-3 c = applications-open _ (ended (else1-of-then3 c)) (made (c .before .before .before)) (sym (filled (c .before)) ∙ not-true _ (c .if3 .taken))
 
 sub-every-application : tie.Need-sub-every-application
 sub-every-application c = search needs
@@ -105,10 +129,11 @@ every-application-requires c κs = search needs
 
 returns-4 : tie.Need-returns-4
 returns-4 c =
-    let b = c .before .before .before .before .before .before .before .before .before .before .before .before .args .b .now in
-    let n = lengths (c .before .before .before .before .before .before .before .before .before) in
+    let e = else1-of-else3 (c .before .before) in
+    let b = start-of-else3 (c .before .before) .args .b .now in
+    let n = lengths (e .before) in
     c .every-application .ensures ∙ ap (λ (l : List ℕ). every (λ a. clauseOf WellMade (ownLoop a)) (items application l)) (tail b _ ∙ ap (λ (x : ℕ). drop (4 + x) b) (n .0))
-    ∙ applications-made b (ended (c .before .before .before .before .before .before .before .before)) (made (c .before .before .before .before .before)) (sym (filled (c .before .before .before)) ∙ not-false _ (c .before .before .if3 .left))
+    ∙ applications-made b (ended e) (made (else2-of-else3 (c .before .before))) (sym (filled (c .before .before .before)) ∙ not-false _ (c .before .before .if3 .left))
 
 pub well-formed-spec : {M : Type 1} → statement M
 well-formed-spec =

@@ -13,7 +13,8 @@ use Rattle.wire.specs.Items.{fills}
 use Rattle.ait_descriptors.specs.Kinds.{name, base, identifier}
 use Rattle.ait_descriptors.specs.declared.Test.{Test}
 use Rattle.ait_descriptors.specs.declared.Test.the-variants.{Any, Malformed, Tagged, Labelled}
-use Rattle.ait_descriptors.specs.Contents.{tagOf, wellMade, testOf, contentsOf, profilesLength, good00, good01, good02, good05, selector1, selector3, selector, remoteOf, protocolOf, contentsGood}
+use Rattle.ait_descriptors.specs.Contents.{tagOf, wellMade, testOf, contentsOf, profilesLength, good00, good01, good02, good05, selector1}
+use Rattle.ait_descriptors.specs.Contents.{selector3, selector, remoteOf, protocolOf, contentsGood}
 
 -- contents of a descriptor too short to have any
 pub no-contents : (d : List ℕ) → length d < 2 → drop (length d) d ≡ contentsOf d

@@ -34,7 +34,8 @@ use Rattle.ait_read.specs.declared.DescriptorAnswer.the-variants as desc
 use Rattle.ait_read.specs.declared.ItemAnswer.the-variants as item
 use Rattle.ait_read.specs.declared.ExtensionAnswer.the-variants as extension
 use Rattle.ait_read.specs.Acceptance.{tableJudged}
-use Rattle.ait_read.specs.Places.{loopAt, applicationAt, ownAt, scopeAt, descriptorAt, listIn, kindOf, listAt, repeatedAt, extensionsIn, extensionsAt, extensionAt, stepIn, countAt, repeatedCount}
+use Rattle.ait_read.specs.Places.{loopAt, applicationAt, ownAt, scopeAt, descriptorAt, listIn, kindOf, listAt, repeatedAt, extensionsIn}
+use Rattle.ait_read.specs.Places.{extensionsAt, extensionAt, stepIn, countAt, repeatedCount}
 use Rattle.ait_read.specs.Records.{applicationOf, describedOf, itemOf, baseOf, extensionRead}
 use Rattle.ait_read.specs.Answers.{locatedOf, applicationAnswer, descriptorAnswer, itemAnswer, extensionAnswer}
 use Rattle.ait_read.proofs.Laws.Places.{sound-application, sound-descriptor, sound-list, sound-listAt, sound-repeated, sound-step}
@@ -112,4 +113,5 @@ module _ (s : L.List ℕ) where
       let w : base x ≡ length x = f .6 ∙ sym z in
       let p : 0 < length x = omega (arith, f .5) in
       carried kind.Extension extensionsIn (sound-step Extensions) (repeatedAt o j Bases k s) s a n e l
-      ∙ ap (λ (q : Place). count extension (partAt q x)) (after-at (extensionsStart x) x (kinds.base-text x w p)) ∙ ap (count extension) (part-at x _ _ ∙ tail x (extensionsStart x)) ∙ kinds.base-count x w p
+      ∙ ap (λ (q : Place). count extension (partAt q x)) (after-at (extensionsStart x) x (kinds.base-text x w p))
+      ∙ ap (count extension) (part-at x _ _ ∙ tail x (extensionsStart x)) ∙ kinds.base-count x w p

@@ -68,7 +68,8 @@ last Nothing = refl
 module _ (s : List ℕ) (p : Place) where
   joined : placeNumber s p ≡ cond (eqb (firstMet (applicationTests s)) 0) (onPlace p 19 (λ a n. 0)) (firstMet (applicationTests s))
   unfolding placeNumber
-  joined = met-append 0 (applicationTests s) ((19, onPlace p true (λ a n. false)) ∷ []) (rising s) ∙ ap (λ (n : ℕ). cond (eqb (firstMet (applicationTests s)) 0) n (firstMet (applicationTests s))) (last p)
+  joined = met-append 0 (applicationTests s) ((19, onPlace p true (λ a n. false)) ∷ []) (rising s)
+      ∙ ap (λ (n : ℕ). cond (eqb (firstMet (applicationTests s)) 0) n (firstMet (applicationTests s))) (last p)
 
   located-number : numberOfLocated (locatedOf s p) ≡ placeNumber s p
   unfolding locatedOf

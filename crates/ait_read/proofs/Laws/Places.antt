@@ -26,7 +26,8 @@ use Rattle.ait_read.specs.declared.Repeated.{Repeated}
 use Rattle.ait_read.specs.declared.Repeated.the-variants.{Profiles, Labels, Names, Bases, Identifiers}
 use Rattle.ait_read.specs.declared.steps.Step.{Step}
 use Rattle.ait_read.specs.declared.steps.Step.the-variants.{CommonLoop, ApplicationLoop, OwnLoop, List, Extensions, Item}
-use Rattle.ait_read.specs.Places.{commonIn, loopIn, bodyAt, commonAt, loopAt, applicationAt, ownAt, scopeAt, descriptorAt, taggedRest, basesIn, listIn, kindOf, listAt, repeatedAt, extensionsIn, extensionsAt, extensionAt, stepIn, countAt}
+use Rattle.ait_read.specs.Places.{commonIn, loopIn, bodyAt, commonAt, loopAt, applicationAt, ownAt, scopeAt, descriptorAt, taggedRest, basesIn}
+use Rattle.ait_read.specs.Places.{listIn, kindOf, listAt, repeatedAt, extensionsIn, extensionsAt, extensionAt, stepIn, countAt}
 
 -- a place that a sound finder gave
 pub inside-of : (f : Finder) → Sound f → (p : Place) (s : L.List ℕ) → p ≡ f s → Inside p s

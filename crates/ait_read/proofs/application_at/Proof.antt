@@ -16,6 +16,13 @@ use borrow.Author.Needs.{needs}
 use Rattle.ait_read.proofs.application_at.Statement.{statement}
 use Rattle.ait_read.proofs.application_at.Tie as tie
 
+-- the places that stand before a place, by name
+abbrev start-of-at-match-keys2 : tie.At-match-keys2 → tie.Start
+start-of-at-match-keys2 c = c .before .before .before .before
+
+abbrev start-of-at-match-keys1 : tie.At-match-keys1 → tie.Start
+start-of-at-match-keys1 c = c .before .before .before .before
+
 application-place-requires : tie.Need-application-place-requires
 application-place-requires c κs = search needs
 
@@ -35,11 +42,20 @@ application-of-requires : tie.Need-application-of-requires
 application-of-requires c κs = search needs
 
 -- where the thing lies, and the part that is cut out there
-found : (c : tie.After-known-told2) → locatedOf (c .before .before .before .before .before .before .args .s .now) (applicationAt (c .before .before .before .before .before .before .args .i) (c .before .before .before .before .before .before .args .s .now)) ≡ located.At (c .before .start .given .0 .0) (c .before .start .given .0 .1 .0)
-found c = told _ _ (applicationAt (c .before .before .before .before .before .before .args .i) (c .before .before .before .before .before .before .args .s .now)) _ _ (c .before .before .before .before .application-place .ensures) (c .before .before .before .locate .ensures) (c .before .start .given .1)
+found : (c : tie.After-known-told2) → let s = start-of-at-match-keys2 (c .before .before) in
+    locatedOf (s .args .s .now) (applicationAt (s .args .i) (s .args .s .now))
+    ≡ located.At (c .before .start .given .0 .0) (c .before .start .given .0 .1 .0)
+found c =
+    let s = start-of-at-match-keys2 (c .before .before) in
+    told _ _ (applicationAt (s .args .i) (s .args .s .now)) _ _ (c .before .before .before .before .application-place .ensures)
+    (c .before .before .before .locate .ensures) (c .before .start .given .1)
 
-there : (c : tie.After-known-told2) → (spanPart (c .before .before .before .before .before .before .args .s .now) (c .before .start .given .0 .0) (c .before .start .given .0 .1 .0) ≡ take (c .before .start .given .0 .1 .0) (drop (c .before .start .given .0 .0) (c .before .before .before .before .before .before .args .s .now))) × (c .before .start .given .0 .0 < 65536)
-there c = cut _ (applicationAt (c .before .before .before .before .before .before .args .i) (c .before .before .before .before .before .before .args .s .now)) (sound-application (c .before .before .before .before .before .before .args .i) (c .before .before .before .before .before .before .args .s .now)) _ _ (found c)
+there : (c : tie.After-known-told2) → let s = start-of-at-match-keys2 (c .before .before) in
+    (spanPart (s .args .s .now) (c .before .start .given .0 .0) (c .before .start .given .0 .1 .0)
+    ≡ take (c .before .start .given .0 .1 .0) (drop (c .before .start .given .0 .0) (s .args .s .now))) × (c .before .start .given .0 .0 < 65536)
+there c =
+    let s = start-of-at-match-keys2 (c .before .before) in
+    cut _ (applicationAt (s .args .i) (s .args .s .now)) (sound-application (s .args .i) (s .args .s .now)) _ _ (found c)
 
 -- an answer, with its number
 numbered : (s : List ℕ) (i : ℕ) (r : ApplicationAnswer) → r ≡ applicationAnswer s i → (r ≡ applicationAnswer s i) × (numberOfApplication r ≡ placeNumber s (applicationAt i s))
@@ -47,13 +63,18 @@ numbered s i r e = (e, ap numberOfApplication e ∙ application-number s i)
 
 returns : tie.Need-returns
 unfolding applicationAnswer
-returns c = numbered (c .before .before .before .before .before .before .args .s .now) (c .before .before .before .before .before .before .args .i) _ (rw (told _ _ (applicationAt (c .before .before .before .before .before .before .args .i) (c .before .before .before .before .before .before .args .s .now)) _ _ (c .before .before .before .before .application-place .ensures) (c .before .before .before .locate .ensures) (c .before .r .given .1)))
+returns c =
+    let s = start-of-at-match-keys1 (c .before .before) in
+    numbered (s .args .s .now) (s .args .i) _
+    (rw (told _ _ (applicationAt (s .args .i) (s .args .s .now)) _ _ (c .before .before .before .before .application-place .ensures)
+    (c .before .before .before .locate .ensures) (c .before .r .given .1)))
 
 returns-2 : tie.Need-returns-2
 unfolding applicationAnswer
 returns-2 c =
+    let s = start-of-at-match-keys2 (c .before .before .before .before) in
     let x = there (c .before .before) in
-    numbered (c .before .before .before .before .before .before .before .before .args .s .now) (c .before .before .before .before .before .before .before .before .args .i) _ (rw (found (c .before .before)) (ap application.Found (c .application-of .ensures ∙ ap (applicationOf) (c .before .part .ensures ∙ x .0))))
+    numbered (s .args .s .now) (s .args .i) _ (rw (found (c .before .before)) (ap application.Found (c .application-of .ensures ∙ ap (applicationOf) (c .before .part .ensures ∙ x .0))))
 
 pub application-at-spec : {M : Type 1} → statement M
 application-at-spec =

@@ -18,6 +18,13 @@ use borrow.Author.Needs.{needs}
 use Rattle.ait_read.proofs.item_at.Statement.{statement}
 use Rattle.ait_read.proofs.item_at.Tie as tie
 
+-- the places that stand before a place, by name
+abbrev start-of-at-match-keys2 : tie.At-match-keys2 → tie.Start
+start-of-at-match-keys2 c = c .before .before .before .before
+
+abbrev start-of-at-match-keys1 : tie.At-match-keys1 → tie.Start
+start-of-at-match-keys1 c = c .before .before .before .before
+
 repeated-place-requires : tie.Need-repeated-place-requires
 repeated-place-requires c κs = search needs
 
@@ -31,11 +38,21 @@ enum-known-start : tie.Need-enum-known-start
 enum-known-start c = search needs
 
 -- where the thing lies, and the part that is cut out there
-found : (c : tie.After-known-told2) → locatedOf (c .before .before .before .before .before .before .args .s .now) (repeatedAt (c .before .before .before .before .before .before .args .scope) (c .before .before .before .before .before .before .args .j) (c .before .before .before .before .before .before .args .what) (c .before .before .before .before .before .before .args .k) (c .before .before .before .before .before .before .args .s .now)) ≡ located.At (c .before .start .given .0 .0) (c .before .start .given .0 .1 .0)
-found c = told _ _ (repeatedAt (c .before .before .before .before .before .before .args .scope) (c .before .before .before .before .before .before .args .j) (c .before .before .before .before .before .before .args .what) (c .before .before .before .before .before .before .args .k) (c .before .before .before .before .before .before .args .s .now)) _ _ (c .before .before .before .before .repeated-place .ensures) (c .before .before .before .locate .ensures) (c .before .start .given .1)
+found : (c : tie.After-known-told2) → let s = start-of-at-match-keys2 (c .before .before) in
+    locatedOf (s .args .s .now) (repeatedAt (s .args .scope) (s .args .j) (s .args .what) (s .args .k) (s .args .s .now))
+    ≡ located.At (c .before .start .given .0 .0) (c .before .start .given .0 .1 .0)
+found c =
+    let s = start-of-at-match-keys2 (c .before .before) in
+    told _ _ (repeatedAt (s .args .scope) (s .args .j) (s .args .what) (s .args .k) (s .args .s .now)) _ _
+    (c .before .before .before .before .repeated-place .ensures) (c .before .before .before .locate .ensures) (c .before .start .given .1)
 
-there : (c : tie.After-known-told2) → (spanPart (c .before .before .before .before .before .before .args .s .now) (c .before .start .given .0 .0) (c .before .start .given .0 .1 .0) ≡ take (c .before .start .given .0 .1 .0) (drop (c .before .start .given .0 .0) (c .before .before .before .before .before .before .args .s .now))) × (c .before .start .given .0 .0 < 65536)
-there c = cut _ (repeatedAt (c .before .before .before .before .before .before .args .scope) (c .before .before .before .before .before .before .args .j) (c .before .before .before .before .before .before .args .what) (c .before .before .before .before .before .before .args .k) (c .before .before .before .before .before .before .args .s .now)) (sound-repeated (c .before .before .before .before .before .before .args .scope) (c .before .before .before .before .before .before .args .j) (c .before .before .before .before .before .before .args .what) (c .before .before .before .before .before .before .args .k) (c .before .before .before .before .before .before .args .s .now)) _ _ (found c)
+there : (c : tie.After-known-told2) → let s = start-of-at-match-keys2 (c .before .before) in
+    (spanPart (s .args .s .now) (c .before .start .given .0 .0) (c .before .start .given .0 .1 .0)
+    ≡ take (c .before .start .given .0 .1 .0) (drop (c .before .start .given .0 .0) (s .args .s .now))) × (c .before .start .given .0 .0 < 65536)
+there c =
+    let s = start-of-at-match-keys2 (c .before .before) in
+    cut _ (repeatedAt (s .args .scope) (s .args .j) (s .args .what) (s .args .k) (s .args .s .now))
+    (sound-repeated (s .args .scope) (s .args .j) (s .args .what) (s .args .k) (s .args .s .now)) _ _ (found c)
 
 part-requires : tie.Need-part-requires
 part-requires c κs = search needs
@@ -44,18 +61,27 @@ item-of-requires : tie.Need-item-of-requires
 item-of-requires c κs = there (c .before) .1
 
 -- an answer, with its number
-numbered : (s : List ℕ) (o : Scope) (j : ℕ) (what : Repeated) (k : ℕ) (r : ItemAnswer) → r ≡ itemAnswer s o j what k → (r ≡ itemAnswer s o j what k) × (numberOfItem r ≡ placeNumber s (repeatedAt o j what k s))
+numbered : (s : List ℕ) (o : Scope) (j : ℕ) (what : Repeated) (k : ℕ) (r : ItemAnswer) → r ≡ itemAnswer s o j what k → (r ≡ itemAnswer s o j what k)
+    × (numberOfItem r ≡ placeNumber s (repeatedAt o j what k s))
 numbered s o j what k r e = (e, ap numberOfItem e ∙ item-number s o j what k)
 
 returns : tie.Need-returns
 unfolding itemAnswer
-returns c = numbered (c .before .before .before .before .before .before .args .s .now) (c .before .before .before .before .before .before .args .scope) (c .before .before .before .before .before .before .args .j) (c .before .before .before .before .before .before .args .what) (c .before .before .before .before .before .before .args .k) _ (rw (told _ _ (repeatedAt (c .before .before .before .before .before .before .args .scope) (c .before .before .before .before .before .before .args .j) (c .before .before .before .before .before .before .args .what) (c .before .before .before .before .before .before .args .k) (c .before .before .before .before .before .before .args .s .now)) _ _ (c .before .before .before .before .repeated-place .ensures) (c .before .before .before .locate .ensures) (c .before .r .given .1)))
+returns c =
+    let s = start-of-at-match-keys1 (c .before .before) in
+    numbered (s .args .s .now) (s .args .scope) (s .args .j) (s .args .what) (s .args .k) _
+    (rw (told _ _ (repeatedAt (s .args .scope) (s .args .j) (s .args .what) (s .args .k) (s .args .s .now)) _ _
+    (c .before .before .before .before .repeated-place .ensures) (c .before .before .before .locate .ensures) (c .before .r .given .1)))
 
 returns-2 : tie.Need-returns-2
 unfolding itemAnswer
 returns-2 c =
+    let s = start-of-at-match-keys2 (c .before .before .before .before) in
     let x = there (c .before .before) in
-    numbered (c .before .before .before .before .before .before .before .before .args .s .now) (c .before .before .before .before .before .before .before .before .args .scope) (c .before .before .before .before .before .before .before .before .args .j) (c .before .before .before .before .before .before .before .before .args .what) (c .before .before .before .before .before .before .before .before .args .k) _ (rw (found (c .before .before)) (ap item.Found (c .item-of .ensures ∙ ap (λ (l : List ℕ). itemOf (c .before .before .before .before .before .before .before .before .args .what) l (c .before .before .before .start .given .0 .0)) (c .before .part .ensures ∙ x .0))))
+    numbered (s .args .s .now) (s .args .scope) (s .args .j) (s .args .what) (s .args .k) _
+    (rw (found (c .before .before))
+    (ap item.Found (c .item-of .ensures ∙ ap (λ (l : List ℕ). itemOf (s .args .what) l (c .before .before .before .start .given .0 .0))
+    (c .before .part .ensures ∙ x .0))))
 
 pub item-at-spec : {M : Type 1} → statement M
 item-at-spec =

@@ -41,7 +41,9 @@ part-result-end c = search needs
 
 returns-3 : tie.Need-returns-3
 unfolding spanPart
-returns-3 c = rw (le-leb (c .before .before .before .args .start + c .before .before .before .args .size) (length (c .before .before .before .args .s .now)) (omega arith)) (part (c .before .before .before .args .s .now) (c .before .before .before .args .start) (c .before .before .before .args .size))
+returns-3 c = rw (le-leb (c .before .before .before .args .start + c .before .before .before .args .size)
+    (length (c .before .before .before .args .s .now)) (omega arith))
+    (part (c .before .before .before .args .s .now) (c .before .before .before .args .start) (c .before .before .before .args .size))
 
 pub part-spec : {M : Type 1} → statement M
 part-spec =

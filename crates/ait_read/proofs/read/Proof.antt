@@ -22,6 +22,19 @@ use borrow.Author.Needs.{needs}
 use Rattle.ait_read.proofs.read.Statement.{statement}
 use Rattle.ait_read.proofs.read.Tie as tie
 
+-- the places that stand before a place, by name
+abbrev start-of-at-match-keys2 : tie.At-match-keys2 → tie.Start
+start-of-at-match-keys2 c = c .before .before .before
+
+abbrev start-of-after-struct-known : tie.After-struct-known → tie.Start
+start-of-after-struct-known c = start-of-at-match-keys2 (c .before .before .before)
+
+abbrev start-of-after-loop-place : tie.After-loop-place → tie.Start
+start-of-after-loop-place c = start-of-after-struct-known (c .before .before .before .before)
+
+abbrev after-struct-known-of-after-loop-place : tie.After-loop-place → tie.After-struct-known
+after-struct-known-of-after-loop-place c = c .before .before .before .before
+
 judge-requires : tie.Need-judge-requires
 judge-requires c κs = search needs
 
@@ -35,13 +48,13 @@ common-place-requires : tie.Need-common-place-requires
 common-place-requires c κs = search needs
 
 count-within-requires : tie.Need-count-within-requires
-count-within-requires c κs = inside-of commonAt sound-common _ (c .before .before .before .before .before .before .before .before .args .s .now) (c .common-place .ensures)
+count-within-requires c κs = inside-of commonAt sound-common _ (start-of-after-struct-known (c .before .before) .args .s .now) (c .common-place .ensures)
 
 loop-place-requires : tie.Need-loop-place-requires
 loop-place-requires c κs = search needs
 
 count-within-requires-2 : tie.Need-count-within-requires-2
-count-within-requires-2 c κs = inside-of loopAt sound-loop _ (c .before .before .before .before .before .before .before .before .before .before .args .s .now) (c .loop-place .ensures)
+count-within-requires-2 c κs = inside-of loopAt sound-loop _ (start-of-after-loop-place c .args .s .now) (c .loop-place .ensures)
 
 -- an answer, with its number
 numbered : (s : List ℕ) (r : ReadAnswer) → r ≡ readAnswer s → (r ≡ readAnswer s) × (numberOfRead r ≡ readNumber s)
@@ -65,8 +78,8 @@ returns c = numbered _ _ (is-refused _ _ (sym (c .before .before .before .judge 
 returns-2 : tie.Need-returns-2
 unfolding readTable
 returns-2 c =
-    let k = c .before .before .before .before .before in
-    let s = k .before .before .before .before .before .before .args .s .now in
+    let k = after-struct-known-of-after-loop-place (c .before) in
+    let s = start-of-after-struct-known k .args .s .now in
     let h = k .before .before .h .given .0 .0 in
     numbered s _ (is-accepted s h _ (sym (k .before .before .before .before .judge .ensures) ∙ k .before .before .h .given .1) (λ i. record {
       test = test-flag (h .extension) (k .struct-known .given .1 .0 .fits) i;

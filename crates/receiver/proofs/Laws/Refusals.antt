@@ -38,7 +38,8 @@ use Rattle.carousel_record.specs.declared.Carousel.{Carousel}
 use Rattle.carousel_step.specs.declared.Answer.{Answer}
 use Rattle.carousel_step.specs.declared.Answer.the-variants as answer
 use Rattle.carousel_record.specs.Record.{Record, recordOf, placeOf, received, ruledOf}
-use Rattle.carousel_step.specs.Step.{blockRefusal, bytesDiffer, sameAnnounced, StepOutcome, refusing, new, same, repeated, stored, matched, onArrived, onAnnounced, onHeard, outcomeOf, answerOf, heardTests, stepTests, numberOfAnswer, steppedOf, imageOf}
+use Rattle.carousel_step.specs.Step.{blockRefusal, bytesDiffer, sameAnnounced, StepOutcome, refusing, new, same, repeated, stored, matched, onArrived}
+use Rattle.carousel_step.specs.Step.{onAnnounced, onHeard, outcomeOf, answerOf, heardTests, stepTests, numberOfAnswer, steppedOf, imageOf}
 use Rattle.carousel_step.proofs.Exact.{step-number}
 use Rattle.carousel_step.proofs.Steps.{refusal-changes-nothing}
 use Rattle.receiver.specs.declared.Fate.the-variants as fate
@@ -84,7 +85,8 @@ section-most b l rules s = (omega arith, (omega arith, (omega arith, (omega arit
 pub step-known : (c : Carousel) (s image : List ℕ) → numberOfAnswer (steppedOf c s image .answer) ≤ 17
 step-known c s image =
     let m = most-both 17 (carouselTests s) (heardTests (recordOf c) image (heardOf s))
-    (most-both 17 (sectionTests Carousels s) (messageTests (carouselTableIn s) (headerOf s) (bodyOf s)) (section-most 17 (lit≤ tt) Carousels s) (message-most (carouselTableIn s) (headerOf s) (bodyOf s)))
+    (most-both 17 (sectionTests Carousels s) (messageTests (carouselTableIn s) (headerOf s) (bodyOf s)) (section-most 17 (lit≤ tt) Carousels s)
+    (message-most (carouselTableIn s) (headerOf s) (bodyOf s)))
     (heard-most (recordOf c) image (heardOf s)) in
     rw (step-number c s image) (met-most 17 (stepTests c s image) (lit≤ tt, m))
 
@@ -120,7 +122,8 @@ heard-some s r e z = go (judgedOf s) refl e
 
 arrived-some : (c : Record) (image : List ℕ) (d : Arrived) (r : Refusal) → onArrived c image d ≡ refusing r → r .number ≡ 0 → ⊥
 unfolding onArrived matched
-arrived-some c image d r e z = go (eqb (blockRefusal (c .announced) (length image) d) 0) refl (received c (placeOf (c .announced) (d .number)) (d .block)) (bytesDiffer c image (placeOf (c .announced) (d .number)) d) _ _ e
+arrived-some c image d r e z = go (eqb (blockRefusal (c .announced) (length image) d) 0) refl
+    (received c (placeOf (c .announced) (d .number)) (d .block)) (bytesDiffer c image (placeOf (c .announced) (d .number)) d) _ _ e
   where
     go : (t : Bool) → eqb (blockRefusal (c .announced) (length image) d) 0 ≡ t → (u w : Bool) (k at : ℕ)
         → cond t (cond u (cond w (refusing (refused 17)) repeated) (stored k at (d .bytes))) (refusing (refused (blockRefusal (c .announced) (length image) d))) ≡ refusing r → ⊥
@@ -195,7 +198,8 @@ module _ (c : Carousel) (s image : List ℕ) where
   unfolding givenOf imageGiven
   take-refused r = go (eqb (byteAt s 0) applicationTable)
     where
-      go : (t : Bool) → cond {A = Given} t (record { fate = tableFate s; state = c }) (record { fate = carouselFate (steppedOf c s image .answer); state = steppedOf c s image .state }) .fate ≡ fate.Refused r
+      go : (t : Bool) → cond {A = Given} t (record { fate = tableFate s; state = c })
+          (record { fate = carouselFate (steppedOf c s image .answer); state = steppedOf c s image .state }) .fate ≡ fate.Refused r
           → (cond {A = Given} t (record { fate = tableFate s; state = c }) (record { fate = carouselFate (steppedOf c s image .answer); state = steppedOf c s image .state }) .state ≡ c)
           × (cond t image (imageOf c s image) ≡ image)
       go true e = (refl, refl)

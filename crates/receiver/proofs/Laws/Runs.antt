@@ -53,7 +53,8 @@ abbrev pub ahead : (t p : ℕ) → RunOutcome → RunOutcome
 ahead t p o = record { state = o .state; image = o .image; taken = t + o .taken; passed = p + o .passed; stop = o .stop }
 
 pub same-counts : (o : RunOutcome) (t t′ p p′ : ℕ) → t ≡ t′ → p ≡ p′
-    → _≡_ {A = RunOutcome} (record { state = o .state; image = o .image; taken = t; passed = p; stop = o .stop }) (record { state = o .state; image = o .image; taken = t′; passed = p′; stop = o .stop })
+    → _≡_ {A = RunOutcome} (record { state = o .state; image = o .image; taken = t; passed = p; stop = o .stop })
+    (record { state = o .state; image = o .image; taken = t′; passed = p′; stop = o .stop })
 same-counts o t t′ p p′ e f = ap₂ (λ (x y : ℕ). record { state = o .state; image = o .image; taken = x; passed = y; stop = o .stop }) e f
 
 pub ahead-none : (o : RunOutcome) → o ≡ ahead 0 0 o

@@ -32,7 +32,8 @@ use Rattle.receiver.specs.declared.Took.{Took}
 use Rattle.receiver.proofs.Laws.Places.{whole-fits}
 use Rattle.receiver.proofs.Laws.Runs.{took-stop, took-budget, took-one, runs-stop, runs-done, runs-next}
 use Rattle.receiver.proofs.Runs.{given-rule}
-use Rattle.receiver.specs.Run.{stopAt, wholeAt, readFate, tableFate, carouselFate, givenOf, imageGiven, numberOfFate, givenNumber, stoppedBy, tookOf, imageTook, numberTook, tookNumber, halted, runAfter, runs, fatesOf}
+use Rattle.receiver.specs.Run.{stopAt, wholeAt, readFate, tableFate, carouselFate, givenOf, imageGiven, numberOfFate, givenNumber, stoppedBy}
+use Rattle.receiver.specs.Run.{tookOf, imageTook, numberTook, tookNumber, halted, runAfter, runs, fatesOf}
 
 -- THE NUMBER OF ONE SECTION is that of the paper's table, whichever rules it goes by
 read-fate : (a : ReadAnswer) → numberOfFate (readFate a) ≡ numberOfRead a
@@ -52,7 +53,8 @@ pub given-number : (c : Carousel) (s image : List ℕ) → numberOfFate (givenOf
 unfolding givenOf
 given-number c s image = go (eqb (byteAt s 0) applicationTable)
   where
-    go : (t : Bool) → numberOfFate (cond {A = Given} t (record { fate = tableFate s; state = c }) (record { fate = carouselFate (steppedOf c s image .answer); state = steppedOf c s image .state }) .fate)
+    go : (t : Bool) → numberOfFate (cond {A = Given} t (record { fate = tableFate s; state = c })
+        (record { fate = carouselFate (steppedOf c s image .answer); state = steppedOf c s image .state }) .fate)
         ≡ cond t (readNumber s) (firstMet (stepTests c s image))
     go true = read-fate (readAnswer s) ∙ read-number s
     go false = carousel-fate (steppedOf c s image .answer) ∙ step-number c s image

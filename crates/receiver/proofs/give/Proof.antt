@@ -9,6 +9,13 @@ use borrow.Author.Needs.{needs}
 use Rattle.receiver.proofs.give.Statement.{statement}
 use Rattle.receiver.proofs.give.Tie as tie
 
+-- the places that stand before a place, by name
+abbrev else1-of-after-step : tie.After-step → tie.Else1
+else1-of-after-step c = c .before .before
+
+abbrev else1-of-after-carousel-fate : tie.After-carousel-fate → tie.Else1
+else1-of-after-carousel-fate c = else1-of-after-step (c .before .before .before .before)
+
 stepped : (f : Fate) (r t : Stepped) → f ≡ carouselFate (r .answer) → r ≡ t
     → _≡_ {A = Given} (record { fate = f; state = r .state }) (record { fate = carouselFate (t .answer); state = t .state })
 stepped f r t e g = rw (e, g)
@@ -37,7 +44,8 @@ same-length c = search needs
 returns-2 : tie.Need-returns-2
 unfolding givenOf imageGiven
 returns-2 c =
-    let e = ne-eqb _ 0x74 (λ f. c .before .before .before .before .before .before .if1 .left (c .before .before .before .before .before .before .before .byte-at .ensures .0 ∙ f)) in
+    let g = else1-of-after-carousel-fate c in
+    let e = ne-eqb _ 0x74 (λ f. g .if1 .left (g .before .byte-at .ensures .0 ∙ f)) in
     let p = c .before .before .before .before .step .ensures in
     rw e (stepped _ _ _ (c .carousel-fate .ensures) (p .0), p .1)
 

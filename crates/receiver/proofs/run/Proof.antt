@@ -24,6 +24,61 @@ Inv-loop stretch image₀ budget d₀ taken₀ passed₀ image d taken passed =
 abbrev μ-loop : tie.MeasureT-loop
 μ-loop stretch image₀ budget d₀ taken₀ passed₀ image d taken passed = budget - taken
 
+-- the places that stand before a place, by name
+abbrev start-of-else1 : tie.Else1 Inv-loop μ-loop → tie.Start Inv-loop μ-loop
+start-of-else1 c = c .before .before .before .before
+
+abbrev start-of-loop : tie.At-loop Inv-loop μ-loop → tie.Start Inv-loop μ-loop
+start-of-loop c = start-of-else1 (c .before)
+
+abbrev start-of-in-loop : tie.In-loop Inv-loop μ-loop → tie.Start Inv-loop μ-loop
+start-of-in-loop c = start-of-else1 (c .before .before)
+
+abbrev start-of-then1 : tie.Then1 Inv-loop μ-loop → tie.Start Inv-loop μ-loop
+start-of-then1 c = c .before .before .before .before
+
+abbrev start-of-then2 : tie.Then2 Inv-loop μ-loop → tie.Start Inv-loop μ-loop
+start-of-then2 c = start-of-loop (c .before .before .before .before)
+
+abbrev loop-of-then2 : tie.Then2 Inv-loop μ-loop → tie.At-loop Inv-loop μ-loop
+loop-of-then2 c = c .before .before .before .before
+
+abbrev else1-of-loop : tie.At-loop Inv-loop μ-loop → tie.Else1 Inv-loop μ-loop
+else1-of-loop c = c .before
+
+abbrev else1-of-then2 : tie.Then2 Inv-loop μ-loop → tie.Else1 Inv-loop μ-loop
+else1-of-then2 c = else1-of-loop (c .before .before .before .before)
+
+abbrev else2-of-after-give-arg2 : tie.After-give-arg2 Inv-loop μ-loop → tie.Else2 Inv-loop μ-loop
+else2-of-after-give-arg2 c = c .before .before
+
+abbrev else2-of-after-d : tie.After-d Inv-loop μ-loop → tie.Else2 Inv-loop μ-loop
+else2-of-after-d c = else2-of-after-give-arg2 (c .before .before .before .before)
+
+abbrev start-of-else2 : tie.Else2 Inv-loop μ-loop → tie.Start Inv-loop μ-loop
+start-of-else2 c = start-of-loop (c .before .before .before .before)
+
+abbrev start-of-after-give-arg2 : tie.After-give-arg2 Inv-loop μ-loop → tie.Start Inv-loop μ-loop
+start-of-after-give-arg2 c = start-of-else2 (c .before .before)
+
+abbrev start-of-after-d : tie.After-d Inv-loop μ-loop → tie.Start Inv-loop μ-loop
+start-of-after-d c = start-of-after-give-arg2 (c .before .before .before .before)
+
+abbrev loop-of-else2 : tie.Else2 Inv-loop μ-loop → tie.At-loop Inv-loop μ-loop
+loop-of-else2 c = c .before .before .before .before
+
+abbrev loop-of-after-give-arg2 : tie.After-give-arg2 Inv-loop μ-loop → tie.At-loop Inv-loop μ-loop
+loop-of-after-give-arg2 c = loop-of-else2 (c .before .before)
+
+abbrev loop-of-after-d : tie.After-d Inv-loop μ-loop → tie.At-loop Inv-loop μ-loop
+loop-of-after-d c = loop-of-after-give-arg2 (c .before .before .before .before)
+
+abbrev start-of-after-loop : tie.After-loop Inv-loop μ-loop → tie.Start Inv-loop μ-loop
+start-of-after-loop c = start-of-else1 (c .before .before)
+
+abbrev else1-of-after-loop : tie.After-loop Inv-loop μ-loop → tie.Else1 Inv-loop μ-loop
+else1-of-after-loop c = c .before .before
+
 ruled : (c : tie.Else1 Inv-loop μ-loop) → ruledOf (c .before .before .before .before .args .c) ≡ true
 ruled c = sym (c .before .is-ruled .ensures) ∙ not-false _ (c .if1 .left)
 
@@ -31,17 +86,17 @@ abbrev ending : Carousel → ℕ → ℕ → Stop → Ran
 ending c t p x = record { passage = record { taken = t; passed = p; stop = x }; state = c }
 
 -- the place: what is left of the stretch
-rest : (c : tie.At-loop Inv-loop μ-loop) → let s = c .before .before .before .before .before .args .stretch .now in take (length s - c .loop .passed) (drop (c .loop .passed) s) ≡ drop (c .loop .passed) s
-rest c = tail (c .before .before .before .before .before .args .stretch .now) (c .loop .passed)
+rest : (c : tie.At-loop Inv-loop μ-loop) → let s = start-of-loop c .args .stretch .now in take (length s - c .loop .passed) (drop (c .loop .passed) s) ≡ drop (c .loop .passed) s
+rest c = tail (start-of-loop c .args .stretch .now) (c .loop .passed)
 
 -- and the section that stands there
-whole : (c : tie.After-whole-at Inv-loop μ-loop) → c .whole-at .result ≡ wholeAt (drop (c .before .before .before .loop .passed) (c .before .before .before .before .before .before .before .before .args .stretch .now))
+whole : (c : tie.After-whole-at Inv-loop μ-loop) → c .whole-at .result ≡ wholeAt (drop (c .before .before .before .loop .passed) (start-of-in-loop (c .before .before) .args .stretch .now))
 whole c = c .whole-at .ensures .0 ∙ ap wholeAt (rest (c .before .before .before))
 
-fits : (c : tie.After-whole-at Inv-loop μ-loop) → c .before .before .before .loop .passed + c .whole-at .result ≤ length (c .before .before .before .before .before .before .before .before .args .stretch .now)
+fits : (c : tie.After-whole-at Inv-loop μ-loop) → c .before .before .before .loop .passed + c .whole-at .result ≤ length (start-of-in-loop (c .before .before) .args .stretch .now)
 fits c =
     let l = ap length (rest (c .before .before .before)) in
-    let m = length-drop (c .before .before .before .loop .passed) (c .before .before .before .before .before .before .before .before .args .stretch .now) in
+    let m = length-drop (c .before .before .before .loop .passed) (start-of-in-loop (c .before .before) .args .stretch .now) in
     let w = c .whole-at .ensures .1 in
     let i = c .before .before .before .loop .inv .0 in
     omega arith
@@ -54,8 +109,10 @@ ended-requires c κs = search needs
 
 returns : tie.Need-returns Inv-loop μ-loop
 returns c =
-    let s = c .before .before .before .before .before .args in
-    let p = ran-is (s .c) (s .stretch .now) (s .image .now) (s .budget) _ _ _ _ _ (run-state (s .c) (s .stretch .now) (s .image .now) (s .budget) (sym (c .before .before .is-ruled .ensures) ∙ not-true _ (c .before .if1 .taken))) in
+    let s = start-of-then1 (c .before) .args in
+    let p = ran-is (s .c) (s .stretch .now) (s .image .now) (s .budget) _ _ _ _ _
+    (run-state (s .c) (s .stretch .now) (s .image .now) (s .budget) (sym (c .before .before .is-ruled .ensures)
+    ∙ not-true _ (c .before .if1 .taken))) in
     (c .ended .ensures ∙ p .0, p .1)
 
 loop-holds : tie.Need-loop-holds Inv-loop μ-loop
@@ -87,12 +144,14 @@ same-length c = search needs
 
 returns-2 : tie.Need-returns-2 Inv-loop μ-loop
 returns-2 c =
-    let s = c .before .before .before .before .before .before .before .before .before .before .before .args in
-    let l = c .before .before .before .before .before .before .loop in
+    let at = loop-of-then2 (c .before .before) in
+    let s = start-of-then2 (c .before .before) .args in
+    let l = at .loop in
     let z = sym (whole (c .before .before .before)) ∙ c .before .before .if2 .taken in
-    let e = run-ruled (s .c) (s .stretch .now) (s .image .now) (s .budget) (ruled (c .before .before .before .before .before .before .before)) ∙ sym (l .inv .3) ∙ ap (ahead (l .taken) (l .passed)) (runs-stop _ _ _ _ z) ∙ ahead-halted (l .taken) (l .passed) _ _ _ in
+    let e = run-ruled (s .c) (s .stretch .now) (s .image .now) (s .budget) (ruled (else1-of-then2 (c .before .before))) ∙ sym (l .inv .3)
+    ∙ ap (ahead (l .taken) (l .passed)) (runs-stop _ _ _ _ z) ∙ ahead-halted (l .taken) (l .passed) _ _ _ in
     let p = ran-is (s .c) (s .stretch .now) (s .image .now) (s .budget) _ _ _ _ _ e in
-    (c .ended2 .ensures ∙ ap (ending (l .d) (l .taken) (l .passed)) (c .before .stop-at .ensures ∙ ap stopAt (rest (c .before .before .before .before .before .before))) ∙ p .0, p .1)
+    (c .ended2 .ensures ∙ ap (ending (l .d) (l .taken) (l .passed)) (c .before .stop-at .ensures ∙ ap stopAt (rest (at))) ∙ p .0, p .1)
 
 slice-aggregate-give : tie.Need-slice-aggregate-give Inv-loop μ-loop
 slice-aggregate-give c = sym (length-take-le _ _ (c .before .before .whole-at .ensures .1))
@@ -104,20 +163,23 @@ add-taken : tie.Need-add-taken Inv-loop μ-loop
 add-taken c = search needs
 
 add-passed : tie.Need-add-passed Inv-loop μ-loop
-add-passed c = let f = fits (c .before .before .before .before .before .before .before) in omega arith
+add-passed c = let f = fits (else2-of-after-d c .before) in omega arith
 
 loop-less : tie.Need-loop-less Inv-loop μ-loop
 loop-less c = search needs
 
 loop-again : tie.Need-loop-again Inv-loop μ-loop
 loop-again c =
-    let s = c .before .before .before .before .before .before .before .before .before .before .before .before .before .before .before .args in
-    let l = c .before .before .before .before .before .before .before .before .before .before .loop in
+    let at = loop-of-after-d c in
+    let e = else2-of-after-d c in
+    let s = start-of-after-d c .args in
+    let l = at .loop in
     let g = c .before .before .before .give .ensures in (
-      fits (c .before .before .before .before .before .before .before),
+      fits (e .before),
       omega arith,
       c .before .before .before .give .kept .1 .1 .0 ∙ l .inv .2,
-      turned (s .stretch .now) (l .image) (l .d) (l .taken) (l .passed) (s .budget) _ _ _ _ (ap (take (c .before .before .before .before .before .before .before .whole-at .result)) (rest (c .before .before .before .before .before .before .before .before .before .before))) (g .0) (g .1) (whole (c .before .before .before .before .before .before .before)) (c .before .before .before .before .before .before .if2 .left) (omega arith) ∙ l .inv .3,
+      turned (s .stretch .now) (l .image) (l .d) (l .taken) (l .passed) (s .budget) _ _ _ _ (ap (take (e .before .whole-at .result)) (rest (at)))
+          (g .0) (g .1) (whole (e .before)) (e .if2 .left) (omega arith) ∙ l .inv .3,
     )
 
 sub-stop-at : tie.Need-sub-stop-at Inv-loop μ-loop
@@ -140,9 +202,11 @@ same-length-2 c = search needs
 
 returns-3 : tie.Need-returns-3 Inv-loop μ-loop
 returns-3 c =
-    let s = c .before .before .before .before .before .before .before .before .before .args in
+    let s = start-of-after-loop (c .before .before .before) .args in
     let l = c .before .before .before .before .loop in
-    let e = run-ruled (s .c) (s .stretch .now) (s .image .now) (s .budget) (ruled (c .before .before .before .before .before)) ∙ sym (l .inv .3) ∙ ap (ahead (l .taken) (l .passed)) (runs-done (s .budget - l .taken) _ _ _ (omega arith)) ∙ ahead-halted (l .taken) (l .passed) _ _ _ in
+    let e = run-ruled (s .c) (s .stretch .now) (s .image .now) (s .budget) (ruled (else1-of-after-loop (c .before .before .before)))
+    ∙ sym (l .inv .3) ∙ ap (ahead (l .taken) (l .passed)) (runs-done (s .budget - l .taken) _ _ _ (omega arith))
+    ∙ ahead-halted (l .taken) (l .passed) _ _ _ in
     let p = ran-is (s .c) (s .stretch .now) (s .image .now) (s .budget) _ _ _ _ _ e in
     (c .ended3 .ensures ∙ ap (ending (l .d) (l .taken) (l .passed)) (c .before .stop-at2 .ensures ∙ ap stopAt (rest (c .before .before .before .before))) ∙ p .0, p .1)
 

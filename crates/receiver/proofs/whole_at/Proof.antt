@@ -6,6 +6,16 @@ use borrow.Author.Needs.{needs}
 use Rattle.receiver.proofs.whole_at.Statement.{statement}
 use Rattle.receiver.proofs.whole_at.Tie as tie
 
+-- the places that stand before a place, by name
+abbrev start-of-else1 : tie.Else1 → tie.Start
+start-of-else1 c = c .before .before
+
+abbrev start-of-then3 : tie.Then3 → tie.Start
+start-of-then3 c = start-of-else1 (c .before .before .before .before)
+
+abbrev start-of-else3 : tie.Else3 → tie.Start
+start-of-else3 c = start-of-else1 (c .before .before .before .before)
+
 returns : tie.Need-returns
 returns c = (sym (whole-few (c .before .before .args .s .now) (c .if1 .taken)), omega arith)
 
@@ -25,13 +35,13 @@ add-n c = search needs
 
 returns-3 : tie.Need-returns-3
 returns-3 c =
-    let s = c .before .before .before .before .before .before .args .s .now in
+    let s = start-of-then3 c .args .s .now in
     let e = c .before .twelve-at .ensures .0 in
     (sym (whole-short s (c .before .before .before .before .if1 .left) (omega arith)), omega arith)
 
 returns-4 : tie.Need-returns-4
 returns-4 c =
-    let s = c .before .before .before .before .before .before .args .s .now in
+    let s = start-of-else3 c .args .s .now in
     let e = c .before .twelve-at .ensures .0 in
     let n = whole-is s (c .before .before .before .before .if1 .left) (λ f. c .before .before .if2 .left (c .before .before .before .byte-at .ensures .0 ∙ f)) (omega arith) in
     (omega arith, omega arith)

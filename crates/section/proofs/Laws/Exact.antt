@@ -25,7 +25,8 @@ module _ (rules : Rules) (s : List ℕ) where
   rising = (lit< tt, (lit< tt, (lit< tt, (lit< tt, (lit< tt, tt)))))
 
   -- test n of the table is the test of that number
-  pub the-tests : (holds 2 (sectionTests rules s) ≡ meets2 s) × (holds 3 (sectionTests rules s) ≡ meets3 rules s) × (holds 4 (sectionTests rules s) ≡ meets4 rules s) × (holds 5 (sectionTests rules s) ≡ meets5 s) × (holds 6 (sectionTests rules s) ≡ meets6 s)
+  pub the-tests : (holds 2 (sectionTests rules s) ≡ meets2 s) × (holds 3 (sectionTests rules s) ≡ meets3 rules s)
+      × (holds 4 (sectionTests rules s) ≡ meets4 rules s) × (holds 5 (sectionTests rules s) ≡ meets5 s) × (holds 6 (sectionTests rules s) ≡ meets6 s)
   unfolding holds
   the-tests = (or-false (meets2 s), or-false (meets3 rules s), or-false (meets4 rules s), or-false (meets5 s), or-false (meets6 s))
 
@@ -79,7 +80,9 @@ module _ (rules : Rules) (s : List ℕ) where
           }
 
       back : GoodSection rules s → refusalOf rules s ≡ 0
-      back g = sym (is0 rules s (past2 s (g .headed) (g .exact)) (past3 rules s (g .table)) (past4 rules s (g .least) (g .most) (λ e. omega (arith, g .syntax)) (g .numbers)) (past5 s (g .crc)) (past6 s (λ e. omega (arith, g .current))))
+      back g = sym (is0 rules s (past2 s (g .headed) (g .exact)) (past3 rules s (g .table))
+          (past4 rules s (g .least) (g .most) (λ e. omega (arith, g .syntax)) (g .numbers)) (past5 s (g .crc))
+          (past6 s (λ e. omega (arith, g .current))))
 
   -- what the code answers from the number, and what a caller reads off the answer
   pub refused-with : (refusalOf rules s ≡ 0 → ⊥) → checkedOf rules s ≡ Refused (refused (refusalOf rules s))

@@ -18,17 +18,33 @@ use Rattle.section.proofs.register.crc.Reads as crc-reads
 use Rattle.wire.proofs.sixteen_at.Reads as sixteen-at-reads
 use Rattle.wire.proofs.twelve_at.Reads as twelve-at-reads
 
+-- the places that stand before a place, by name
+abbrev start-of-else2 : tie.Else2 → tie.Start
+start-of-else2 c = c .before .before .before .before
+
+abbrev start-of-else3 : tie.Else3 → tie.Start
+start-of-else3 c = start-of-else2 (c .before .before .before)
+
+abbrev start-of-else4 : tie.Else4 → tie.Start
+start-of-else4 c = start-of-else2 (c .before .before .before .before)
+
+abbrev start-of-else6 : tie.Else6 → tie.Start
+start-of-else6 c = start-of-else4 (c .before .before .before .before)
+
+abbrev start-of-else7 : tie.Else7 → tie.Start
+start-of-else7 c = start-of-else6 (c .before .before .before)
+
 -- What the tests passed so far say, at the place after each.
 at2 : (c : tie.Else2) → meets2 (c .before .before .before .before .args .s .now) ≡ false
 at2 c = past2 _ (omega arith) (omega arith)
 
-at3 : (c : tie.Else3) → meets3 (c .before .before .before .before .before .before .before .args .rules) (c .before .before .before .before .before .before .before .args .s .now) ≡ false
+at3 : (c : tie.Else3) → let s = start-of-else3 c in meets3 (s .args .rules) (s .args .s .now) ≡ false
 at3 c = past3 _ _ (sym (c .before .has-table .ensures) ∙ not-false _ (c .if3 .left))
 
-atS : (c : tie.Else6) → syntaxOf (c .before .before .before .before .before .before .before .before .before .before .before .before .args .s .now) ≡ 0 → ⊥
+atS : (c : tie.Else6) → syntaxOf (start-of-else6 c .args .s .now) ≡ 0 → ⊥
 atS c e = c .if6 .left (omega arith)
 
-at4 : (c : tie.Else7) → meets4 (c .before .before .before .before .before .before .before .before .before .before .before .before .before .before .before .args .rules) (c .before .before .before .before .before .before .before .before .before .before .before .before .before .before .before .args .s .now) ≡ false
+at4 : (c : tie.Else7) → let s = start-of-else7 c in meets4 (s .args .rules) (s .args .s .now) ≡ false
 at4 c = past4 _ _ (omega arith) (omega arith) (search atS) (omega arith)
 
 returns : tie.Need-returns

@@ -42,7 +42,8 @@ loop-holds : tie.Need-loop-holds Inv-loop μ-loop
 loop-holds c = refl
 
 returns : tie.Need-returns Inv-loop μ-loop
-returns c = end-none (measured (c .before .before .before .before .args .h) (c .before .before .before .before .args .at)) (framed-kind _ _) (c .before .before .before .before .args .s .now) _ (c .before .before .loop .left) (c .if1 .taken) (omega arith) ∙ c .before .before .loop .inv
+returns c = end-none (measured (c .before .before .before .before .args .h) (c .before .before .before .before .args .at)) (framed-kind _ _)
+    (c .before .before .before .before .args .s .now) _ (c .before .before .loop .left) (c .if1 .taken) (omega arith) ∙ c .before .before .loop .inv
 
 sub-measured-size : tie.Need-sub-measured-size Inv-loop μ-loop
 sub-measured-size c = search needs
@@ -57,7 +58,8 @@ measured-size-requires : tie.Need-measured-size-requires Inv-loop μ-loop
 measured-size-requires c κs = search needs
 
 -- what the call answered for the list from i on
-sized : (c : tie.After-measured-size Inv-loop μ-loop) → c .measured-size .result ≡ measured (start-of-else1 (c .before .before) .args .h) (start-of-else1 (c .before .before) .args .at) (drop (c .before .before .before .before .loop .i) (start-of-else1 (c .before .before) .args .s .now))
+sized : (c : tie.After-measured-size Inv-loop μ-loop) → let s = start-of-else1 (c .before .before) in
+    c .measured-size .result ≡ measured (s .args .h) (s .args .at) (drop (c .before .before .before .before .loop .i) (s .args .s .now))
 sized c =
     let s = start-of-else1 (c .before .before) in
     c .measured-size .ensures ∙ ap (measured (s .args .h) (s .args .at)) (tail (s .args .s .now) (c .before .before .before .before .loop .i))

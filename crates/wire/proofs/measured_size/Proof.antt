@@ -19,13 +19,19 @@ sub-if2 : tie.Need-sub-if2
 sub-if2 c = search needs
 
 returns-2 : tie.Need-returns-2
-returns-2 c = not-there (c .before .before .before .before .args .h + c .before .said-at .result) (length (c .before .before .before .before .args .s .now)) (omega arith) ∙ framed-read (c .before .before .before .before .args .h) (λ x. byteAt x (c .before .before .before .before .args .at)) (c .before .before .before .before .args .s .now) _ (sym (c .before .said-at .ensures))
+returns-2 c = not-there (c .before .before .before .before .args .h + c .before .said-at .result)
+    (length (c .before .before .before .before .args .s .now)) (omega arith)
+    ∙ framed-read (c .before .before .before .before .args .h) (λ x. byteAt x (c .before .before .before .before .args .at))
+    (c .before .before .before .before .args .s .now) _ (sym (c .before .said-at .ensures))
 
 add-result : tie.Need-add-result
 add-result c = search needs
 
 returns-3 : tie.Need-returns-3
-returns-3 c = there (c .before .before .before .before .args .h + c .before .said-at .result) (length (c .before .before .before .before .args .s .now)) (omega arith) ∙ framed-read (c .before .before .before .before .args .h) (λ x. byteAt x (c .before .before .before .before .args .at)) (c .before .before .before .before .args .s .now) _ (sym (c .before .said-at .ensures))
+returns-3 c = there (c .before .before .before .before .args .h + c .before .said-at .result)
+    (length (c .before .before .before .before .args .s .now)) (omega arith)
+    ∙ framed-read (c .before .before .before .before .args .h) (λ x. byteAt x (c .before .before .before .before .args .at))
+    (c .before .before .before .before .args .s .now) _ (sym (c .before .said-at .ensures))
 
 pub measured-size-spec : {M : Type 1} → statement M
 measured-size-spec =

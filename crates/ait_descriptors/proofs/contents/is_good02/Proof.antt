@@ -8,6 +8,10 @@ use borrow.Author.Needs.{needs}
 use Rattle.ait_descriptors.proofs.contents.is_good02.Statement.{statement}
 use Rattle.ait_descriptors.proofs.contents.is_good02.Tie as tie
 
+-- the places that stand before a place, by name
+abbrev start-of-else1 : tie.Else1 → tie.Start
+start-of-else1 c = c .before .before
+
 returns : tie.Need-returns
 returns c = good02-short _ (c .if1 .taken)
 
@@ -28,7 +32,7 @@ is-selector-requires c κs = search needs
 
 returns-2 : tie.Need-returns-2
 returns-2 c =
-    let s = c .before .before .before .before .before .args .c .now in
+    let s = start-of-else1 (c .before .before .before) .args .c .now in
     c .is-selector .ensures ∙ ap₂ selector (c .before .before .sixteen-at .ensures .0) (tail s 3) ∙ good02-is s (omega arith)
 
 pub is-good02-spec : {M : Type 1} → statement M

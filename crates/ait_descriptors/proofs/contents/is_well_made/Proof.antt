@@ -6,6 +6,13 @@ use borrow.Author.Needs.{needs}
 use Rattle.ait_descriptors.proofs.contents.is_well_made.Statement.{statement}
 use Rattle.ait_descriptors.proofs.contents.is_well_made.Tie as tie
 
+-- the places that stand before a place, by name
+abbrev start-of-after-shared-slice-known : tie.After-shared-slice-known → tie.Start
+start-of-after-shared-slice-known c = c .before
+
+abbrev start-of-after-is-good : tie.After-is-good → tie.Start
+start-of-after-is-good c = start-of-after-shared-slice-known (c .before .before .before .before)
+
 contents-start-requires : tie.Need-contents-start-requires
 contents-start-requires c κs = search needs
 
@@ -26,7 +33,7 @@ is-good-requires c κs = search needs
 
 returns : tie.Need-returns
 returns c =
-    let d = c .before .before .before .before .before .args .d .now in
+    let d = start-of-after-is-good c .args .d .now in
     let at = c .before .before .before .contents-start in
     c .is-good .ensures ∙ ap₂ contentsGood (c .before .before .byte-at .ensures .0) (tail d (at .result) ∙ at .ensures .1)
 

@@ -29,7 +29,8 @@ measured-end-requires c κs = search needs
 
 returns-2 : tie.Need-returns-2
 returns-2 c =
-    let s = c .before .before .before .before .before .args .s .now in
+    let e = c .before .before in
+    let s = e .before .before .before .args .s .now in
     let b : c .before .before .before .eight-at .result ≡ byteAt s 0 = c .before .before .before .eight-at .ensures .0 in
     let n : c .before .eight-at2 .result ≡ extensionCount s = c .before .eight-at2 .ensures .0 ∙ ap (λ (x : ℕ). byteAt s (1 + x)) b in
     c .measured-end .ensures ∙ rw (n, b) (sym (base-is s (omega arith)))

@@ -10,6 +10,10 @@ use borrow.Author.Needs.{needs}
 use Rattle.ait_descriptors.proofs.kinds.size_of.Statement.{statement}
 use Rattle.ait_descriptors.proofs.kinds.size_of.Tie as tie
 
+-- the places that stand before a place, by name
+abbrev start-of-at-match-keys1 : tie.At-match-keys1 → tie.Start
+start-of-at-match-keys1 c = c .before .before
+
 enum-told : tie.Need-enum-told
 enum-told c = search needs
 
@@ -64,8 +68,9 @@ framed-size-requires-4 c κs = search needs
 returns : tie.Need-returns
 unfolding sizeOf
 returns c =
-    let s = c .before .before .before .before .before .args .s .now in
-    c .framed-size .ensures ∙ framed-read 9 (λ h. twelveAt h 7) s _ (said-twelve s 9 7 (omega arith) ∙ sym (c .before .twelve-at .ensures .0)) ∙ kind-is Application _ _ (c .before .before .enum-told .given .1)
+    let s = start-of-at-match-keys1 (c .before .before .before) .args .s .now in
+    c .framed-size .ensures ∙ framed-read 9 (λ h. twelveAt h 7) s _ (said-twelve s 9 7 (omega arith) ∙ sym (c .before .twelve-at .ensures .0))
+    ∙ kind-is Application _ _ (c .before .before .enum-told .given .1)
 
 returns-2 : tie.Need-returns-2
 unfolding sizeOf

@@ -18,6 +18,16 @@ Inv-loop kind test s k₀ i₀ k i = Finding (sizeOf kind) (testOf test) s i k
 abbrev μ-loop : tie.MeasureT-loop
 μ-loop kind test s k₀ i₀ k i = length s - i
 
+-- the places that stand before a place, by name
+abbrev loop-of-in-loop : tie.In-loop Inv-loop μ-loop → tie.At-loop Inv-loop μ-loop
+loop-of-in-loop c = c .before
+
+abbrev loop-of-then2 : tie.Then2 Inv-loop μ-loop → tie.At-loop Inv-loop μ-loop
+loop-of-then2 c = loop-of-in-loop (c .before .before .before .before)
+
+abbrev loop-of-else2 : tie.Else2 Inv-loop μ-loop → tie.At-loop Inv-loop μ-loop
+loop-of-else2 c = loop-of-in-loop (c .before .before .before .before)
+
 loop-holds : tie.Need-loop-holds Inv-loop μ-loop
 unfolding first
 loop-holds c = (omega arith, omega arith, refl)
@@ -32,7 +42,8 @@ meets-at-requires : tie.Need-meets-at-requires Inv-loop μ-loop
 meets-at-requires c κs = search needs
 
 returns-2 : tie.Need-returns-2 Inv-loop μ-loop
-returns-2 c = find-hit (sizeOf _) (kind-of _) _ _ _ (c .before .before .before .size-at .ensures .0) (testOf _) _ (c .before .before .before .before .before .loop .inv) (c .before .before .if1 .left) (sym (c .before .meets-at .ensures) ∙ c .if2 .taken)
+returns-2 c = find-hit (sizeOf _) (kind-of _) _ _ _ (c .before .before .before .size-at .ensures .0) (testOf _) _ (loop-of-then2 c .loop .inv)
+    (c .before .before .if1 .left) (sym (c .before .meets-at .ensures) ∙ c .if2 .taken)
 
 add-i : tie.Need-add-i Inv-loop μ-loop
 add-i c = omega arith
@@ -44,7 +55,8 @@ loop-less : tie.Need-loop-less Inv-loop μ-loop
 loop-less c = omega (arith, c .before .before .if1 .left)
 
 loop-again : tie.Need-loop-again Inv-loop μ-loop
-loop-again c = find-turn (sizeOf _) (kind-of _) _ _ _ (c .before .before .before .size-at .ensures .0) (testOf _) _ (c .before .before .before .before .before .loop .inv) (c .before .before .if1 .left) (sym (c .before .meets-at .ensures) ∙ c .if2 .left)
+loop-again c = find-turn (sizeOf _) (kind-of _) _ _ _ (c .before .before .before .size-at .ensures .0) (testOf _) _ (loop-of-else2 c .loop .inv)
+    (c .before .before .if1 .left) (sym (c .before .meets-at .ensures) ∙ c .if2 .left)
 
 returns-3 : tie.Need-returns-3 Inv-loop μ-loop
 returns-3 c = find-done (sizeOf _) (kind-of _) (c .before .before .before .args .s .now) (c .before .loop .i) (omega arith) (testOf _) _ (c .before .loop .inv)

@@ -28,7 +28,8 @@ returns : tie.Need-returns Inv-loop μ-loop
 returns c = seek-stop (sizeOf _) (kind-of _) _ _ _ (c .before .size-at .ensures .0) _ (c .before .before .before .loop .left) (c .before .before .before .loop .inv) (c .if1 .taken)
 
 returns-2 : tie.Need-returns-2 Inv-loop μ-loop
-returns-2 c = seek-hit (sizeOf _) (kind-of _) _ _ _ (c .before .before .size-at .ensures .0) _ (c .before .before .before .before .loop .left) (c .before .before .before .before .loop .inv) (c .before .if1 .left) (c .if2 .taken)
+returns-2 c = seek-hit (sizeOf _) (kind-of _) _ _ _ (c .before .before .size-at .ensures .0) _ (c .before .before .before .before .loop .left)
+    (c .before .before .before .before .loop .inv) (c .before .if1 .left) (c .if2 .taken)
 
 add-i : tie.Need-add-i Inv-loop μ-loop
 add-i c = omega arith
@@ -40,7 +41,8 @@ loop-less : tie.Need-loop-less Inv-loop μ-loop
 loop-less c = omega (arith, c .before .if1 .left)
 
 loop-again : tie.Need-loop-again Inv-loop μ-loop
-loop-again c = seek-turn (sizeOf _) (kind-of _) _ _ _ (c .before .before .size-at .ensures .0) _ (c .before .before .before .before .loop .left) (c .before .before .before .before .loop .inv) (c .before .if1 .left) (c .if2 .left)
+loop-again c = seek-turn (sizeOf _) (kind-of _) _ _ _ (c .before .before .size-at .ensures .0) _ (c .before .before .before .before .loop .left)
+    (c .before .before .before .before .loop .inv) (c .before .if1 .left) (c .if2 .left)
 
 returns-3 : tie.Need-returns-3 Inv-loop μ-loop
 returns-3 c = seek-done (sizeOf _) (kind-of _) (c .before .before .before .args .s .now) (c .before .loop .i) (omega arith) _ (c .before .loop .left) (c .before .loop .inv)

@@ -18,6 +18,10 @@ Inv-loop kind test s m₀ i₀ m i = Counting (sizeOf kind) (testOf test) s i m
 abbrev μ-loop : tie.MeasureT-loop
 μ-loop kind test s m₀ i₀ m i = length s - i
 
+-- the places that stand before a place, by name
+abbrev loop-of-else1 : tie.Else1 Inv-loop μ-loop → tie.At-loop Inv-loop μ-loop
+loop-of-else1 c = c .before .before .before
+
 loop-holds : tie.Need-loop-holds Inv-loop μ-loop
 loop-holds c = (omega arith, omega arith, omega arith)
 
@@ -41,7 +45,7 @@ loop-less c = omega (arith, c .before .before .if1 .left)
 
 loop-again : tie.Need-loop-again Inv-loop μ-loop
 loop-again c =
-    let l = c .before .before .before .before .before .loop in
+    let l = loop-of-else1 (c .before .before) .loop in
     let e = c .before .before .before .size-at .ensures .0 in
     ⊎-elim
     (λ w. rw (w .1) (count-hit (sizeOf _) (kind-of _) _ _ _ e (testOf _) _ (l .inv) (c .before .before .if1 .left) (sym (c .before .meets-at .ensures) ∙ w .0 .taken)))

@@ -14,6 +14,10 @@ use borrow.Author.Needs.{needs}
 use Rattle.ait_read.proofs.acceptance.judge.Statement.{statement}
 use Rattle.ait_read.proofs.acceptance.judge.Tie as tie
 
+-- the places that stand before a place, by name
+abbrev start-of-after-checked2 : tie.After-checked2 → tie.Start
+start-of-after-checked2 c = c .before .before .before .before
+
 check-requires : tie.Need-check-requires
 check-requires c κs = search needs
 
@@ -24,14 +28,14 @@ enum-known-checked-2 : tie.Need-enum-known-checked-2
 enum-known-checked-2 c = search needs
 
 -- what the calls answered
-told : (c : tie.After-known-told2) → checkedOf Application (c .before .before .before .before .before .args .s .now) ≡ Accepted (c .before .checked2 .given .0 .0)
+told : (c : tie.After-known-told2) → checkedOf Application (start-of-after-checked2 (c .before) .args .s .now) ≡ Accepted (c .before .checked2 .given .0 .0)
 told c = sym (c .before .before .before .check .ensures .0) ∙ c .before .checked2 .given .1
 
-long : (c : tie.After-known-told2) → 12 ≤ length (c .before .before .before .before .before .args .s .now)
+long : (c : tie.After-known-told2) → 12 ≤ length (start-of-after-checked2 (c .before) .args .s .now)
 long c = sized _ _ (told c) .0
 
-body : (c : tie.After-body-refusal) → c .body-refusal .result ≡ bodyRefusal (bodyOf (c .before .before .before .before .before .before .before .args .s .now))
-body c = c .body-refusal .ensures ∙ ap bodyRefusal (body-part (c .before .before .before .before .before .before .before .args .s .now))
+body : (c : tie.After-body-refusal) → c .body-refusal .result ≡ bodyRefusal (bodyOf (start-of-after-checked2 (c .before .before .before) .args .s .now))
+body c = c .body-refusal .ensures ∙ ap bodyRefusal (body-part (start-of-after-checked2 (c .before .before .before) .args .s .now))
 
 sub-e : tie.Need-sub-e
 sub-e c = omega (arith, long c)

@@ -6,6 +6,10 @@ use borrow.Author.Needs.{needs}
 use Rattle.ait_read.proofs.acceptance.locate.Statement.{statement}
 use Rattle.ait_read.proofs.acceptance.locate.Tie as tie
 
+-- the places that stand before a place, by name
+abbrev at-match-keys2-of-at-match2-keys1 : tie.At-match2-keys1 → tie.At-match-keys2
+at-match-keys2-of-at-match2-keys1 c = c .before .before
+
 judge-requires : tie.Need-judge-requires
 judge-requires c κs = search needs
 
@@ -25,7 +29,7 @@ returns : tie.Need-returns
 returns c = located-refused _ _ _ (sym (c .before .before .before .judge .ensures) ∙ c .before .judged .given .1)
 
 returns-2 : tie.Need-returns-2
-returns-2 c = located-at _ _ _ (sym (c .before .before .before .before .before .judge .ensures) ∙ c .before .before .before .enum-told .given .1) _ _ (c .before .p .given .1)
+returns-2 c = located-at _ _ _ (sym (at-match-keys2-of-at-match2-keys1 (c .before .before) .before .judge .ensures) ∙ c .before .before .before .enum-told .given .1) _ _ (c .before .p .given .1)
 
 returns-3 : tie.Need-returns-3
 returns-3 c = located-none _ _ _ (sym (c .before .before .before .before .judge .ensures) ∙ c .before .before .enum-told .given .1) (c .enum-told2 .given .1)

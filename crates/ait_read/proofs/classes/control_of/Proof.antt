@@ -25,11 +25,13 @@ returns-4 c = let n = c .before .args .code in let e : n ≡ 4 = c .match .keys4
 
 returns-5 : tie.Need-returns-5
 unfolding controlOf
-returns-5 c = let n = c .before .args .code in let e : n ≡ 6 = c .match .keys5 in rw (ne-eqb n 1 (omega (arith, e)), ne-eqb n 2 (omega (arith, e)), ne-eqb n 3 (omega (arith, e)), ne-eqb n 4 (omega (arith, e)), eq-eqb n 6 e)
+returns-5 c = let n = c .before .args .code in let e : n ≡ 6 = c .match .keys5 in
+    rw (ne-eqb n 1 (omega (arith, e)), ne-eqb n 2 (omega (arith, e)), ne-eqb n 3 (omega (arith, e)), ne-eqb n 4 (omega (arith, e)), eq-eqb n 6 e)
 
 returns-6 : tie.Need-returns-6
 unfolding controlOf
-returns-6 c = let n = c .before .args .code in let r = c .match .rest in rw (ne-eqb n 1 (r .0 .0 .0 .0 .1), ne-eqb n 2 (r .0 .0 .0 .1), ne-eqb n 3 (r .0 .0 .1), ne-eqb n 4 (r .0 .1), ne-eqb n 6 (r .1))
+returns-6 c = let n = c .before .args .code in let r = c .match .rest in
+    rw (ne-eqb n 1 (r .0 .0 .0 .0 .1), ne-eqb n 2 (r .0 .0 .0 .1), ne-eqb n 3 (r .0 .0 .1), ne-eqb n 4 (r .0 .1), ne-eqb n 6 (r .1))
 
 pub control-of-spec : {M : Type 1} → statement M
 control-of-spec = tie.close (tie.spec returns returns-2 returns-3 returns-4 returns-5 returns-6)

@@ -10,6 +10,10 @@ use borrow.Author.Needs.{needs}
 use Rattle.ait_read.proofs.labels.find_within.Statement.{statement}
 use Rattle.ait_read.proofs.labels.find_within.Tie as tie
 
+-- the places that stand before a place, by name
+abbrev start-of-at-match-keys1 : tie.At-match-keys1 → tie.Start
+start-of-at-match-keys1 c = c .before .before
+
 enum-known-p : tie.Need-enum-known-p
 enum-known-p c = search needs
 
@@ -40,9 +44,10 @@ find-requires c κs = search needs
 
 returns-2 : tie.Need-returns-2
 returns-2 c =
-    let s = c .before .before .before .before .before .before .args .s .now in
+    let begin = start-of-at-match-keys1 (c .before .before .before .before) in
+    let s = begin .args .s .now in
     let k = c .before .before .before .p .given in
-    c .find .ensures ∙ ap (firstTo (c .before .before .before .before .before .before .args .test)) (part s (k .0 .0) (k .0 .1 .0)) ∙ find-at _ _ s _ _ (k .1)
+    c .find .ensures ∙ ap (firstTo (begin .args .test)) (part s (k .0 .0) (k .0 .1 .0)) ∙ find-at _ _ s _ _ (k .1)
 
 pub find-within-spec : {M : Type 1} → statement M
 find-within-spec =

@@ -25,7 +25,9 @@ enum-told : tie.Need-enum-told
 enum-told c = search needs
 
 -- the 0x00 descriptor among the application's own
-hit : (c : tie.After-find-within) → firstTo (Tagged 0x00) (partAt (ownAt (c .before .before .before .args .i) (c .before .before .before .args .s .now)) (c .before .before .before .args .s .now)) ≡ c .find-within .result
+hit : (c : tie.After-find-within) → firstTo (Tagged 0x00)
+    (partAt (ownAt (c .before .before .before .args .i) (c .before .before .before .args .s .now)) (c .before .before .before .args .s .now))
+    ≡ c .find-within .result
 hit c = sym (c .find-within .ensures ∙ ap (λ (p : Place). firstTo (Tagged 0x00) (partAt p (c .before .before .before .args .s .now))) (c .before .own-place .ensures))
 
 returns : tie.Need-returns

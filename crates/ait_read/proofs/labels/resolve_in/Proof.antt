@@ -17,7 +17,8 @@ enum-known-j : tie.Need-enum-known-j
 enum-known-j c = search needs
 
 -- no hit among the own ones
-missed : (c : tie.After-enum-told) → firstTo (Labelled (c .before .before .before .before .args .label)) (partAt (c .before .before .before .before .args .own) (c .before .before .before .before .args .s .now)) ≡ Missing
+missed : (c : tie.After-enum-told) → firstTo (Labelled (c .before .before .before .before .args .label))
+    (partAt (c .before .before .before .before .args .own) (c .before .before .before .before .args .s .now)) ≡ Missing
 missed c = sym (c .before .before .find-within .ensures) ∙ c .enum-told .given .1
 
 returns : tie.Need-returns

@@ -7,6 +7,10 @@ use borrow.Author.Needs.{needs}
 use Rattle.ait_read.proofs.places.scope_place.Statement.{statement}
 use Rattle.ait_read.proofs.places.scope_place.Tie as tie
 
+-- the places that stand before a place, by name
+abbrev start-of-at-match-keys2 : tie.At-match-keys2 → tie.Start
+start-of-at-match-keys2 c = c .before .before
+
 enum-told : tie.Need-enum-told
 enum-told c = search needs
 
@@ -25,7 +29,7 @@ returns c = c .common-place .ensures ∙ ap (λ (o : Scope). scopeAt o (c .befor
 
 returns-2 : tie.Need-returns-2
 unfolding scopeAt
-returns-2 c = c .own-place .ensures ∙ ap (λ (o : Scope). scopeAt o (c .before .before .before .before .before .args .s .now)) (sym (c .before .before .scope .given .1))
+returns-2 c = c .own-place .ensures ∙ ap (λ (o : Scope). scopeAt o (start-of-at-match-keys2 (c .before .before .before) .args .s .now)) (sym (c .before .before .scope .given .1))
 
 pub scope-place-spec : {M : Type 1} → statement M
 scope-place-spec =

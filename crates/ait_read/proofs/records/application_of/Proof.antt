@@ -5,6 +5,13 @@ use borrow.Author.Needs.{needs}
 use Rattle.ait_read.proofs.records.application_of.Statement.{statement}
 use Rattle.ait_read.proofs.records.application_of.Tie as tie
 
+-- the places that stand before a place, by name
+abbrev after-sixteen-at-of-after-class-of : tie.After-class-of → tie.After-sixteen-at
+after-sixteen-at-of-after-class-of c = c .before
+
+abbrev after-sixteen-at-of-after-own-count : tie.After-own-count → tie.After-sixteen-at
+after-sixteen-at-of-after-own-count c = after-sixteen-at-of-after-class-of (c .before .before .before .before)
+
 sixteen-at-requires : tie.Need-sixteen-at-requires
 sixteen-at-requires c κs = search needs
 
@@ -26,7 +33,7 @@ own-count-requires c κs = search needs
 returns : tie.Need-returns
 unfolding applicationOf
 returns c =
-    let number = c .before .before .before .before .before .sixteen-at .ensures .0 in
+    let number = after-sixteen-at-of-after-own-count c .sixteen-at .ensures .0 in
     let code = c .before .before .before .byte-at .ensures .0 in
     λ i. record {
       organisation = c .before .thirty-two-at .ensures .0 i;

@@ -9,6 +9,13 @@ use borrow.Author.Needs.{needs}
 use Rattle.ait_read.proofs.records.described_00.Statement.{statement}
 use Rattle.ait_read.proofs.records.described_00.Tie as tie
 
+-- the places that stand before a place, by name
+abbrev start-of-after-eight-at : tie.After-eight-at → tie.Start
+start-of-after-eight-at c = c .before .before
+
+abbrev start-of-after-repeated-count2 : tie.After-repeated-count2 → tie.Start
+start-of-after-repeated-count2 c = start-of-after-eight-at (c .before .before .before .before)
+
 eight-at-requires : tie.Need-eight-at-requires
 eight-at-requires c κs = search needs
 
@@ -33,7 +40,7 @@ repeated-count-requires-2 c κs = search needs
 returns : tie.Need-returns
 unfolding described00
 returns c =
-    let d = c .before .before .before .before .before .before .args .d .now in
+    let d = start-of-after-repeated-count2 c .args .d .now in
     let n = c .before .before .before .before .eight-at .ensures .0 in
     let flags = byte-past d 3 (c .before .before .before .byte-at .ensures .0) n in
     λ i.

@@ -6,6 +6,10 @@ use borrow.Author.Needs.{needs}
 use Rattle.ait_read.proofs.records.described_1.Statement.{statement}
 use Rattle.ait_read.proofs.records.described_1.Tie as tie
 
+-- the places that stand before a place, by name
+abbrev after-byte-at2-of-then1 : tie.Then1 → tie.After-byte-at2
+after-byte-at2-of-then1 c = c .before
+
 byte-at-requires : tie.Need-byte-at-requires
 byte-at-requires c κs = search needs
 
@@ -26,7 +30,7 @@ byte-at-requires-3 c κs = search needs
 
 returns : tie.Need-returns
 returns c =
-    let k = c .before .before .before .before .before in
+    let k = after-byte-at2-of-then1 (c .before .before .before .before) in
     (λ i.
     described.Remote (k .before .byte-at .ensures .0 i)
     (c .before .before .before .sixteen-at .ensures .0 i)
@@ -39,7 +43,8 @@ byte-at-requires-4 : tie.Need-byte-at-requires-4
 byte-at-requires-4 c κs = search needs
 
 returns-2 : tie.Need-returns-2
-returns-2 c = ap₂ described.Local (c .before .before .before .byte-at .ensures .0) (c .byte-at4 .ensures .0) ∙ is-local _ (λ e. c .before .if1 .left (top-is (c .before .before .byte-at2 .ensures) ∙ e))
+returns-2 c = ap₂ described.Local (c .before .before .before .byte-at .ensures .0) (c .byte-at4 .ensures .0)
+    ∙ is-local _ (λ e. c .before .if1 .left (top-is (c .before .before .byte-at2 .ensures) ∙ e))
 
 pub described-1-spec : {M : Type 1} → statement M
 described-1-spec =

@@ -14,6 +14,10 @@ use borrow.Author.Needs.{needs}
 use Rattle.ait_read.proofs.steps.count_within.Statement.{statement}
 use Rattle.ait_read.proofs.steps.count_within.Tie as tie
 
+-- the places that stand before a place, by name
+abbrev start-of-at-match-keys1 : tie.At-match-keys1 → tie.Start
+start-of-at-match-keys1 c = c .before .before
+
 enum-known-p : tie.Need-enum-known-p
 enum-known-p c = search needs
 
@@ -44,9 +48,10 @@ number-of-requires c κs = search needs
 
 returns-2 : tie.Need-returns-2
 returns-2 c =
-    let s = c .before .before .before .before .before .before .args .s .now in
+    let begin = start-of-at-match-keys1 (c .before .before .before .before) in
+    let s = begin .args .s .now in
     let k = c .before .before .before .p .given in
-    c .number-of .ensures ∙ ap (λ (l : List ℕ). number (testOf Any) (items (sizeOf (c .before .before .before .before .before .before .args .kind)) l)) (part s (k .0 .0) (k .0 .1 .0)) ∙ counted-at _ _ s _ _ (k .1)
+    c .number-of .ensures ∙ ap (λ (l : List ℕ). number (testOf Any) (items (sizeOf (begin .args .kind)) l)) (part s (k .0 .0) (k .0 .1 .0)) ∙ counted-at _ _ s _ _ (k .1)
 
 pub count-within-spec : {M : Type 1} → statement M
 count-within-spec =

@@ -10,6 +10,16 @@ use borrow.Author.Needs.{needs}
 use Rattle.ait_read.proofs.steps.list_in.Statement.{statement}
 use Rattle.ait_read.proofs.steps.list_in.Tie as tie
 
+-- the places that stand before a place, by name
+abbrev start-of-at-match-keys1 : tie.At-match-keys1 → tie.Start
+start-of-at-match-keys1 c = c .before .before
+
+abbrev start-of-else1 : tie.Else1 → tie.Start
+start-of-else1 c = start-of-at-match-keys1 (c .before .before .before)
+
+abbrev start-of-at-match-keys2 : tie.At-match-keys2 → tie.Start
+start-of-at-match-keys2 c = c .before .before
+
 enum-told : tie.Need-enum-told
 enum-told c = search needs
 
@@ -57,13 +67,13 @@ tagged-rest-requires-3 c κs = search needs
 
 returns-2 : tie.Need-returns-2
 returns-2 c =
-    let d = c .before .before .before .before .before .before .before .args .d .now in
+    let d = start-of-else1 (c .before .before) .args .d .now in
     c .bytes-at .ensures ∙ ap (λ (n : ℕ). bytes 3 n d) (c .before .eight-at .ensures .0) ∙ profiles-is d (omega arith) ∙ list-is d Profiles _ (c .before .before .before .before .enum-told .given .1)
 
 returns-3 : tie.Need-returns-3
 unfolding listIn
 returns-3 c =
-    let d = c .before .before .before .before .before .args .d .now in
+    let d = start-of-at-match-keys2 (c .before .before .before) .args .d .now in
     c .tagged-rest .ensures ∙ ap (λ (n : ℕ). taggedRest 0x00 (5 + n) d) (c .before .eight-at2 .ensures .0) ∙ list-is d Labels _ (c .before .before .enum-told2 .given .1)
 
 returns-4 : tie.Need-returns-4

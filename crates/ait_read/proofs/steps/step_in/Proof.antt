@@ -10,6 +10,13 @@ use borrow.Author.Needs.{needs}
 use Rattle.ait_read.proofs.steps.step_in.Statement.{statement}
 use Rattle.ait_read.proofs.steps.step_in.Tie as tie
 
+-- the places that stand before a place, by name
+abbrev start-of-at-match-keys2 : tie.At-match-keys2 → tie.Start
+start-of-at-match-keys2 c = c .before .before
+
+abbrev start-of-at-match-keys5 : tie.At-match-keys5 → tie.Start
+start-of-at-match-keys5 c = c .before .before
+
 enum-told : tie.Need-enum-told
 enum-told c = search needs
 
@@ -65,7 +72,7 @@ returns c = c .common-in .ensures ∙ step-is _ CommonLoop _ (c .before .enum-to
 returns-2 : tie.Need-returns-2
 unfolding stepIn loopIn
 returns-2 c =
-    let x = c .before .before .before .before .before .args .x .now in
+    let x = start-of-at-match-keys2 (c .before .before .before) .args .x .now in
     c .rest .ensures ∙ ap (λ (n : ℕ). after (4 + n) x) (c .before .twelve-at .ensures .0) ∙ step-is x ApplicationLoop _ (c .before .before .enum-told2 .given .1)
 
 returns-3 : tie.Need-returns-3
@@ -79,7 +86,7 @@ returns-4 c = c .list-in .ensures ∙ step-is _ (List _) _ (c .before .before .s
 returns-5 : tie.Need-returns-5
 unfolding stepIn extensionsIn
 returns-5 c =
-    let x = c .before .before .before .before .before .args .x .now in
+    let x = start-of-at-match-keys5 (c .before .before .before) .args .x .now in
     c .rest3 .ensures ∙ ap (λ (n : ℕ). after (2 + n) x) (c .before .eight-at .ensures .0) ∙ step-is x Extensions _ (c .before .before .enum-told4 .given .1)
 
 returns-6 : tie.Need-returns-6

@@ -10,6 +10,19 @@ use borrow.Author.Needs.{needs}
 use Rattle.ait_read.proofs.steps.within.Statement.{statement}
 use Rattle.ait_read.proofs.steps.within.Tie as tie
 
+-- the places that stand before a place, by name
+abbrev start-of-after-p : tie.After-p → tie.Start
+start-of-after-p c = c .before .before .before
+
+abbrev after-p-of-at-match2-keys2 : tie.At-match2-keys2 → tie.After-p
+after-p-of-at-match2-keys2 c = c .before .before .before .before
+
+abbrev after-p-of-at-match2-keys1 : tie.At-match2-keys1 → tie.After-p
+after-p-of-at-match2-keys1 c = c .before .before .before .before
+
+abbrev start-of-at-match2-keys1 : tie.At-match2-keys1 → tie.Start
+start-of-at-match2-keys1 c = start-of-after-p (c .before .before .before .before)
+
 enum-known-p : tie.Need-enum-known-p
 enum-known-p c = search needs
 
@@ -20,8 +33,12 @@ enum-told c = search needs
 fits : (c : tie.After-known-told) → c .before .p .given .0 .0 + c .before .p .given .0 .1 .0 ≤ length (c .before .before .before .before .args .s .now)
 fits c = c .before .before .before .before .pre _ _ (c .before .p .given .1)
 
-found : (c : tie.After-step-in) → c .step-in .result ≡ stepIn (c .before .before .before .before .before .before .args .step) (take (c .before .before .before .p .given .0 .1 .0) (drop (c .before .before .before .p .given .0 .0) (c .before .before .before .before .before .before .args .s .now)))
-found c = c .step-in .ensures ∙ ap (stepIn _) (part (c .before .before .before .before .before .before .args .s .now) (c .before .before .before .p .given .0 .0) (c .before .before .before .p .given .0 .1 .0))
+found : (c : tie.After-step-in) → let s = start-of-after-p (c .before .before .before) in
+    c .step-in .result ≡ stepIn (s .args .step)
+    (take (c .before .before .before .p .given .0 .1 .0) (drop (c .before .before .before .p .given .0 .0) (s .args .s .now)))
+found c = c .step-in .ensures ∙ ap (stepIn _)
+    (part (start-of-after-p (c .before .before .before) .args .s .now) (c .before .before .before .p .given .0 .0)
+    (c .before .before .before .p .given .0 .1 .0))
 
 returns : tie.Need-returns
 returns c = step-none _ _ _ (c .enum-told .given .1)
@@ -48,13 +65,17 @@ enum-told-2 : tie.Need-enum-told-2
 enum-told-2 c = search needs
 
 returns-2 : tie.Need-returns-2
-returns-2 c = step-lost _ _ _ _ _ (c .before .before .before .before .before .p .given .1) _ (found (c .before .before)) (c .enum-told2 .given .1)
+returns-2 c = step-lost _ _ _ _ _ (after-p-of-at-match2-keys2 (c .before) .p .given .1) _ (found (c .before .before)) (c .enum-told2 .given .1)
 
 add-at : tie.Need-add-at
-add-at c = omega (arith, step-fits _ _ _ _ _ (c .before .before .before .before .before .before .p .given .1) _ (found (c .before .before .before)) (c .before .before .before .before .before .before .before .before .before .pre) _ _ (c .before .b .given .1))
+add-at c = omega (
+  arith,
+  step-fits _ _ _ _ _ (after-p-of-at-match2-keys1 (c .before .before) .p .given .1) _ (found (c .before .before .before))
+      (start-of-at-match2-keys1 (c .before .before) .pre) _ _ (c .before .b .given .1),
+)
 
 returns-3 : tie.Need-returns-3
-returns-3 c = step-at _ _ _ _ _ (c .before .before .before .before .before .before .p .given .1) _ (found (c .before .before .before)) _ _ (c .before .b .given .1)
+returns-3 c = step-at _ _ _ _ _ (after-p-of-at-match2-keys1 (c .before .before) .p .given .1) _ (found (c .before .before .before)) _ _ (c .before .b .given .1)
 
 pub within-spec : {M : Type 1} → statement M
 within-spec =

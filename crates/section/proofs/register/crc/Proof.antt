@@ -18,6 +18,10 @@ Inv-loop s r₀ i₀ r i = (i ≤ length s) × (crcFrom r (drop i s) ≡ crcOf s
 abbrev μ-loop : tie.MeasureT-loop
 μ-loop s r₀ i₀ r i = length s - i
 
+-- the places that stand before a place, by name
+abbrev start-of-in-loop : tie.In-loop Inv-loop μ-loop → tie.Start Inv-loop μ-loop
+start-of-in-loop c = c .before .before .before
+
 loop-holds : tie.Need-loop-holds Inv-loop μ-loop
 unfolding crcOf
 loop-holds c = (omega arith, refl)
@@ -37,7 +41,7 @@ loop-less c = omega arith
 loop-again : tie.Need-loop-again Inv-loop μ-loop
 loop-again c =
     let h = c .before .before .before .loop in
-    let s = c .before .before .before .before .before .args .s .now in
+    let s = start-of-in-loop (c .before .before) .args .s .now in
     (omega arith, ap (λ (x : ℕ). crcFrom x (drop (h .i + 1) s)) (c .with-byte .ensures) ∙ sym (from-next (h .r) (h .i) s (omega arith)) ∙ h .inv .1)
 
 returns : tie.Need-returns Inv-loop μ-loop

@@ -1,4 +1,4 @@
--- `ait_descriptors::lists::fills` meets its contract: the invariant is wire's `Filling`.
+-- `ait_descriptors::kinds::fills` meets its contract: the invariant is wire's `Filling`.
 use borrow.Author.Needs.{needs}
 use Prim.Native.Nat.{_-_}
 use mathlib.Core.Path.{refl}
@@ -7,8 +7,8 @@ use lib.ListN.{length}
 use Rattle.ait_descriptors.specs.Kinds.{sizeOf}
 use Rattle.ait_descriptors.proofs.Laws.Kinds.{kind-of}
 use Rattle.wire.proofs.Laws.Loops.{Filling, fills-stop, fills-turn, fills-done}
-use Rattle.ait_descriptors.proofs.lists.fills.Statement.{statement}
-use Rattle.ait_descriptors.proofs.lists.fills.Tie as tie
+use Rattle.ait_descriptors.proofs.kinds.fills.Statement.{statement}
+use Rattle.ait_descriptors.proofs.kinds.fills.Tie as tie
 
 abbrev Inv-loop : tie.InvT-loop
 Inv-loop kind s i₀ i = Filling (sizeOf kind) s i
