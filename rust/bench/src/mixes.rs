@@ -1,8 +1,8 @@
 //! What is run over: stretches of at most 64 KiB, 64 MiB of them, of one kind of section.
 
-use compare::make::{Announcement, Block, Module};
 use compare::random::Random;
 use compare::tables;
+use make::{Announcement, Block, Module};
 
 /// The most bytes of a stretch: what the paper's program reads.
 const STRETCH: usize = 65_536;

@@ -1,7 +1,7 @@
 //! Carousels by chance: what is announced, the bytes of its modules, and sections of both, right and wrong.
 
-use crate::make::{Announcement, Block, Module, Section};
 use crate::random::Random;
+use make::{Announcement, Block, Module, Section};
 
 /// The most bytes of all modules together.
 pub const MOST_TOGETHER: usize = 65_536;

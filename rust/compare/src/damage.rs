@@ -1,8 +1,8 @@
 //! Damage to the bytes of a section that was made right. Most of it mends the CRC afterwards, since whatever
 //! leaves it wrong is refusal 5 and shows nothing of what lies deeper.
 
-use crate::make::{mend, BEFORE_LENGTH, CRC, MOST_TOLD};
 use crate::random::Random;
+use make::{mend, BEFORE_LENGTH, CRC, MOST_TOLD};
 
 /// The first bytes of a section hold the headers and most lengths of a message.
 const HEADERS: usize = 48;
@@ -143,7 +143,7 @@ fn headed(random: &mut Random, length: usize) -> Vec<u8> {
 #[cfg(test)]
 mod tests {
     use super::*;
-    use crate::make::{register, Section};
+    use make::{crc, Section};
 
     fn told(section: &[u8]) -> usize {
         usize::from(section[1] & 0x0F) << 8 | usize::from(section[2])
@@ -170,7 +170,7 @@ mod tests {
             lengthen(random, &mut section);
             mend(&mut section);
             assert_eq!(section.len(), BEFORE_LENGTH + told(&section));
-            assert_eq!(register(&section), 0);
+            assert_eq!(crc(&section), 0);
         }
     }
 

@@ -1,7 +1,7 @@
 //! A differential test: the proved receiver, `nebosvar`, beside the independent one, `baseline`, over made
 //! stretches of sections, valid, damaged and hostile. The paper (`01-scope.md`) decides who is right.
 //!
-//! * Making: [`random`], [`make`] (sections), [`tables`], [`carousels`], [`damage`], [`starts`] (records and
+//! * Making: [`random`], sections by the crate `make`, [`tables`], [`carousels`], [`damage`], [`starts`] (records and
 //!   images to start from), [`stretches`] (all of it put together).
 //! * Comparing: [`pair`] (both receivers side by side), [`walk`] (a whole stretch), [`reading`] (a table),
 //!   [`threads`] (all stretches).
@@ -16,7 +16,6 @@ pub mod carousels;
 pub mod counts;
 pub mod damage;
 pub mod difference;
-pub mod make;
 pub mod pair;
 pub mod random;
 pub mod reading;

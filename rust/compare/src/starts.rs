@@ -4,7 +4,6 @@
 use baseline::{Module, Record};
 
 use crate::carousels::{Carousel, MOST_BLOCKS, MOST_MODULES, MOST_TOGETHER};
-use crate::make;
 use crate::random::Random;
 
 /// How many clauses of the record's rule [`break_clause`] knows.

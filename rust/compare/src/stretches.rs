@@ -6,10 +6,10 @@ use baseline::Record;
 
 use crate::carousels::{wrong_block, Carousel};
 use crate::damage;
-use crate::make::BEFORE_LENGTH;
 use crate::random::Random;
 use crate::starts;
 use crate::tables;
+use make::BEFORE_LENGTH;
 
 /// What both receivers are lent.
 pub struct Case {

@@ -1,7 +1,7 @@
 //! Application sections by chance, with descriptors of every kind.
 
-use crate::make::{Section, APPLICATIONS, AROUND_BODY};
 use crate::random::Random;
+use make::{descriptor, table_body, Section, APPLICATIONS, AROUND_BODY};
 
 /// Tags with known contents, and some without.
 const TAGS: [u8; 10] = [0x00, 0x01, 0x02, 0x02, 0x02, 0x05, 0x15, 0x03, 0x16, 0xFF];
@@ -18,20 +18,6 @@ const MOST_DESCRIPTOR: usize = 257;
 /// The bytes of an application without descriptors, and of the two lengths in a body.
 const LEAST_APPLICATION: usize = 9;
 const TWO_LENGTHS: usize = 4;
-
-/// A descriptor: tag, length, contents.
-pub fn descriptor(tag: u8, contents: &[u8]) -> Vec<u8> {
-    let mut bytes = vec![tag, contents.len() as u8];
-    bytes.extend(contents);
-    bytes
-}
-
-/// Bytes after four reserved bits and a 12-bit length.
-fn with_length(bytes: &[u8], reserved: u16) -> Vec<u8> {
-    let mut all = (reserved | bytes.len() as u16).to_be_bytes().to_vec();
-    all.extend(bytes);
-    all
-}
 
 /// Bytes after an 8-bit length.
 fn text(random: &mut Random, most: usize) -> Vec<u8> {
@@ -159,23 +145,23 @@ pub fn application(random: &mut Random, faults: bool) -> Vec<u8> {
 
 /// An application with these descriptors.
 fn headed(random: &mut Random, descriptors: &[u8]) -> Vec<u8> {
-    let mut bytes = random.bytes(4);
+    let organisation = random.bytes(4).try_into().unwrap();
     let number = random.pick(&NUMBERS);
     let other = random.number() as u16;
-    bytes.extend(random.pick(&[number, other]).to_be_bytes());
-    bytes.push(random.pick(&[0, 1, 2, 3, 4, 5, 6, 7, 255]));
-    bytes.extend(with_length(descriptors, 0xF000));
-    bytes
+    let number = random.pick(&[number, other]);
+    let code = random.pick(&[0, 1, 2, 3, 4, 5, 6, 7, 255]);
+    make::application(u32::from_be_bytes(organisation), number, code, descriptors)
 }
 
 /// The section of these common descriptors and applications.
 pub fn section(random: &mut Random, common: &[Vec<u8>], applications: &[Vec<u8>]) -> Section {
     // The reserved bits are not checked, so they may be anything.
-    let mut body = with_length(&common.concat(), random.pick(&[0xF000, 0x0000, 0x5000]));
-    body.extend(with_length(&applications.concat(), 0xF000));
+    let mut body = table_body(&common.concat(), &applications.concat());
+    body[0] = body[0] & 0x0F | random.pick(&[0xF0, 0x00, 0x50]);
     let mut section = Section::new(APPLICATIONS, random.number() as u16, random.byte(), body);
     section.last = section.number.max(random.byte());
-    section.version = 1 | random.byte();
+    let byte = random.byte();
+    (section.reserved, section.version) = (byte & 0xC0, byte >> 1 & 31);
     section.flags = random.pick(&[0xF0, 0xB0, 0x80]);
     section
 }
@@ -243,7 +229,7 @@ pub fn any(random: &mut Random, faults: bool) -> Section {
 #[cfg(test)]
 mod tests {
     use super::*;
-    use crate::make::BEFORE_LENGTH;
+    use make::BEFORE_LENGTH;
 
     #[test]
     fn tables_without_faults_are_accepted() {

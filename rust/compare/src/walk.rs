@@ -6,11 +6,11 @@ use nebosvar::{Kind, Stop};
 
 use crate::counts::Counts;
 use crate::difference::{same, Same};
-use crate::make::APPLICATIONS;
 use crate::pair::{Pair, Passage};
 use crate::random::Random;
 use crate::reading;
 use crate::stretches::{sections, Case};
+use make::APPLICATIONS;
 
 /// Compares both receivers over a case. `random` says how sections are cut and where runs are split.
 pub fn compare(case: &Case, random: &mut Random, counts: &mut Counts) -> Same {

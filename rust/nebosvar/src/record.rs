@@ -53,7 +53,6 @@ impl Record {
     /// An announcement never looks at the image; a block needs one of the announced sizes together.
     ///
     /// ```
-    /// # mod make { include!(concat!(env!("CARGO_MANIFEST_DIR"), "/tests/calls/make.rs")); }
     /// # use make::{announcement, block};
     /// use nebosvar::{Kind, Record, Refusal};
     ///
@@ -89,7 +88,6 @@ impl Record {
     /// goes by the application section's rules, every other by the carousel's.
     ///
     /// ```
-    /// # mod make { include!(concat!(env!("CARGO_MANIFEST_DIR"), "/tests/calls/make.rs")); }
     /// # use make::{announcement, block};
     /// use nebosvar::{Record, Stop, Taken};
     ///
@@ -136,7 +134,6 @@ impl Record {
     /// taken, and the run goes on behind it.
     ///
     /// ```
-    /// # mod make { include!(concat!(env!("CARGO_MANIFEST_DIR"), "/tests/calls/make.rs")); }
     /// # use make::{announcement, block};
     /// use nebosvar::{Record, Stop};
     ///
@@ -174,7 +171,6 @@ impl Record {
     /// It can refuse with 1, 13, 15 and 20.
     ///
     /// ```
-    /// # mod make { include!(concat!(env!("CARGO_MANIFEST_DIR"), "/tests/calls/make.rs")); }
     /// # use make::{announcement, block};
     /// # use nebosvar::{Record, Refusal};
     /// let (mut record, mut image) = (Record::new(), [0; 6]);
@@ -201,7 +197,6 @@ impl Record {
     /// 1 and 13.
     ///
     /// ```
-    /// # mod make { include!(concat!(env!("CARGO_MANIFEST_DIR"), "/tests/calls/make.rs")); }
     /// # use make::{announcement, block};
     /// # use nebosvar::{Missing, Record, Refusal};
     /// let (mut record, mut image) = (Record::new(), [0; 6]);

@@ -236,7 +236,6 @@ pub enum Label {
 /// What is in the section is asked for by place, from 0:
 ///
 /// ```
-/// # mod make { include!(concat!(env!("CARGO_MANIFEST_DIR"), "/tests/calls/make.rs")); }
 /// use nebosvar::{application, descriptor, item, label, table};
 /// use nebosvar::{Control, Descriptor, Item, ItemKind, Label, Refusal, Scope};
 ///

@@ -1,6 +1,6 @@
 //! Refusals 7 and 18 of the application section. [`read`] and [`read_all`] must always agree.
 
-use crate::make::*;
+use crate::made::*;
 use baseline::{read, read_all, Table};
 
 /// The number both readings answer; 0 when accepted.
@@ -38,8 +38,8 @@ fn header_and_counts() {
         &[descriptor(0x99, &[1]), descriptor(0x15, &[])],
         &[application(1, 2, 3, &[described(&[])])],
     );
-    let mut sheet = Sheet::new(0x74, 0x8000 | 0x1234, 3, 250, body);
-    sheet.version = 21;
+    let mut sheet = Section::new(0x74, 0x8000 | 0x1234, 3, body);
+    (sheet.version, sheet.last) = (21, 250);
     let table = Table {
         test: 1,
         application: 0x1234,

@@ -1,11 +1,11 @@
 //! Refusals 12 to 17 and 20, "stored", "repeated", the hand-out and the missing report.
 
-use crate::make::*;
+use crate::made::*;
 use baseline::{Answer, Missing, Record};
 
 /// Module 5: 1,000 bytes, version 2; module 6: 800 bytes, version 9.
 fn held() -> Record {
-    announced(&Dii::new(7, 400, &[(5, 1_000, 2), (6, 800, 9)]))
+    announced(&Announcement::new(7, 400, &[(5, 1_000, 2), (6, 800, 9)]))
 }
 
 const TOGETHER: usize = 1_800;
@@ -13,17 +13,17 @@ const TOGETHER: usize = 1_800;
 #[test]
 fn twelve_no_announcement_or_another_download() {
     for download in [0, 7] {
-        let block = Ddb::new(download, 5, 2, 0, &[1; 400]).bytes();
+        let block = Block::new(download, 5, 2, 0, &[1; 400]).bytes();
         assert_eq!(refused(&Record::empty(), &block, &[]), 12);
     }
     let image = vec![0; TOGETHER];
     assert_eq!(
-        refused(&held(), &Ddb::new(8, 5, 2, 0, &[1; 400]).bytes(), &image),
+        refused(&held(), &Block::new(8, 5, 2, 0, &[1; 400]).bytes(), &image),
         12
     );
     // 12 before 13.
     assert_eq!(
-        refused(&held(), &Ddb::new(8, 1, 2, 0, &[1; 400]).bytes(), &image),
+        refused(&held(), &Block::new(8, 1, 2, 0, &[1; 400]).bytes(), &image),
         12
     );
 }
@@ -32,7 +32,7 @@ fn twelve_no_announcement_or_another_download() {
 fn thirteen_fourteen_fifteen_sixteen_in_order() {
     let short = vec![0; TOGETHER - 1];
     let exact = vec![0; TOGETHER];
-    let block = |module, version, number| Ddb::new(7, module, version, number, &[1; 399]).bytes();
+    let block = |module, version, number| Block::new(7, module, version, number, &[1; 399]).bytes();
     assert_eq!(refused(&held(), &block(0, 3, 9), &short), 13);
     assert_eq!(refused(&held(), &block(5, 3, 9), &short), 14);
     assert_eq!(refused(&held(), &block(5, 2, 9), &short), 15);
@@ -44,7 +44,7 @@ fn thirteen_fourteen_fifteen_sixteen_in_order() {
 
 #[test]
 fn fifteen_image_of_no_bytes_one_short_exact_longer() {
-    let block = Ddb::new(7, 5, 2, 0, &[1; 400]).bytes();
+    let block = Block::new(7, 5, 2, 0, &[1; 400]).bytes();
     assert_eq!(refused(&held(), &block, &[]), 15);
     // The block itself would fit.
     assert_eq!(refused(&held(), &block, &[0; 400]), 15);
@@ -63,7 +63,7 @@ fn sixteen_block_number_and_length() {
         let mut bytes = image.clone();
         let mut record = held();
         match record.step(
-            &Ddb::new(7, module, version, number, &data).bytes(),
+            &Block::new(7, module, version, number, &data).bytes(),
             &mut bytes,
         ) {
             Answer::Refused(number) => number,
@@ -100,7 +100,7 @@ fn stored_goes_to_its_place_and_sets_its_mark_alone() {
         (5, 2, 1, 400, 400, 1),
     ] {
         let data = vec![(mark % 200) as u8 + 1; length];
-        let block = Ddb::new(7, module, version, number, &data).bytes();
+        let block = Block::new(7, module, version, number, &data).bytes();
         assert_eq!(record.step(&block, &mut image), Answer::Stored);
         marks[mark / 32] |= 1 << (mark % 32);
         expected[begin..begin + length].copy_from_slice(&data);
@@ -116,7 +116,7 @@ fn stored_goes_to_its_place_and_sets_its_mark_alone() {
 #[test]
 fn adaptation_bytes_are_not_stored() {
     let (mut record, mut image) = (held(), vec![0; TOGETHER]);
-    let mut block = Ddb::new(7, 5, 2, 0, &[1; 400]);
+    let mut block = Block::new(7, 5, 2, 0, &[1; 400]);
     block.adaptation = vec![0xEE; 7];
     assert_eq!(record.step(&block.bytes(), &mut image), Answer::Stored);
     assert_eq!(image[..400], [1; 400]);
@@ -126,7 +126,7 @@ fn adaptation_bytes_are_not_stored() {
 #[test]
 fn seventeen_does_not_overwrite() {
     let (mut record, mut image) = (held(), vec![0; TOGETHER]);
-    let mut block = Ddb::new(7, 5, 2, 2, &[1; 200]);
+    let mut block = Block::new(7, 5, 2, 2, &[1; 200]);
     assert_eq!(record.step(&block.bytes(), &mut image), Answer::Stored);
     block.data[199] = 2;
     assert_eq!(refused(&record, &block.bytes(), &image), 17);
@@ -144,7 +144,7 @@ fn seventeen_does_not_overwrite() {
 #[test]
 fn two_copies_of_a_block_complete_nothing() {
     let (mut record, mut image) = (held(), vec![0; TOGETHER]);
-    let block = Ddb::new(7, 6, 9, 0, &[1; 400]).bytes();
+    let block = Block::new(7, 6, 9, 0, &[1; 400]).bytes();
     assert_eq!(record.step(&block, &mut image), Answer::Stored);
     assert_eq!(record.step(&block, &mut image), Answer::Repeated);
     assert_eq!(record.handout_number(&image, 6), 20);
@@ -163,7 +163,7 @@ fn hand_out() {
     for number in [1, 0] {
         assert_eq!(record.handout_number(&image, 6), 20);
         assert!(record.handout(&image, 6).is_empty());
-        let block = Ddb::new(7, 6, 9, number, &[number as u8 + 3; 400]).bytes();
+        let block = Block::new(7, 6, 9, number, &[number as u8 + 3; 400]).bytes();
         assert_eq!(record.step(&block, &mut image), Answer::Stored);
     }
     assert_eq!(record.handout_number(&image, 6), 0);
@@ -198,7 +198,11 @@ fn hand_out_and_missing_on_empty_and_broken_records() {
 
 #[test]
 fn missing_counts_and_finds_the_lowest_over_all_words() {
-    let mut record = announced(&Dii::new(7, 1, &[(1, 3, 0), (2, 256, 0), (3, 64, 0)]));
+    let mut record = announced(&Announcement::new(
+        7,
+        1,
+        &[(1, 3, 0), (2, 256, 0), (3, 64, 0)],
+    ));
     let mut image = vec![0; 323];
     assert_eq!(
         record.missing(2),
@@ -208,7 +212,7 @@ fn missing_counts_and_finds_the_lowest_over_all_words() {
         }
     );
     for block in 0..256u16 {
-        let bytes = Ddb::new(7, 2, 0, block, &[block as u8]).bytes();
+        let bytes = Block::new(7, 2, 0, block, &[block as u8]).bytes();
         assert_eq!(record.step(&bytes, &mut image), Answer::Stored);
         let expected = match 255 - usize::from(block) {
             0 => Missing::Whole,
@@ -230,7 +234,7 @@ fn missing_counts_and_finds_the_lowest_over_all_words() {
     for block in (0..64u16).rev() {
         let count = usize::from(block) + 1;
         assert_eq!(record.missing(3), Missing::Lacking { count, lowest: 0 });
-        let bytes = Ddb::new(7, 3, 0, block, &[1]).bytes();
+        let bytes = Block::new(7, 3, 0, block, &[1]).bytes();
         assert_eq!(record.step(&bytes, &mut image), Answer::Stored);
     }
     assert_eq!(record.missing(3), Missing::Whole);
@@ -238,16 +242,16 @@ fn missing_counts_and_finds_the_lowest_over_all_words() {
 
 #[test]
 fn a_block_number_past_255_never_aliases() {
-    let record = announced(&Dii::new(7, 1, &[(1, 256, 0), (2, 256, 0)]));
+    let record = announced(&Announcement::new(7, 1, &[(1, 256, 0), (2, 256, 0)]));
     let image = vec![0; 512];
     assert_eq!(
-        refused(&record, &Ddb::new(7, 1, 0, 256, &[1]).bytes(), &image),
+        refused(&record, &Block::new(7, 1, 0, 256, &[1]).bytes(), &image),
         16
     );
     assert_eq!(
         refused(
             &record,
-            &Ddb::new(7, 1, 0, 0x0100 * 255, &[1]).bytes(),
+            &Block::new(7, 1, 0, 0x0100 * 255, &[1]).bytes(),
             &image
         ),
         16

@@ -1,10 +1,10 @@
 //! Refusals 1 to 6, and the CRC.
 
-use crate::make::*;
+use crate::made::*;
 use baseline::{crc, read, Answer, Record};
 
-fn dii() -> Dii {
-    Dii::new(7, 400, &[(1, 1_000, 0)])
+fn dii() -> Announcement {
+    Announcement::new(7, 400, &[(1, 1_000, 0)])
 }
 
 fn step(section: &[u8]) -> u8 {
@@ -42,10 +42,10 @@ fn the_makers_make_the_vectors_of_sources() {
         0xBA,
     ];
     assert_eq!(ait(&[], &[]), empty);
-    let dii = Dii::new(1, 4, &[(1, 6, 0)]).bytes();
+    let dii = Announcement::new(1, 4, &[(1, 6, 0)]).bytes();
     assert_eq!(dii.len(), 3 + 0x33);
     assert_eq!(dii[dii.len() - 4..], [0x13, 0x99, 0x19, 0x34]);
-    let mut block = Ddb::new(1, 1, 0, 0, b"ABCD").sheet();
+    let mut block = Block::new(1, 1, 0, 0, b"ABCD").section();
     block.last = 1;
     assert_eq!(block.bytes()[30..], [0xAC, 0x72, 0x9B, 0x2F]);
 }
@@ -84,7 +84,7 @@ fn three_is_every_other_table() {
     for number in 0..=255 {
         let mut section = dii().bytes();
         section[0] = number;
-        let section = close(section);
+        let section = mended(section);
         let carousel = step(&section);
         match number {
             0x3B => assert_eq!(carousel, 0),
@@ -93,7 +93,7 @@ fn three_is_every_other_table() {
         }
         let mut section = ait(&[], &[]);
         section[0] = number;
-        assert_eq!(table(&close(section)), if number == 0x74 { 0 } else { 3 });
+        assert_eq!(table(&mended(section)), if number == 0x74 { 0 } else { 3 });
     }
     // 3 before 4.
     assert_eq!(step(&[0x74, 0, 0]), 3);
@@ -112,7 +112,7 @@ fn four_l_under_nine() {
     // L = 9 to 12 in an AIT passes 4 and is 7; L = 9 in a message too.
     for body in 0..4 {
         assert_eq!(table(&ait_of(vec![0; body])), 7);
-        assert_eq!(step(&Sheet::new(0x3B, 0, 0, 0, vec![0; body]).bytes()), 7);
+        assert_eq!(step(&Section::new(0x3B, 0, 0, vec![0; body]).bytes()), 7);
     }
 }
 
@@ -122,7 +122,7 @@ fn four_l_over_its_most() {
     assert_eq!(tables(1_021), 7);
     assert_eq!(tables(1_022), 4);
     assert_eq!(tables(4_095), 4);
-    let messages = |length: usize| step(&Sheet::new(0x3B, 0, 0, 0, vec![0; length - 9]).bytes());
+    let messages = |length: usize| step(&Section::new(0x3B, 0, 0, vec![0; length - 9]).bytes());
     assert_eq!(messages(4_093), 8);
     assert_eq!(messages(4_094), 4);
     assert_eq!(messages(4_095), 4);
@@ -131,7 +131,7 @@ fn four_l_over_its_most() {
 #[test]
 fn four_syntax_indicator_and_section_numbers() {
     for flags in 0..16 {
-        let mut sheet = dii().sheet();
+        let mut sheet = dii().section();
         sheet.flags = flags << 4;
         assert_eq!(step(&sheet.bytes()), if flags & 8 == 0 { 4 } else { 0 });
     }
@@ -143,23 +143,24 @@ fn four_syntax_indicator_and_section_numbers() {
         (1, 0, 4),
         (255, 254, 4),
     ] {
-        let mut sheet = dii().sheet();
+        let mut sheet = dii().section();
         (sheet.number, sheet.last) = (number, last);
         assert_eq!(step(&sheet.bytes()), answer);
-        let sheet = Sheet::new(0x74, 1, number, last, ait_body(&[], &[]));
+        let mut sheet = Section::new(0x74, 1, number, ait_body(&[], &[]));
+        sheet.last = last;
         assert_eq!(table(&sheet.bytes()), answer);
     }
 }
 
 #[test]
 fn four_before_five_before_six_before_seven() {
-    let mut sheet = Sheet::new(0x3B, 0, 1, 0, vec![]);
-    sheet.current = 0;
+    let mut sheet = Section::new(0x3B, 0, 1, vec![]);
+    (sheet.last, sheet.current) = (0, 0);
     let mut section = sheet.bytes();
     assert_eq!(step(&section), 4);
     section[6] = 0;
     assert_eq!(step(&section), 5);
-    let section = close(section);
+    let section = mended(section);
     assert_eq!(step(&section), 6);
     sheet.current = 1;
     sheet.number = 0;
@@ -187,10 +188,10 @@ fn six_and_unread_bits() {
         let mut section = dii().bytes();
         section[5] = byte;
         let answer = if byte & 1 == 0 { 6 } else { 0 };
-        assert_eq!(step(&close(section)), answer);
+        assert_eq!(step(&mended(section)), answer);
         let mut section = ait(&[], &[]);
         section[5] = byte;
-        let section = close(section);
+        let section = mended(section);
         assert_eq!(table(&section), answer);
         if answer == 0 {
             assert_eq!(read(&section).unwrap().version, byte >> 1 & 31);
@@ -200,7 +201,7 @@ fn six_and_unread_bits() {
 
 #[test]
 fn header_of_an_announcement_meets_no_check_but_four() {
-    let mut sheet = dii().sheet();
+    let mut sheet = dii().section();
     for extension in [0, 1, 2, 0xFFFF] {
         sheet.extension = extension;
         for (version, number) in [(0, 0), (31, 9), (5, 200)] {

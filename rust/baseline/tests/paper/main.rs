@@ -3,7 +3,7 @@
 mod applications;
 mod blocks;
 mod frames;
-mod make;
+mod made;
 mod messages;
 mod model;
 mod random;

@@ -1,6 +1,6 @@
 //! Refusals 7 to 11.
 
-use crate::make::*;
+use crate::made::*;
 use baseline::{Answer, Record};
 
 fn step(section: &[u8]) -> u8 {
@@ -12,7 +12,7 @@ fn step(section: &[u8]) -> u8 {
 }
 
 fn dii(block_size: u16, modules: &[Announced]) -> u8 {
-    step(&Dii::new(7, block_size, modules).bytes())
+    step(&Announcement::new(7, block_size, modules).bytes())
 }
 
 #[test]
@@ -20,18 +20,18 @@ fn a_body_under_twelve_is_seven_before_eight() {
     for table in [0x3B, 0x3C] {
         for length in 0..12 {
             let body = vec![0xAA; length];
-            assert_eq!(step(&Sheet::new(table, 0, 0, 0, body).bytes()), 7);
+            assert_eq!(step(&Section::new(table, 0, 0, body).bytes()), 7);
         }
         // From 12 on, 8 before every other 7: the message length is wrong here as well.
-        assert_eq!(step(&Sheet::new(table, 0, 0, 0, vec![0xAA; 12]).bytes()), 8);
+        assert_eq!(step(&Section::new(table, 0, 0, vec![0xAA; 12]).bytes()), 8);
     }
 }
 
 #[test]
 fn eight_first_bytes_and_message_number() {
-    let good = Dii::new(7, 400, &[(1, 1_000, 0)]).sheet();
+    let good = Announcement::new(7, 400, &[(1, 1_000, 0)]).section();
     for (at, value) in [(0, 0x10), (1, 0x02), (2, 0x11), (3, 0x03), (3, 0x06)] {
-        let mut sheet = Dii::new(7, 400, &[(1, 1_000, 0)]).sheet();
+        let mut sheet = Announcement::new(7, 400, &[(1, 1_000, 0)]).section();
         sheet.body[at] = value;
         assert_eq!(step(&sheet.bytes()), 8);
         sheet.body[10] ^= 1; // and a message length that is 7
@@ -39,7 +39,7 @@ fn eight_first_bytes_and_message_number() {
     }
     assert_eq!(step(&good.bytes()), 0);
     // The other table's message number.
-    let mut sheet = Ddb::new(7, 1, 0, 0, &[0]).sheet();
+    let mut sheet = Block::new(7, 1, 0, 0, &[0]).section();
     sheet.body[3] = 2;
     assert_eq!(step(&sheet.bytes()), 8);
     sheet.body[3] = 3;
@@ -50,8 +50,8 @@ fn eight_first_bytes_and_message_number() {
 fn seven_message_length_counts_up_to_the_crc() {
     for change in [-1i16, 1] {
         for mut sheet in [
-            Dii::new(7, 400, &[(1, 1_000, 0)]).sheet(),
-            Ddb::new(7, 1, 0, 0, &[1, 2]).sheet(),
+            Announcement::new(7, 400, &[(1, 1_000, 0)]).section(),
+            Block::new(7, 1, 0, 0, &[1, 2]).section(),
         ] {
             let length = i16::from_be_bytes([sheet.body[10], sheet.body[11]]) + change;
             sheet.body[10..12].copy_from_slice(&length.to_be_bytes());
@@ -66,19 +66,19 @@ fn seven_adaptation_past_the_message() {
     for adaptation in [8, 9, 255] {
         let mut body = message(0x1003, 7, &[], &[0; 8]);
         body[9] = adaptation;
-        assert_eq!(step(&Sheet::new(0x3C, 0, 0, 0, body).bytes()), 7);
+        assert_eq!(step(&Section::new(0x3C, 0, 0, body).bytes()), 7);
     }
     // Two adaptation bytes leave exactly the six fixed ones.
     let mut body = message(0x1003, 7, &[], &[0; 8]);
     body[9] = 2;
-    assert_eq!(step(&Sheet::new(0x3C, 0, 0, 0, body.clone()).bytes()), 12);
+    assert_eq!(step(&Section::new(0x3C, 0, 0, body.clone()).bytes()), 12);
     body[9] = 3;
-    assert_eq!(step(&Sheet::new(0x3C, 0, 0, 0, body).bytes()), 7);
+    assert_eq!(step(&Section::new(0x3C, 0, 0, body).bytes()), 7);
 }
 
 #[test]
 fn adaptation_bytes_are_passed_over() {
-    let mut dii = Dii::new(7, 400, &[(1, 1_000, 0)]);
+    let mut dii = Announcement::new(7, 400, &[(1, 1_000, 0)]);
     dii.adaptation = vec![0xEE; 255];
     assert_eq!(step(&dii.bytes()), 0);
     dii.adaptation = vec![0xEE];
@@ -87,38 +87,38 @@ fn adaptation_bytes_are_passed_over() {
 
 #[test]
 fn seven_announcement_cut_at_every_length_or_with_bytes_left() {
-    let mut dii = Dii::new(7, 400, &[(1, 1_000, 0), (2, 5, 1)]);
+    let mut dii = Announcement::new(7, 400, &[(1, 1_000, 0), (2, 5, 1)]);
     dii.compatibility = vec![1, 2, 3];
     dii.info = vec![4, 5];
     dii.private = vec![6];
     let content = dii.content();
-    assert_eq!(step(&dii_of(&content)), 0);
+    assert_eq!(step(&announcement_of(&content)), 0);
     for length in 0..content.len() {
-        assert_eq!(step(&dii_of(&content[..length])), 7, "{length}");
+        assert_eq!(step(&announcement_of(&content[..length])), 7, "{length}");
     }
-    assert_eq!(step(&dii_of(&[&content[..], &[0]].concat())), 7);
+    assert_eq!(step(&announcement_of(&[&content[..], &[0]].concat())), 7);
 }
 
 #[test]
 fn seven_before_ten_and_ten_before_eleven() {
     // blockSize 0 and a byte left over.
-    let bad = Dii::new(7, 0, &[(1, 1, 0), (1, 1, 0)]);
+    let bad = Announcement::new(7, 0, &[(1, 1, 0), (1, 1, 0)]);
     let content = bad.content();
-    assert_eq!(step(&dii_of(&[&content[..], &[0]].concat())), 7);
-    assert_eq!(step(&dii_of(&content)), 10);
+    assert_eq!(step(&announcement_of(&[&content[..], &[0]].concat())), 7);
+    assert_eq!(step(&announcement_of(&content)), 10);
     assert_eq!(dii(1, &[(1, 1, 0), (1, 1, 0)]), 11);
     // A count that runs past the end is 7, also far past sixteen.
-    let mut content = Dii::new(7, 4, &[(1, 1, 0); 20]).content();
+    let mut content = Announcement::new(7, 4, &[(1, 1, 0); 20]).content();
     content[18..20].copy_from_slice(&21u16.to_be_bytes());
-    assert_eq!(step(&dii_of(&content)), 7);
+    assert_eq!(step(&announcement_of(&content)), 7);
     content[18..20].copy_from_slice(&0xFFFFu16.to_be_bytes());
-    assert_eq!(step(&dii_of(&content)), 7);
+    assert_eq!(step(&announcement_of(&content)), 7);
     content[18..20].copy_from_slice(&20u16.to_be_bytes());
-    assert_eq!(step(&dii_of(&content)), 10);
+    assert_eq!(step(&announcement_of(&content)), 10);
     // A faulty module past the sixteenth is still 7.
     let place = content.len() - 2 - 1;
     content[place] = 3;
-    assert_eq!(step(&dii_of(&content)), 7);
+    assert_eq!(step(&announcement_of(&content)), 7);
 }
 
 #[test]
@@ -138,13 +138,13 @@ fn ten_count_of_modules() {
     assert_eq!(dii(1, &modules(16)), 0);
     assert_eq!(dii(1, &modules(17)), 10);
     // As many as one section can frame.
-    let most = Dii::new(7, 1, &modules(506)).bytes();
+    let most = Announcement::new(7, 1, &modules(506)).bytes();
     assert_eq!(most.len(), 3 + 43 + 8 * 506);
     assert_eq!(step(&most), 10);
     // 17 with a number twice are 10, never 11.
     assert_eq!(dii(1, &[(1, 1, 0); 17]), 10);
     // No module, and all else as in the empty record, is no "same".
-    assert_eq!(step(&Dii::new(0, 0, &[]).bytes()), 10);
+    assert_eq!(step(&Announcement::new::<Announced>(0, 0, &[]).bytes()), 10);
 }
 
 #[test]
@@ -184,9 +184,9 @@ fn eleven_number_twice() {
 
 #[test]
 fn same_and_new() {
-    let base = Dii::new(7, 400, &[(1, 1_000, 0), (2, 800, 3)]);
+    let base = Announcement::new(7, 400, &[(1, 1_000, 0), (2, 800, 3)]);
     let mut record = announced(&base);
-    let block = Ddb::new(7, 2, 3, 0, &[9; 400]);
+    let block = Block::new(7, 2, 3, 0, &[9; 400]);
     let mut image = vec![0; 1_800];
     assert_eq!(record.step(&block.bytes(), &mut image), Answer::Stored);
     let held = record;
@@ -198,21 +198,21 @@ fn same_and_new() {
     alike.private = vec![3; 2];
     alike.adaptation = vec![4];
     alike.identifier = 0;
-    let mut sheet = alike.sheet();
+    let mut sheet = alike.section();
     (sheet.version, sheet.number, sheet.last) = (9, 1, 2);
     assert_eq!(record.step(&sheet.bytes(), &mut image), Answer::Same);
     assert_eq!(record, held);
 
     // What does.
     let others = [
-        Dii::new(8, 400, &[(1, 1_000, 0), (2, 800, 3)]),
-        Dii::new(7, 401, &[(1, 1_000, 0), (2, 800, 3)]),
-        Dii::new(7, 400, &[(3, 1_000, 0), (2, 800, 3)]),
-        Dii::new(7, 400, &[(1, 1_001, 0), (2, 800, 3)]),
-        Dii::new(7, 400, &[(1, 1_000, 0), (2, 800, 4)]),
-        Dii::new(7, 400, &[(2, 800, 3), (1, 1_000, 0)]),
-        Dii::new(7, 400, &[(1, 1_000, 0)]),
-        Dii::new(7, 400, &[(1, 1_000, 0), (2, 800, 3), (3, 1, 0)]),
+        Announcement::new(8, 400, &[(1, 1_000, 0), (2, 800, 3)]),
+        Announcement::new(7, 401, &[(1, 1_000, 0), (2, 800, 3)]),
+        Announcement::new(7, 400, &[(3, 1_000, 0), (2, 800, 3)]),
+        Announcement::new(7, 400, &[(1, 1_001, 0), (2, 800, 3)]),
+        Announcement::new(7, 400, &[(1, 1_000, 0), (2, 800, 4)]),
+        Announcement::new(7, 400, &[(2, 800, 3), (1, 1_000, 0)]),
+        Announcement::new(7, 400, &[(1, 1_000, 0)]),
+        Announcement::new(7, 400, &[(1, 1_000, 0), (2, 800, 3), (3, 1, 0)]),
     ];
     for other in others {
         let (mut record, mut bytes) = (held, image.clone());
@@ -224,7 +224,7 @@ fn same_and_new() {
 
 #[test]
 fn a_new_record_is_as_the_paper_lays_it_out() {
-    let record = announced(&Dii::new(
+    let record = announced(&Announcement::new(
         9,
         400,
         &[(30, 1_000, 1), (10, 800, 2), (20, 1, 3)],
@@ -243,14 +243,14 @@ fn a_new_record_is_as_the_paper_lays_it_out() {
 
 #[test]
 fn nine_before_twelve_and_before_any_look_at_the_record() {
-    let good = Ddb::new(7, 0x0102, 0, 0x0203, &[1]);
-    let mut sheet = good.sheet();
+    let good = Block::new(7, 0x0102, 0, 0x0203, &[1]);
+    let mut sheet = good.section();
     assert_eq!(step(&sheet.bytes()), 12);
     sheet.extension = 0x0103;
     assert_eq!(step(&sheet.bytes()), 9);
     sheet.extension = 0x0202;
     assert_eq!(step(&sheet.bytes()), 9);
-    let mut sheet = good.sheet();
+    let mut sheet = good.section();
     (sheet.number, sheet.last) = (2, 255);
     assert_eq!(step(&sheet.bytes()), 9);
     (sheet.number, sheet.last) = (4, 255);
@@ -264,17 +264,17 @@ fn nine_before_twelve_and_before_any_look_at_the_record() {
     sheet.body[1] = 0;
     assert_eq!(step(&sheet.bytes()), 8);
     // The section's version meets no check.
-    let mut sheet = good.sheet();
+    let mut sheet = good.section();
     sheet.version = 31;
     assert_eq!(step(&sheet.bytes()), 12);
 }
 
 #[test]
 fn a_block_with_under_six_bytes_is_seven() {
-    let content = Ddb::new(7, 0, 0, 0, &[]).content();
+    let content = Block::new(7, 0, 0, 0, &[]).content();
     for length in 0..=6 {
         let body = message(0x1003, 7, &[], &content[..length]);
-        let answer = step(&Sheet::new(0x3C, 0, 0, 0, body).bytes());
+        let answer = step(&Section::new(0x3C, 0, 0, body).bytes());
         assert_eq!(answer, if length < 6 { 7 } else { 12 });
     }
 }

@@ -76,7 +76,7 @@ pub fn step(record: &Record, section: &[u8], image: &[u8]) -> (Answer, Record, V
     if !(9..=4_093).contains(&length) || section[1] < 0x80 || section[6] > section[7] {
         return refused(4);
     }
-    if crate::make::slow_crc(section) != 0 {
+    if make::crc(section) != 0 {
         return refused(5);
     }
     if section[5] & 1 == 0 {

@@ -1,6 +1,6 @@
 //! Laws over random input, from a small generator with a fixed seed.
 
-use crate::make::*;
+use crate::made::*;
 use crate::model;
 use baseline::{read, read_all, Answer, Fate, Missing, Passage, Record, Stop, Taken};
 
@@ -40,13 +40,13 @@ fn dii(dice: &mut Dice) -> Vec<u8> {
             (number, dice.pick(&[1, 8, 9, 12, 65_536, 0]), 0)
         })
         .collect();
-    let mut dii = Dii::new(
+    let mut dii = Announcement::new(
         dice.pick(&[7, 7, 8]),
         dice.pick(&[4, 4, 4_066, 0]),
         &modules,
     );
     if dice.one_in(4) {
-        dii = Dii::new(7, 4, &[(1, 9, 0), (2, 8, 1)]);
+        dii = Announcement::new(7, 4, &[(1, 9, 0), (2, 8, 1)]);
     }
     dii.info = dice.bytes(2);
     dii.compatibility = dice.bytes(2);
@@ -58,7 +58,7 @@ fn dii(dice: &mut Dice) -> Vec<u8> {
 fn ddb(dice: &mut Dice) -> Vec<u8> {
     let data = vec![dice.pick(&[1, 1, 1, 2]); dice.pick(&[4, 4, 4, 4, 1, 1, 0, 5])];
     let block = dice.pick(&[0, 1, 2, 0, 1, 2, 3, 256]);
-    let mut ddb = Ddb::new(
+    let mut ddb = Block::new(
         dice.pick(&[7, 7, 7, 7, 8]),
         dice.pick(&[1, 1, 2, 2, 3]),
         dice.pick(&[0, 0, 1]),
@@ -66,7 +66,7 @@ fn ddb(dice: &mut Dice) -> Vec<u8> {
         &data,
     );
     ddb.adaptation = dice.bytes(1);
-    let mut sheet = ddb.sheet();
+    let mut sheet = ddb.section();
     if dice.one_in(20) {
         sheet.extension ^= 1;
     }
@@ -135,7 +135,7 @@ fn spoil(dice: &mut Dice, mut section: Vec<u8>) -> Vec<u8> {
     if dice.one_in(8) {
         return section;
     }
-    close(section)
+    mended(section)
 }
 
 fn section(dice: &mut Dice) -> Vec<u8> {
@@ -159,7 +159,7 @@ fn the_step_agrees_with_the_model() {
         let mut record = Record::empty();
         let length = dice.pick(&[0, 16, 17, 17, 17, 40]);
         let mut image = vec![0xAA; length];
-        let mut section = Dii::new(7, 4, &[(1, 9, 0), (2, 8, 1)]).bytes();
+        let mut section = Announcement::new(7, 4, &[(1, 9, 0), (2, 8, 1)]).bytes();
         for _ in 0..60 {
             let expected = model::step(&record, &section, &image);
             let answer = record.step(&section, &mut image);
@@ -187,7 +187,7 @@ fn the_rule_agrees_with_the_model() {
     for _ in 0..4_000 {
         let sizes = dice.pick(&[&[9, 8][..], &[1], &[1_024, 4, 1, 600], &[128; 16]]);
         let modules: Vec<_> = (1..).zip(sizes).map(|(i, &size)| (i, size, 0)).collect();
-        let mut record = announced(&Dii::new(7, 4, &modules));
+        let mut record = announced(&Announcement::new(7, 4, &modules));
         if dice.one_in(5) {
             record = Record::empty();
         }
@@ -222,7 +222,11 @@ fn hand_out_and_missing_agree_with_the_marks() {
     for _ in 0..2_000 {
         let size = 1 + dice.below(600) as u32;
         let block_size = dice.pick(&[3, 4, 7, 100, 600]);
-        let mut record = announced(&Dii::new(7, block_size, &[(9, 5, 0), (4, size, 0)]));
+        let mut record = announced(&Announcement::new(
+            7,
+            block_size,
+            &[(9, 5, 0), (4, size, 0)],
+        ));
         let blocks = (size as usize).div_ceil(usize::from(block_size));
         let full = dice.one_in(3);
         for block in 0..blocks {
@@ -309,7 +313,7 @@ fn the_run_is_take_repeated_and_splits() {
     let mut dice = Dice(0x0005_EA5A_17C0_FFEE);
     let mut stops = vec![];
     for _ in 0..300 {
-        let mut stretch = Dii::new(7, 4, &[(1, 9, 0), (2, 8, 1)]).bytes();
+        let mut stretch = Announcement::new(7, 4, &[(1, 9, 0), (2, 8, 1)]).bytes();
         for _ in 0..dice.below(25) {
             stretch.extend(section(&mut dice));
         }

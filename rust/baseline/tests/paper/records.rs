@@ -1,16 +1,16 @@
 //! The record's rule, broken in each way it names.
 
-use crate::make::*;
+use crate::made::*;
 use baseline::{Missing, Record, Stop, Taken};
 
 fn held() -> Record {
-    announced(&Dii::new(7, 400, &[(5, 1_000, 2), (6, 800, 9)]))
+    announced(&Announcement::new(7, 400, &[(5, 1_000, 2), (6, 800, 9)]))
 }
 
 /// Every call on this record answers 1, or stops with "state".
 fn is_broken(record: &Record) {
     assert!(!record.is_ruled(), "{record:?}");
-    let section = Dii::new(7, 400, &[(5, 1_000, 2)]).bytes();
+    let section = Announcement::new(7, 400, &[(5, 1_000, 2)]).bytes();
     assert_eq!(refused(record, &section, &[0; 9]), 1);
     assert_eq!(record.handout_number(&[0; 9], 5), 1);
     assert!(record.handout(&[0; 9], 5).is_empty());
@@ -74,7 +74,7 @@ fn with_none_all_is_zero() {
 #[test]
 fn at_most_sixteen_modules() {
     let sixteen: Vec<_> = (1..=16).map(|i| (i, 1, 0)).collect();
-    let mut record = announced(&Dii::new(7, 4, &sixteen));
+    let mut record = announced(&Announcement::new(7, 4, &sixteen));
     for count in [17, 18, 255, 256, 272, 65_535] {
         record.count = count;
         is_broken(&record);
@@ -145,7 +145,11 @@ fn marks_past_a_last_block_are_zero() {
         breaks(|record| record.marks[8 + mark / 32] = 1 << (mark % 32));
     }
     for blocks in [1, 31, 32, 33, 63, 64, 65, 255, 256] {
-        let record = announced(&Dii::new(7, 2, &[(1, 1, 0), (2, 2 * blocks - 1, 0)]));
+        let record = announced(&Announcement::new(
+            7,
+            2,
+            &[(1, 1, 0), (2, 2 * blocks - 1, 0)],
+        ));
         for mark in 0..256 {
             let mut marked = record;
             marked.marks[8 + mark / 32] = 1 << (mark % 32);

@@ -1,21 +1,21 @@
 //! The paper's soundings, in its order.
 
-use crate::make::*;
+use crate::made::*;
 use baseline::table::{code_class, number_class, CodeClass, NumberClass};
 use baseline::{read, Answer, Missing, Record};
 
 fn dii(block_size: u16, modules: &[Announced]) -> Answer {
-    Record::empty().step(&Dii::new(7, block_size, modules).bytes(), &mut [])
+    Record::empty().step(&Announcement::new(7, block_size, modules).bytes(), &mut [])
 }
 
 /// A record and image with one module 1, version 0.
 fn one(size: u32, block_size: u16) -> (Record, Vec<u8>) {
-    let record = announced(&Dii::new(7, block_size, &[(1, size, 0)]));
+    let record = announced(&Announcement::new(7, block_size, &[(1, size, 0)]));
     (record, vec![0; size as usize])
 }
 
 fn block(held: &mut (Record, Vec<u8>), number: u16, length: usize) -> Answer {
-    let bytes = Ddb::new(7, 1, 0, number, &vec![5; length]).bytes();
+    let bytes = Block::new(7, 1, 0, number, &vec![5; length]).bytes();
     held.0.step(&bytes, &mut held.1)
 }
 
@@ -73,7 +73,7 @@ fn sizes_together() {
 #[test]
 fn a_4066_byte_block_has_l_4093() {
     let mut held = one(65_536, 4_066);
-    let bytes = Ddb::new(7, 1, 0, 0, &[5; 4_066]).bytes();
+    let bytes = Block::new(7, 1, 0, 0, &[5; 4_066]).bytes();
     assert_eq!(bytes.len(), 3 + 4_093);
     assert_eq!(block(&mut held, 0, 4_066), Answer::Stored);
 }
@@ -120,7 +120,7 @@ fn classes() {
 #[test]
 fn block_300_with_section_number_44() {
     let mut held = one(1_000, 400);
-    let mut sheet = Ddb::new(7, 1, 0, 300, &[5; 400]).sheet();
+    let mut sheet = Block::new(7, 1, 0, 300, &[5; 400]).section();
     assert_eq!(sheet.number, 44);
     assert_eq!(
         held.0.step(&sheet.bytes(), &mut held.1),

@@ -1,6 +1,6 @@
 //! The full reading of an application section.
 
-use crate::make::*;
+use crate::made::*;
 use baseline::read_all;
 use baseline::table::*;
 

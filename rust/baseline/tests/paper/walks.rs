@@ -1,6 +1,6 @@
 //! The run, one place at a time and as a whole, and the paper's printed example.
 
-use crate::make::*;
+use crate::made::*;
 use baseline::{Fate, Passage, Record, Stop, Taken};
 use std::fmt::Write;
 
@@ -41,10 +41,10 @@ fn print(stretch: &[u8]) -> String {
 #[test]
 fn the_printed_example() {
     let stretch = [
-        Dii::new(7, 400, &[(1, 1_000, 3)]).bytes(),
-        Ddb::new(7, 1, 3, 0, &[5; 400]).bytes(),
-        Ddb::new(7, 1, 3, 0, &[5; 400]).bytes(),
-        Ddb::new(7, 1, 4, 0, &[5; 400]).bytes(),
+        Announcement::new(7, 400, &[(1, 1_000, 3)]).bytes(),
+        Block::new(7, 1, 3, 0, &[5; 400]).bytes(),
+        Block::new(7, 1, 3, 0, &[5; 400]).bytes(),
+        Block::new(7, 1, 4, 0, &[5; 400]).bytes(),
     ]
     .concat();
     let expected = "index,answer,kind\n\
@@ -61,8 +61,8 @@ fn every_kind_and_a_stuffed_end() {
     let stretch = [
         ait(&[], &[]),
         ait(&[], &[application(1, 2, 1, &[])]),
-        Dii::new(7, 400, &[(1, 1_000, 3)]).bytes(),
-        Dii::new(7, 400, &[(1, 1_000, 3)]).bytes(),
+        Announcement::new(7, 400, &[(1, 1_000, 3)]).bytes(),
+        Announcement::new(7, 400, &[(1, 1_000, 3)]).bytes(),
         vec![0x42, 0x00, 0x01, 0x99],
         vec![0x3C, 0x00, 0x00],
         vec![0xFF; 9],
@@ -125,10 +125,10 @@ fn sections_of_l_4094_and_4095_are_taken_and_refused() {
 #[test]
 fn the_run_answers_taken_passed_and_stop() {
     let stretch = [
-        Dii::new(7, 400, &[(1, 600, 3)]).bytes(),
-        Ddb::new(7, 1, 3, 0, &[5; 400]).bytes(),
+        Announcement::new(7, 400, &[(1, 600, 3)]).bytes(),
+        Block::new(7, 1, 3, 0, &[5; 400]).bytes(),
         ait(&[], &[]),
-        Ddb::new(7, 1, 3, 1, &[6; 200]).bytes(),
+        Block::new(7, 1, 3, 1, &[6; 200]).bytes(),
     ]
     .concat();
     let mut record = Record::empty();

@@ -1,7 +1,7 @@
 //! The carousel record: steps, hand-outs and missing reports.
 
-use crate::make::{announcement, block};
 use crate::{block_7, block_9, drift, heard, DOWNLOAD};
+use make::{announcement, block};
 use nebosvar::{Kind, Missing, Module, Record, Refusal};
 
 #[test]
@@ -113,7 +113,7 @@ fn adaptation_bytes_are_no_data() {
     section[2] += 2; // L
     section[17] = 2; // adaptation length
     section[19] += 2; // message length
-    let section = crate::make::closed(section);
+    let section = make::closed(section);
     let (mut record, mut image) = heard(&[drift()], 1006);
     assert_eq!(record.step(&section, &mut image), Ok(Kind::Stored));
     assert_eq!(record.handout(&image, 9), Ok(&b"buoy 3"[..]));

@@ -1,7 +1,6 @@
 //! Every call of the crate. What is expected is worked out from the paper by hand.
 
 mod carousel;
-mod make;
 #[allow(dead_code)]
 #[path = "../../examples/receive.rs"]
 mod receive;

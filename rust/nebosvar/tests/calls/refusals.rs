@@ -1,7 +1,7 @@
 //! Refusals by number; each leaves the record and the image as they were.
 
-use crate::make::{announcement, block, closed, message, section, table, with};
 use crate::{block_7, block_9, drift, heard, DOWNLOAD};
+use make::{announcement, block, closed, message, section, table, with};
 use nebosvar::{Record, Refusal};
 
 /// The step refuses, and changes nothing.
@@ -155,7 +155,7 @@ fn malformed_7_and_messages_8() {
     refused_always(&with(&good, 19, good[19] + 1), Refusal::MALFORMED);
     refused_always(&with(&good, 19, good[19] - 1), Refusal::MALFORMED);
     refused_always(&with(&good, 17, 13), Refusal::MALFORMED);
-    let few = message(0x1003, DOWNLOAD, &[0, 9, 2, 0xFF, 0]);
+    let few = message(0x1003, DOWNLOAD, &[], &[0, 9, 2, 0xFF, 0]);
     refused_always(&section(0x3C, 9, 0, &few), Refusal::MALFORMED);
     let end = announced.len() - 4;
     refused_always(&with(&announced, end - 1, 1), Refusal::MALFORMED);
@@ -171,7 +171,7 @@ fn block_header_9() {
         0x3C,
         7,
         1,
-        &message(0x1003, DOWNLOAD, &[0, 7, 1, 0xFF, 0, 0, 5]),
+        &message(0x1003, DOWNLOAD, &[], &[0, 7, 1, 0xFF, 0, 0, 5]),
     );
     refused_always(&later, Refusal::BAD_BLOCK_HEADER); // section number 1, block 0
 }

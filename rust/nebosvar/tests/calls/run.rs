@@ -1,7 +1,7 @@
 //! Sections one after another: `take` and `run`.
 
-use crate::make::{section, table};
 use crate::{block_7, block_9, drift, heard, DOWNLOAD};
+use make::{section, table};
 use nebosvar::{Kind, Passage, Record, Refusal, Stop, Taken};
 
 /// What a budget leaves, by `take`.
@@ -35,7 +35,7 @@ fn takes(
 fn mixed() -> Vec<Vec<u8>> {
     let mut damaged = block_7(1, 400, 2);
     damaged[30] ^= 0x10;
-    let old = crate::make::block(DOWNLOAD, 9, 1, 0, b"gull 4");
+    let old = make::block(DOWNLOAD, 9, 1, 0, b"gull 4");
     vec![
         drift(),
         table(&[], &[]),
@@ -59,7 +59,7 @@ const FATES: [Result<Kind, Refusal>; 7] = [
 
 #[test]
 fn the_paper_s_example() {
-    let old = crate::make::block(DOWNLOAD, 7, 0, 0, &[1; 400]);
+    let old = make::block(DOWNLOAD, 7, 0, 0, &[1; 400]);
     let stretch = [drift(), block_7(0, 400, 1), block_7(0, 400, 1), old].concat();
     let (mut record, mut image) = (Record::new(), vec![0; 65_536]);
     let (fates, passage) = takes(&mut record, &stretch, &mut image, 65_536);
@@ -192,7 +192,7 @@ fn tables_go_by_their_own_rules() {
     let long = section(0x3C, 0, 0, &[0; 1013]);
     assert_eq!(head(&long), taken(1025, Err(Refusal::BAD_MESSAGE)));
     // An application without a 0x00 descriptor.
-    let bare = table(&[], &crate::make::application(1, 1, &[]));
+    let bare = table(&[], &make::application(0, 1, 1, &[]));
     let refusal = Refusal::NO_APPLICATION_DESCRIPTOR;
     assert_eq!(head(&bare), taken(25, Err(refusal)));
     // Neither a table nor of the carousel.

@@ -1,6 +1,6 @@
 //! The application section.
 
-use crate::make::{self, closed, with};
+use make::{self, closed, with};
 use nebosvar::{application, descriptor, extension, item, label, table};
 use nebosvar::{
     Application, Class, Control, Descriptor, Item, ItemKind, Label, Refusal, Scope, Table,
@@ -295,8 +295,8 @@ fn labels() {
         vec![0x02, 3, 0, 2, 5],
     ];
     let two = [
-        make::application(1, 1, &LEAST),
-        make::application(2, 1, &own.concat()),
+        make::application(0, 1, 1, &LEAST),
+        make::application(0, 2, 1, &own.concat()),
     ];
     let section = make::table(&commons.concat(), &two.concat());
     assert_eq!(label(&section, 1, 0), common(1));
@@ -307,7 +307,7 @@ fn labels() {
 #[test]
 fn classes() {
     let class_of = |number| {
-        let section = make::table(&[], &make::application(number, 1, &LEAST));
+        let section = make::table(&[], &make::application(0, number, 1, &LEAST));
         let found = application(&section, 0).unwrap();
         assert_eq!(found.number, number);
         found.class
@@ -325,7 +325,7 @@ fn classes() {
         assert_eq!(class_of(number), class);
     }
     for code in 0..=255 {
-        let section = make::table(&[], &make::application(1, code, &LEAST));
+        let section = make::table(&[], &make::application(0, 1, code, &LEAST));
         let found = application(&section, 0).unwrap();
         let control = match code {
             1 => Control::Autostart,
@@ -341,7 +341,7 @@ fn classes() {
 
 #[test]
 fn seventy_two_applications() {
-    let least = make::application(0x1234, 2, &LEAST);
+    let least = make::application(0, 0x1234, 2, &LEAST);
     assert_eq!(least.len(), 14);
     let section = make::table(&[], &least.repeat(72));
     assert_eq!(section.len(), 3 + 1021);
@@ -424,15 +424,15 @@ fn malformed_sections() {
         refused(&make::table(contents, &[]), Refusal::MALFORMED);
     }
     // 7 goes before 18.
-    let bare = make::application(1, 1, &[0x01, 1, 0]);
+    let bare = make::application(0, 1, 1, &[0x01, 1, 0]);
     refused(&make::table(&[], &bare), Refusal::MALFORMED);
 }
 
 #[test]
 fn exactly_one_application_descriptor() {
-    let none = make::application(1, 1, &[0x01, 0]);
-    let two = make::application(1, 1, &LEAST.repeat(2));
-    let one = make::application(1, 1, &LEAST);
+    let none = make::application(0, 1, 1, &[0x01, 0]);
+    let two = make::application(0, 1, 1, &LEAST.repeat(2));
+    let one = make::application(0, 1, 1, &LEAST);
     let refusal = Refusal::NO_APPLICATION_DESCRIPTOR;
     refused(&make::table(&[], &none), refusal);
     refused(&make::table(&[], &two), refusal);
