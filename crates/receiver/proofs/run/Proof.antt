@@ -151,7 +151,7 @@ returns-2 c =
     let e = run-ruled (s .c) (s .stretch .now) (s .image .now) (s .budget) (ruled (else1-of-then2 (c .before .before))) ∙ sym (l .inv .3)
     ∙ ap (ahead (l .taken) (l .passed)) (runs-stop _ _ _ _ z) ∙ ahead-halted (l .taken) (l .passed) _ _ _ in
     let p = ran-is (s .c) (s .stretch .now) (s .image .now) (s .budget) _ _ _ _ _ e in
-    (c .ended2 .ensures ∙ ap (ending (l .d) (l .taken) (l .passed)) (c .before .stop-at .ensures ∙ ap stopAt (rest (at))) ∙ p .0, p .1)
+    (c .ended2 .ensures ∙ ap (ending (l .d) (l .taken) (l .passed)) (c .before .stop-at .ensures ∙ ap stopAt (rest at)) ∙ p .0, p .1)
 
 slice-aggregate-give : tie.Need-slice-aggregate-give Inv-loop μ-loop
 slice-aggregate-give c = sym (length-take-le _ _ (c .before .before .whole-at .ensures .1))
@@ -178,7 +178,7 @@ loop-again c =
       fits (e .before),
       omega arith,
       c .before .before .before .give .kept .1 .1 .0 ∙ l .inv .2,
-      turned (s .stretch .now) (l .image) (l .d) (l .taken) (l .passed) (s .budget) _ _ _ _ (ap (take (e .before .whole-at .result)) (rest (at)))
+      turned (s .stretch .now) (l .image) (l .d) (l .taken) (l .passed) (s .budget) _ _ _ _ (ap (take (e .before .whole-at .result)) (rest at))
           (g .0) (g .1) (whole (e .before)) (e .if2 .left) (omega arith) ∙ l .inv .3,
     )
 
