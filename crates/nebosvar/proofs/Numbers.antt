@@ -73,7 +73,8 @@ use Rattle.receiver.specs.Run.{stopAt, wholeAt, givenOf, stoppedBy, numberOfFat
 use Rattle.receiver.proofs.Laws.Takes.{carousel-fate, took-number}
 use Rattle.receiver.proofs.Laws.Fates.{fate-tells}
 use Rattle.receiver.proofs.Laws.Refusals.{step-refused, step-some, table-some, take-some}
-use Rattle.nebosvar.specs.Box.{kindNumber, stopNumber, stepOut, whatOut, takeOut, partOut, lackOut}
+use Rattle.receiver.specs.Kinds.{kindNumber, stopNumber}
+use Rattle.nebosvar.specs.Box.{stepOut, whatOut, takeOut, partOut, lackOut}
 use Rattle.ait_numbers.specs.Reading.{tableOut, applicationOut, describedOut, descriptorOut, noPlace, itemAsked, foundOut, itemOut, extensionOut, labelOut}
 
 -- exactly one of refusal and kind is 0, where no refusal is

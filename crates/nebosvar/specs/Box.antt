@@ -7,13 +7,11 @@ use Rattle.carousel_handout.specs.declared.Report.{Report}
 use Rattle.carousel_handout.specs.declared.Report.the-variants as report
 use Rattle.carousel_step.specs.Step.{steppedOf}
 use Rattle.carousel_handout.specs.Calls.{handoutPlace}
-use Rattle.receiver.specs.declared.Stop.{Stop}
-use Rattle.receiver.specs.declared.Stop.the-variants as stop
 use Rattle.receiver.specs.declared.Fate.{Fate}
-use Rattle.receiver.specs.declared.Fate.the-variants as fate
 use Rattle.receiver.specs.declared.What.{What}
 use Rattle.receiver.specs.declared.What.the-variants as what
 use Rattle.receiver.specs.Run.{numberOfFate, carouselFate, tookOf, ranOf}
+use Rattle.receiver.specs.Kinds.{kindNumber, stopNumber}
 use Rattle.nebosvar.specs.declared.FateOut.{FateOut}
 use Rattle.nebosvar.specs.declared.TakenOut.{TakenOut}
 use Rattle.ait_numbers.specs.declared.PartOut.{PartOut}
@@ -21,23 +19,6 @@ use Rattle.nebosvar.specs.declared.LackOut.{LackOut}
 use Rattle.nebosvar.specs.declared.SteppedOut.{SteppedOut}
 use Rattle.nebosvar.specs.declared.TookOut.{TookOut}
 use Rattle.nebosvar.specs.declared.RanOut.{RanOut}
-
--- kinds: none 0, table 1, new 2, same 3, stored 4, repeated 5
-abbrev pub kindNumber : Fate → ℕ
-kindNumber (fate.Refused r) = 0
-kindNumber fate.Table = 1
-kindNumber fate.New = 2
-kindNumber fate.Same = 3
-kindNumber fate.Stored = 4
-kindNumber fate.Repeated = 5
-
--- stops: end 1, stuffing 2, short 3, budget 4, state 5; 0 is a section that was taken
-unfoldable pub stopNumber : Stop → ℕ
-stopNumber stop.End = 1
-stopNumber stop.Stuffing = 2
-stopNumber stop.Short = 3
-stopNumber stop.Budget = 4
-stopNumber stop.State = 5
 
 -- the paper's number (0: accepted), and the kind
 abbrev pub fateOut : Fate → FateOut

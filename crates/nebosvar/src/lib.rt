@@ -13,7 +13,6 @@ use ait_numbers::TableOut;
 use carousel_handout::Report;
 use carousel_record::Carousel;
 use receiver::Fate;
-use receiver::Stop;
 use receiver::What;
 ghost use mathlib.Core.Path.{_≡_};
 ghost use lib.ListN.{take, drop};
@@ -23,20 +22,7 @@ ghost use Rattle.carousel_step.specs.Step.{imageOf};
 ghost use Rattle.carousel_handout.specs.Calls.{handedOut, reportOf};
 ghost use Rattle.receiver.specs.Run.{imageTook, imageRan};
 ghost use Rattle.ait_numbers.specs.Reading.{tableOut, applicationOut, descriptorOut, itemAsked, itemOut, extensionOut, labelOut, scopeOf};
-ghost use Rattle.nebosvar.specs.Box.{fateOut, stopNumber, stepOut, whatOut, takeOut, runOut, partOut, lackOut};
-
-// The kinds of a section.
-const NONE: u8 = 0;
-
-const TABLE: u8 = 1;
-
-const NEW: u8 = 2;
-
-const SAME: u8 = 3;
-
-const STORED: u8 = 4;
-
-const REPEATED: u8 = 5;
+ghost use Rattle.nebosvar.specs.Box.{fateOut, stepOut, whatOut, takeOut, runOut, partOut, lackOut};
 
 // What became of a section: its refusal, 0 for none, and its kind.
 #[repr(C)]
@@ -243,7 +229,7 @@ fn run(c: Carousel, stretch: &[u8], image: &mut [u8], budget: usize) -> RanOut
     let out = PassageOut {
         taken: passage.taken,
         passed: passage.passed,
-        stop: stop_number(stop),
+        stop: receiver::stop_number(stop),
     };
     RanOut {
         answer: out,
@@ -288,25 +274,9 @@ fn missing(c: Carousel, number: u16) -> LackOut
 fn fate_out(f: Fate) -> FateOut
     ensures { λ r. ⌜ r ≡ fateOut f ⌝ }
 {
-    match f {
-        Fate::Table => accepted(TABLE),
-        Fate::New => accepted(NEW),
-        Fate::Same => accepted(SAME),
-        Fate::Stored => accepted(STORED),
-        Fate::Repeated => accepted(REPEATED),
-        Fate::Refused(r) => FateOut {
-            refusal: r.number,
-            kind: NONE,
-        },
-    }
-}
-
-fn accepted(kind: u8) -> FateOut
-    ensures { λ r. ⌜ r ≡ record { refusal = 0; kind = kind } ⌝ }
-{
     FateOut {
-        refusal: 0,
-        kind: kind,
+        refusal: receiver::fate_number(f),
+        kind: receiver::kind_number(f),
     }
 }
 
@@ -316,9 +286,9 @@ fn what_out(w: What) -> TakenOut
     match w {
         What::Stopped(stop) => TakenOut {
             length: 0,
-            stop: stop_number(stop),
+            stop: receiver::stop_number(stop),
             refusal: 0,
-            kind: NONE,
+            kind: 0,
         },
         What::Taken(x) => {
             let fate = x.fate;
@@ -330,17 +300,5 @@ fn what_out(w: What) -> TakenOut
                 kind: out.kind,
             }
         }
-    }
-}
-
-fn stop_number(s: Stop) -> u8
-    ensures { λ r. ⌜ r ≡ stopNumber s ⌝ }
-{
-    match s {
-        Stop::End => 1,
-        Stop::Stuffing => 2,
-        Stop::Short => 3,
-        Stop::Budget => 4,
-        Stop::State => 5,
     }
 }

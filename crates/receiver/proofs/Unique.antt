@@ -14,6 +14,12 @@ use Rattle.receiver.proofs.take.Kinds as take-kinds
 use Rattle.receiver.proofs.take.Reads as take-reads
 use Rattle.receiver.proofs.carousel_fate.Kinds as carousel-fate-kinds
 use Rattle.receiver.proofs.carousel_fate.Reads as carousel-fate-reads
+use Rattle.receiver.proofs.fate_number.Kinds as fate-number-kinds
+use Rattle.receiver.proofs.fate_number.Reads as fate-number-reads
+use Rattle.receiver.proofs.kind_number.Kinds as kind-number-kinds
+use Rattle.receiver.proofs.kind_number.Reads as kind-number-reads
+use Rattle.receiver.proofs.stop_number.Kinds as stop-number-kinds
+use Rattle.receiver.proofs.stop_number.Reads as stop-number-reads
 use Rattle.receiver.proofs.run.Kinds as run-kinds
 use Rattle.receiver.proofs.run.Reads as run-reads
 
@@ -26,6 +32,15 @@ take-image κs a x y s t p q = p .1 ∙ sym (q .1)
 
 carousel-fate : OneAnswer 0 carousel-fate-kinds.ps carousel-fate-kinds.r carousel-fate-reads.Post
 carousel-fate κs a x y s t p q = p ∙ sym q
+
+fate-number : OneAnswer 0 fate-number-kinds.ps fate-number-kinds.r fate-number-reads.Post
+fate-number κs a x y s t p q = p ∙ sym q
+
+kind-number : OneAnswer 0 kind-number-kinds.ps kind-number-kinds.r kind-number-reads.Post
+kind-number κs a x y s t p q = p ∙ sym q
+
+stop-number : OneAnswer 0 stop-number-kinds.ps stop-number-kinds.r stop-number-reads.Post
+stop-number κs a x y s t p q = p ∙ sym q
 
 run : OneAnswer 2 run-kinds.ps run-kinds.r run-reads.Post
 run κs a x y s t p q = p .0 ∙ sym (q .0)

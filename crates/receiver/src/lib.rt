@@ -13,7 +13,8 @@ ghost use mathlib.Core.Bool.{true};
 ghost use Prim.Native.Nat.{_≤_};
 ghost use lib.ListN.{length};
 ghost use Rattle.carousel_record.specs.Record.{ruledOf};
-ghost use Rattle.receiver.specs.Run.{stoppedBy, wholeAt, stopAt, givenOf, imageGiven, tookOf, imageTook, numberTook, tookNumber, ranOf, imageRan, tableFate, carouselFate};
+ghost use Rattle.receiver.specs.Run.{stoppedBy, wholeAt, stopAt, givenOf, imageGiven, tookOf, imageTook, numberTook, tookNumber, ranOf, imageRan, tableFate, carouselFate, numberOfFate};
+ghost use Rattle.receiver.specs.Kinds.{kindNumber, stopNumber};
 
 // The byte that fills a stretch after its last section.
 const STUFFING: u8 = 0xFF;
@@ -112,6 +113,47 @@ pub fn carousel_fate(a: Answer) -> Fate
         Answer::Stored => Fate::Stored,
         Answer::Repeated => Fate::Repeated,
         Answer::Refused(r) => Fate::Refused(r),
+    }
+}
+
+// The paper's number of what became of a section; 0 where it was accepted.
+pub fn fate_number(f: Fate) -> u8
+    ensures { λ r. ⌜ r ≡ numberOfFate f ⌝ }
+{
+    match f {
+        Fate::Table => 0,
+        Fate::New => 0,
+        Fate::Same => 0,
+        Fate::Stored => 0,
+        Fate::Repeated => 0,
+        Fate::Refused(r) => r.number,
+    }
+}
+
+// Its kind, as a number.
+pub fn kind_number(f: Fate) -> u8
+    ensures { λ r. ⌜ r ≡ kindNumber f ⌝ }
+{
+    match f {
+        Fate::Refused(_) => 0,
+        Fate::Table => 1,
+        Fate::New => 2,
+        Fate::Same => 3,
+        Fate::Stored => 4,
+        Fate::Repeated => 5,
+    }
+}
+
+// Why a run stops, as a number; 0 is none of them.
+pub fn stop_number(s: Stop) -> u8
+    ensures { λ r. ⌜ r ≡ stopNumber s ⌝ }
+{
+    match s {
+        Stop::End => 1,
+        Stop::Stuffing => 2,
+        Stop::Short => 3,
+        Stop::Budget => 4,
+        Stop::State => 5,
     }
 }
 

@@ -8,8 +8,8 @@ ghost use lib.ListN.{length};
 ghost use lib.Seq.{sets};
 ghost use Rattle.text.specs.Text.{reached};
 ghost use Rattle.carousel_record.specs.Changes.{emptyRecord};
-ghost use Rattle.receiver.specs.Run.{numberOfFate, imageRan};
-ghost use Rattle.report.specs.Report.{budget, printed, lineOf, lastLine, kindName, stopName};
+ghost use Rattle.receiver.specs.Run.{imageRan};
+ghost use Rattle.report.specs.Report.{budget, printed, lineOf, lastLine};
 
 // The sections that the program takes at most.
 const BUDGET: usize = 65_536;
@@ -50,56 +50,24 @@ pub fn write_report(stretch: &[u8], image: &mut [u8], out: &mut [u8]) -> usize
 fn put_line(out: &mut [u8], at: usize, index: usize, fate: Fate) -> usize
     ensures { λ r. ⌜ (now (out .exit) ≡ sets (now (out .entry)) at (lineOf index fate)) × (r ≡ reached at (length (lineOf index fate)) (length (now (out .entry)))) ⌝ }
 {
+    let number = receiver::fate_number(fate);
+    let kind = receiver::kind_number(fate);
     let mut end = text::put_decimal(out, at, index as u64);
     end = text::put(out, end, b",");
-    end = text::put_decimal(out, end, number(fate) as u64);
+    end = text::put_decimal(out, end, number as u64);
     end = text::put(out, end, b",");
-    end = put_kind(out, end, fate);
+    let kinds = b"none table new same stored repeated";
+    end = text::put_word(out, end, kinds, kind as usize);
     text::put(out, end, b"\n")
 }
 
 fn put_stop(out: &mut [u8], at: usize, stop: Stop) -> usize
     ensures { λ r. ⌜ (now (out .exit) ≡ sets (now (out .entry)) at (lastLine stop)) × (r ≡ reached at (length (lastLine stop)) (length (now (out .entry)))) ⌝ }
 {
+    let number = receiver::stop_number(stop);
     let mut end = text::put(out, at, b"stop,");
-    end = put_name(out, end, stop);
+    // no stop has number 0
+    let stops = b"- end stuffing short budget state";
+    end = text::put_word(out, end, stops, number as usize);
     text::put(out, end, b"\n")
-}
-
-fn number(fate: Fate) -> u8
-    ensures { λ r. ⌜ r ≡ numberOfFate fate ⌝ }
-{
-    match fate {
-        Fate::Table => 0,
-        Fate::New => 0,
-        Fate::Same => 0,
-        Fate::Stored => 0,
-        Fate::Repeated => 0,
-        Fate::Refused(r) => r.number,
-    }
-}
-
-fn put_kind(out: &mut [u8], at: usize, fate: Fate) -> usize
-    ensures { λ r. ⌜ (now (out .exit) ≡ sets (now (out .entry)) at (kindName fate)) × (r ≡ reached at (length (kindName fate)) (length (now (out .entry)))) ⌝ }
-{
-    match fate {
-        Fate::Table => text::put(out, at, b"table"),
-        Fate::New => text::put(out, at, b"new"),
-        Fate::Same => text::put(out, at, b"same"),
-        Fate::Stored => text::put(out, at, b"stored"),
-        Fate::Repeated => text::put(out, at, b"repeated"),
-        Fate::Refused(_) => text::put(out, at, b"none"),
-    }
-}
-
-fn put_name(out: &mut [u8], at: usize, stop: Stop) -> usize
-    ensures { λ r. ⌜ (now (out .exit) ≡ sets (now (out .entry)) at (stopName stop)) × (r ≡ reached at (length (stopName stop)) (length (now (out .entry)))) ⌝ }
-{
-    match stop {
-        Stop::End => text::put(out, at, b"end"),
-        Stop::Stuffing => text::put(out, at, b"stuffing"),
-        Stop::Short => text::put(out, at, b"short"),
-        Stop::Budget => text::put(out, at, b"budget"),
-        Stop::State => text::put(out, at, b"state"),
-    }
 }

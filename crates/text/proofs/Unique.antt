@@ -6,6 +6,8 @@ use denote.Triple.Clauses.{AtExit}
 use Rattle.wire.proofs.Once.{OneAnswer}
 use Rattle.text.proofs.put.Kinds as put-kinds
 use Rattle.text.proofs.put.Reads as put-reads
+use Rattle.text.proofs.put_word.Kinds as word-kinds
+use Rattle.text.proofs.put_word.Reads as word-reads
 use Rattle.text.proofs.put_decimal.Kinds as decimal-kinds
 use Rattle.text.proofs.put_decimal.Reads as decimal-reads
 
@@ -15,6 +17,13 @@ put κs a x y s t p q = p .1 ∙ sym (q .1)
 put-text : (κs : Lfts 2) (a : Dens κs put-kinds.ps) (x y : resT put-kinds.r κs .Denot) (s t : AtExit (endedOf 2 put-kinds.ps put-kinds.r) κs)
     → put-reads.Post κs a x s → put-reads.Post κs a y t → s .0 .now ≡ t .0 .now
 put-text κs a x y s t p q = p .0 ∙ sym (q .0)
+
+put-word : OneAnswer 2 word-kinds.ps word-kinds.r word-reads.Post
+put-word κs a x y s t p q = p .1 ∙ sym (q .1)
+
+put-word-text : (κs : Lfts 2) (a : Dens κs word-kinds.ps) (x y : resT word-kinds.r κs .Denot) (s t : AtExit (endedOf 2 word-kinds.ps word-kinds.r) κs)
+    → word-reads.Post κs a x s → word-reads.Post κs a y t → s .0 .now ≡ t .0 .now
+put-word-text κs a x y s t p q = p .0 ∙ sym (q .0)
 
 put-decimal : OneAnswer 1 decimal-kinds.ps decimal-kinds.r decimal-reads.Post
 put-decimal κs a x y s t p q = p .1 ∙ sym (q .1)

@@ -5,7 +5,7 @@ use Prim.Native.String.{String}
 use Prim.Native.String.{[] as String·[], _∷_ as _String·∷_}
 use mathlib.Core.Bool.{cond}
 use mathlib.Core.List.{List, [], _∷_, _++_}
-use lib.Dec.{ltb}
+use lib.Dec.{eqb, ltb}
 
 -- THE CODES OF A QUOTED TEXT
 abbrev pub codes : String → List ℕ
@@ -17,6 +17,12 @@ codes (c String·∷ s) = code c ∷ codes s
 -- the place after it: no further than the room
 unfoldable pub reached : (at size room : ℕ) → ℕ
 reached at size room = cond (ltb (at + size) room) (at + size) (cond (ltb at room) room at)
+
+-- WORD k OF A TEXT whose words stand apart by single spaces, counted from 0; nothing where it has fewer
+unfoldable pub wordAt : ℕ → List ℕ → List ℕ
+wordAt k [] = []
+wordAt zero (c ∷ cs) = cond (eqb c 32) [] (c ∷ wordAt zero cs)
+wordAt (suc k) (c ∷ cs) = cond (eqb c 32) (wordAt k cs) (wordAt (suc k) cs)
 
 -- A NUMBER IN DECIMAL DIGITS, the fewest, the greatest first. 01, "Soundings": "index,answer,kind"
 

@@ -1,12 +1,13 @@
-// Text in lent bytes: a piece, or a number in decimal digits, put at a place. What there is no room
-// for is left out. Nothing here is of DVB.
+// Text in lent bytes: a piece, a word by its number, or a number in decimal digits, put at a place.
+// What there is no room for is left out. Nothing here is of DVB.
 //
 // The bytes are defined in specs/Text.antt.
 ghost use mathlib.Core.Path.{_≡_};
 ghost use mathlib.Core.List.{_∷_, []};
-ghost use lib.ListN.{length, set};
+ghost use Prim.Native.Nat.{_≤_};
+ghost use lib.ListN.{length, set, take, drop};
 ghost use lib.Seq.{sets};
-ghost use Rattle.text.specs.Text.{reached, decimal};
+ghost use Rattle.text.specs.Text.{reached, wordAt, decimal};
 
 // Puts a piece of text at a place, and answers the place after it.
 pub fn put(out: &mut [u8], at: usize, piece: &[u8]) -> usize
@@ -22,6 +23,18 @@ pub fn put(out: &mut [u8], at: usize, piece: &[u8]) -> usize
     end
 }
 
+// Puts word k of a text whose words stand apart by single spaces, nothing where it has fewer, and
+// answers the place after it.
+pub fn put_word(out: &mut [u8], at: usize, words: &[u8], k: usize) -> usize
+    ensures { λ r. ⌜ (now (out .exit) ≡ sets (now (out .entry)) at (wordAt k (now (words .entry))))
+        × (r ≡ reached at (length (wordAt k (now (words .entry)))) (length (now (out .entry)))) ⌝ }
+{
+    let start = word_start(words, k);
+    let rest = &words[start..];
+    let n = word_length(rest);
+    put(out, at, &rest[..n])
+}
+
 // Puts a number's decimal digits at a place, and answers the place after them.
 pub fn put_decimal(out: &mut [u8], at: usize, n: u64) -> usize
     ensures { λ r. ⌜ (now (out .exit) ≡ sets (now (out .entry)) at (decimal n)) × (r ≡ reached at (length (decimal n)) (length (now (out .entry)))) ⌝ }
@@ -31,6 +44,38 @@ pub fn put_decimal(out: &mut [u8], at: usize, n: u64) -> usize
     }
     let next = put_decimal(out, at, n / 10);
     put_byte(out, next, 48 + (n % 10) as u8)
+}
+
+// Where word k begins.
+fn word_start(words: &[u8], k: usize) -> usize
+    ensures { λ r. ⌜ (r ≤ length (now (words .entry))) × (wordAt 0 (drop r (now (words .entry))) ≡ wordAt k (now (words .entry))) ⌝ }
+{
+    let mut left = k;
+    let mut i: usize = 0;
+    while i < words.len() {
+        if left == 0 {
+            return i;
+        }
+        if words[i] == b' ' {
+            left -= 1;
+        }
+        i += 1;
+    }
+    i
+}
+
+// How long the word is that a text begins with.
+fn word_length(s: &[u8]) -> usize
+    ensures { λ r. ⌜ (r ≤ length (now (s .entry))) × (take r (now (s .entry)) ≡ wordAt 0 (now (s .entry))) ⌝ }
+{
+    let mut i: usize = 0;
+    while i < s.len() {
+        if s[i] == b' ' {
+            return i;
+        }
+        i += 1;
+    }
+    i
 }
 
 fn put_byte(out: &mut [u8], at: usize, byte: u8) -> usize

@@ -1,8 +1,8 @@
--- `nebosvar::stop_number` meets its contract, case by case.
-use Rattle.nebosvar.specs.Box.{stopNumber}
+-- `stop_number` meets its contract, case by case.
+use Rattle.receiver.specs.Kinds.{stopNumber}
 use borrow.Author.Needs.{needs}
-use Rattle.nebosvar.proofs.stop_number.Statement.{statement}
-use Rattle.nebosvar.proofs.stop_number.Tie as tie
+use Rattle.receiver.proofs.stop_number.Statement.{statement}
+use Rattle.receiver.proofs.stop_number.Tie as tie
 
 enum-told : tie.Need-enum-told
 enum-told c = search needs
