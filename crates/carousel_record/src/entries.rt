@@ -7,7 +7,8 @@ ghost use Prim.Native.Nat.{_+_, _≤_};
 ghost use lib.ListN.{drop, take};
 ghost use Rattle.carousel_messages.specs.Limits as limits;
 ghost use Rattle.carousel_messages.specs.Limits.{mostModules};
-ghost use Rattle.carousel_record.specs.Record.{listedIn, sizesOf, numbersOf, placeIn};
+ghost use Rattle.carousel_messages.specs.Heard.{sizesOf, numbersOf, placeIn};
+ghost use Rattle.carousel_record.specs.Record.{listedIn};
 
 // The sizes together.
 pub fn total(ms: [Module; MOST_MODULES], n: usize) -> usize

@@ -14,7 +14,8 @@ ghost use lib.ListN.{drop, take};
 ghost use Rattle.carousel_messages.specs.Limits.{mostModules, beyond10};
 ghost use Rattle.carousel_record.specs.Blocks.{blocksOf};
 ghost use Rattle.carousel_record.specs.Marks.{marksWithin};
-ghost use Rattle.carousel_record.specs.Record.{announcedBy, listedIn, startIn, sizesOf, sums, sameNumbers, isUnused, allUnused, withinLimits, ruledOf};
+ghost use Rattle.carousel_messages.specs.Heard.{sizesOf};
+ghost use Rattle.carousel_record.specs.Record.{announcedBy, listedIn, startIn, sums, sameNumbers, isUnused, allUnused, withinLimits, ruledOf};
 
 // The words of one module's marks: 256, 32 to a word.
 const MODULE_WORDS: usize = 8;

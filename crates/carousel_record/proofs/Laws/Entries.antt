@@ -14,7 +14,8 @@ use Rattle.carousel_messages.specs.Limits.{someBad, total, among, twice11}
 use Rattle.carousel_record.specs.declared.Module.{Module}
 use Rattle.carousel_record.specs.Blocks.{blocksOf}
 use Rattle.carousel_record.specs.Marks.{clearFrom, marksWithin}
-use Rattle.carousel_record.specs.Record.{listedIn, startIn, sizesOf, numbersOf, placeIn, sums, sameNumbers, unused, isUnused, allUnused}
+use Rattle.carousel_messages.specs.Heard.{sizesOf, numbersOf, placeIn}
+use Rattle.carousel_record.specs.Record.{listedIn, startIn, sums, sameNumbers, unused, isUnused, allUnused}
 use Rattle.carousel_record.proofs.Laws.Places.{among-place}
 
 module _ (ms : List Module) (n : ℕ) (h : n ≤ length ms) where

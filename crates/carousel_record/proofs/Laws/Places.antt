@@ -10,8 +10,8 @@ use borrow.Author.Tests.{eq-eqb, ne-eqb, eqb-true, eqb-false, lt-ltb, ltb-false}
 use Rattle.wire.proofs.Laws.Tests.{both, neither, clash}
 use Rattle.carousel_messages.specs.declared.Listed.{Listed}
 use Rattle.carousel_messages.specs.Limits.{largestBlock, mostModules, mostBlocks, mostBytes, badSize, someBad, total, beyond10, among, twice11}
-use Rattle.carousel_messages.specs.Heard.{noneListed}
-use Rattle.carousel_record.specs.Record.{sizesOf, numbersOf, placeIn, sums, sameNumbers}
+use Rattle.carousel_messages.specs.Heard.{noneListed, sizesOf, numbersOf, placeIn}
+use Rattle.carousel_record.specs.Record.{sums, sameNumbers}
 
 -- the same numbers are the same list
 pub same-is : (xs ys : List ℕ) → sameNumbers xs ys ≡ true → xs ≡ ys

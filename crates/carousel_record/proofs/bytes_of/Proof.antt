@@ -3,7 +3,8 @@ use mathlib.Core.Path.{ap, _∙_}
 use mathlib.Core.List.{List, map}
 use Rattle.carousel_messages.specs.Limits as limits
 use Rattle.carousel_record.specs.declared.Module.{Module}
-use Rattle.carousel_record.specs.Record.{announcedBy, listedIn, sizesOf}
+use Rattle.carousel_messages.specs.Heard.{sizesOf}
+use Rattle.carousel_record.specs.Record.{announcedBy, listedIn}
 use borrow.Author.Needs.{needs}
 use Rattle.carousel_record.proofs.bytes_of.Statement.{statement}
 use Rattle.carousel_record.proofs.bytes_of.Tie as tie

@@ -3,7 +3,8 @@ use mathlib.Core.Path.{ap}
 use mathlib.Core.List.{List, map}
 use native.Mathlib.Omega.{arith}
 use Rattle.carousel_record.specs.declared.Module.{Module}
-use Rattle.carousel_record.specs.Record.{announcedBy, listedIn, placeIn}
+use Rattle.carousel_messages.specs.Heard.{placeIn}
+use Rattle.carousel_record.specs.Record.{announcedBy, listedIn}
 use borrow.Author.Needs.{needs}
 use Rattle.carousel_record.proofs.place_of.Statement.{statement}
 use Rattle.carousel_record.proofs.place_of.Tie as tie

@@ -6,7 +6,8 @@ use Prim.Native.Nat.{_-_, _≤_}
 use native.Mathlib.Omega.{arith}
 use lib.ListN.{length, take, drop}
 use Rattle.carousel_messages.specs.Limits as limits
-use Rattle.carousel_record.specs.Record.{listedIn, numbersOf}
+use Rattle.carousel_messages.specs.Heard.{numbersOf}
+use Rattle.carousel_record.specs.Record.{listedIn}
 use Rattle.carousel_record.proofs.Laws.Entries.{twice-hit, twice-next, twice-done}
 use Rattle.carousel_record.proofs.entries.has_twice.Statement.{statement}
 use Rattle.carousel_record.proofs.entries.has_twice.Tie as tie

@@ -5,7 +5,8 @@ use mathlib.Core.List.{map}
 use Prim.Native.Nat.{_+_, _-_, _≤_}
 use native.Mathlib.Omega.{arith}
 use lib.ListN.{length, take, drop}
-use Rattle.carousel_record.specs.Record.{listedIn, placeIn}
+use Rattle.carousel_messages.specs.Heard.{placeIn}
+use Rattle.carousel_record.specs.Record.{listedIn}
 use Rattle.carousel_record.proofs.Laws.Entries.{place-hit, place-next, place-done}
 use Rattle.carousel_record.proofs.entries.place_from.Statement.{statement}
 use Rattle.carousel_record.proofs.entries.place_from.Tie as tie

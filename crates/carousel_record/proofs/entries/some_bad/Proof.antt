@@ -6,7 +6,8 @@ use Prim.Native.Nat.{_-_, _≤_}
 use native.Mathlib.Omega.{arith}
 use lib.ListN.{length, take, drop}
 use Rattle.carousel_messages.specs.Limits as limits
-use Rattle.carousel_record.specs.Record.{listedIn, sizesOf}
+use Rattle.carousel_messages.specs.Heard.{sizesOf}
+use Rattle.carousel_record.specs.Record.{listedIn}
 use Rattle.carousel_record.proofs.Laws.Entries.{bad-zero, bad-large, bad-next, bad-done}
 use Rattle.carousel_record.proofs.entries.some_bad.Statement.{statement}
 use Rattle.carousel_record.proofs.entries.some_bad.Tie as tie

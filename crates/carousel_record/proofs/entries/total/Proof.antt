@@ -5,7 +5,8 @@ use Prim.Native.Nat.{_+_, _-_, _*_, _≤_}
 use native.Mathlib.Omega.{arith}
 use lib.ListN.{length, take, drop}
 use Rattle.carousel_messages.specs.Limits as limits
-use Rattle.carousel_record.specs.Record.{listedIn, sizesOf}
+use Rattle.carousel_messages.specs.Heard.{sizesOf}
+use Rattle.carousel_record.specs.Record.{listedIn}
 use Rattle.carousel_record.proofs.Laws.Entries.{total-next, total-done}
 use Rattle.carousel_record.proofs.entries.total.Statement.{statement}
 use Rattle.carousel_record.proofs.entries.total.Tie as tie

@@ -8,7 +8,8 @@ use native.Mathlib.Omega.{arith}
 use lib.Dec.{ltb}
 use lib.ListN.{length, take}
 use Rattle.carousel_messages.specs.Limits.{beyond10, someBad, total}
-use Rattle.carousel_record.specs.Record.{listedIn, sizesOf}
+use Rattle.carousel_messages.specs.Heard.{sizesOf}
+use Rattle.carousel_record.specs.Record.{listedIn}
 use Rattle.carousel_record.proofs.Laws.Entries.{sizes-long}
 use borrow.Author.Needs.{needs}
 use Rattle.carousel_record.proofs.rule.is_beyond.Statement.{statement}
