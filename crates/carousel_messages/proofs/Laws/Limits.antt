@@ -1,13 +1,13 @@
 -- The limits over the first n modules of an array, one module at a time, as the loops take them.
-use Prim.Native.Nat.{ℕ, suc, _+_, _-_, _*_, _≤_, _<_}
+use Prim.Native.Nat.{ℕ, zero, suc, _+_, _-_, _*_, _≤_, _<_}
 use mathlib.Core.Path.{_≡_, refl, sym, ap, _∙_}
 use mathlib.Core.Bool.{Bool, true, false, cond, _||_}
-use mathlib.Core.List.{List, [], _∷_}
+use mathlib.Core.List.{List, [], _∷_, _++_, map}
 use native.Mathlib.Numerals.{add-one}
 use native.Mathlib.Omega.{arith}
 use lib.Dec.{eqb, ltb, leb·suc-suc}
-use lib.ListN.{length, getD, take, drop, length-map, length-take, length-drop, drop-of-length-le}
-use lib.Seq.{drop-cons, getD-take}
+use lib.ListN.{length, getD, set, take, drop, length-map, length-take, length-drop, drop-of-length-le}
+use lib.Seq.{drop-cons, getD-take, take-suc, take-suc-set}
 use borrow.Author.Tests.{eq-eqb, ne-eqb, lt-ltb, le-ltb}
 use Rattle.carousel_messages.specs.declared.Listed.{Listed}
 use Rattle.carousel_messages.specs.Limits.{largestBlock, mostModules, mostBlocks, mostBytes, someBad, total, beyond10, among, twice11}
@@ -22,6 +22,17 @@ among-place n (m ∷ ms) = go (eqb (m .number) n) (among-place n ms)
     go : (t : Bool) → among n (numbersOf ms) ≡ ltb (placeIn n ms) (length ms) → (t || among n (numbersOf ms)) ≡ ltb (cond t 0 (suc (placeIn n ms))) (suc (length ms))
     go true e = sym (lt-ltb 0 (suc (length ms)) (omega arith))
     go false e = e ∙ sym (leb·suc-suc (suc (placeIn n ms)) (length ms))
+
+pub take-map : {A B : Type 0} (f : A → B) (n : ℕ) (xs : List A) → take n (map f xs) ≡ map f (take n xs)
+take-map f zero xs = refl
+take-map f (suc n) [] = refl
+take-map {A} {B} f (suc n) (x ∷ xs) = ap (λ (r : List B). f x ∷ r) (take-map f n xs)
+
+-- one module more of those that an array is filled with
+pub filled-next : (ms all : List Listed) (i : ℕ) (m : Listed) → i < length ms → i < length all → m ≡ getD all i noneListed → take i ms ≡ take i all
+    → take (i + 1) (set ms i m) ≡ take (i + 1) all
+filled-next ms all i m h k e f =
+    rw (add-one i) (take-suc-set ms i m h ∙ ap (λ (xs : List Listed). xs ++ (m ∷ [])) f ∙ ap (λ (x : Listed). take i all ++ (x ∷ [])) e ∙ sym (take-suc all i noneListed k))
 
 module _ (ms : List Listed) (n : ℕ) where
   abbrev first : List Listed

@@ -19,6 +19,7 @@ use Rattle.carousel_messages.specs.declared.Listed.{Listed}
 use Rattle.carousel_messages.specs.Contents.{moduleKind, modulesStart, moduleCountOf, modulesOf, moduleSizeOf, announcementFramed}
 use Rattle.carousel_messages.specs.Heard.{listedOf, noneListed, listOf, listedAt}
 use Rattle.carousel_messages.proofs.Laws.Refusals.{counted, framed-count}
+use Rattle.carousel_messages.proofs.Laws.Limits.{take-map}
 
 pub module-kind : IsKind moduleKind
 module-kind = framed-kind 8 (λ h. byteAt h 7)
@@ -115,11 +116,6 @@ pub none-past : (list : List ℕ) (k : ℕ) → length list ≤ k → noneListed
 unfolding items
 none-past list k h = let f = few-in (length list) list in none-at list k (omega arith)
 
-take-map : (n : ℕ) (xs : List (List ℕ)) → take n (map listedOf xs) ≡ map listedOf (take n xs)
-take-map zero xs = refl
-take-map (suc n) [] = refl
-take-map (suc n) (x ∷ xs) = ap (λ (r : List Listed). listedOf x ∷ r) (take-map n xs)
-
 -- the modules of an announcement that is framed whole, from the two fields that code reads for them
 module _ (p : List ℕ) (f : announcementFramed p ≡ true) (i m : ℕ) (e : i ≡ modulesStart p) (g : m ≡ moduleCountOf p) where
   pub list-long : m ≤ length (listOf (drop i p))
@@ -132,4 +128,4 @@ module _ (p : List ℕ) (f : announcementFramed p ≡ true) (i m : ℕ) (e : i �
 
   pub list-read : take m (listOf (drop i p)) ≡ map listedOf (modulesOf p)
   unfolding listOf
-  list-read = rw (e, g) (take-map (moduleCountOf p) (items moduleKind (drop (modulesStart p) p)))
+  list-read = rw (e, g) (take-map listedOf (moduleCountOf p) (items moduleKind (drop (modulesStart p) p)))

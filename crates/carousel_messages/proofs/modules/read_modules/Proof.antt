@@ -1,15 +1,13 @@
 -- `carousel_messages::modules::read_modules` meets its contract. The invariant: the first i are those of the list.
 use borrow.Author.Needs.{needs}
-use mathlib.Core.Path.{_≡_, refl, sym, ap, _∙_}
-use mathlib.Core.List.{List, [], _∷_, _++_}
+use mathlib.Core.Path.{_≡_, refl, _∙_}
 use Prim.Native.Nat.{_-_, _≤_}
-use native.Mathlib.Numerals.{add-one}
 use native.Mathlib.Omega.{arith}
 use lib.ListN.{length, take, length-replicate, length-set}
-use lib.Seq.{take-suc, take-suc-set}
 use Rattle.carousel_messages.specs.declared.Listed.{Listed}
 use Rattle.carousel_messages.specs.Limits.{mostModules}
-use Rattle.carousel_messages.specs.Heard.{noneListed, listOf}
+use Rattle.carousel_messages.specs.Heard.{listOf}
+use Rattle.carousel_messages.proofs.Laws.Limits.{filled-next}
 use Rattle.carousel_messages.proofs.modules.read_modules.Statement.{statement}
 use Rattle.carousel_messages.proofs.modules.read_modules.Tie as tie
 
@@ -49,10 +47,7 @@ loop-again c =
     let m = c .module-at .result in (
       omega arith,
       length-set (l .loop .ms) i m ∙ l .loop .inv .1,
-      rw (add-one i) (take-suc-set (l .loop .ms) i m (omega arith)
-          ∙ ap (λ (xs : List Listed). xs ++ (m ∷ [])) (l .loop .inv .2)
-          ∙ ap (λ (x : Listed). take i list ++ (x ∷ [])) (c .module-at .ensures)
-          ∙ sym (take-suc list i noneListed (omega (arith, s .pre .1)))),
+      filled-next (l .loop .ms) list i m (omega arith) (omega (arith, s .pre .1)) (c .module-at .ensures) (l .loop .inv .2),
     )
 
 returns : tie.Need-returns Inv-loop μ-loop
