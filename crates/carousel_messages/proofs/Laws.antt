@@ -1,4 +1,4 @@
-pub mod Modules
+pub mod Limits
 pub mod Refusals
 pub mod Listed
 pub mod Heard

@@ -1,6 +1,8 @@
 -- What a carousel section says, with its modules and its data as values and no longer as places in the section. 01, "The messages", "The carousel record".
-use Prim.Native.Nat.{ℕ}
-use mathlib.Core.List.{List, map}
+use Prim.Native.Nat.{ℕ, suc}
+use mathlib.Core.Bool.{cond}
+use mathlib.Core.List.{List, [], _∷_, map}
+use lib.Dec.{eqb}
 use lib.ListN.{take, drop, getD}
 use Rattle.wire.specs.Items.{items}
 use Rattle.section.specs.declared.Refusal.{Refusal}
@@ -25,6 +27,17 @@ listOf list = map listedOf (items moduleKind list)
 
 abbrev pub listedAt : List ℕ → ℕ → Listed
 listedAt list k = getD (listOf list) k noneListed
+
+abbrev pub sizesOf : List Listed → List ℕ
+sizesOf ms = map (λ m. m .size) ms
+
+abbrev pub numbersOf : List Listed → List ℕ
+numbersOf ms = map (λ m. m .number) ms
+
+-- the place of the first module with the number n; where there is none, the number of modules
+unfoldable pub placeIn : ℕ → List Listed → ℕ
+placeIn n [] = 0
+placeIn n (m ∷ ms) = cond (eqb (m .number) n) 0 (suc (placeIn n ms))
 
 -- "the announcement (downloadId, blockSize and, in order, each module's number, size and version)"
 pub record Announced : Type 0 where

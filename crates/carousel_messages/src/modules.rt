@@ -1,16 +1,22 @@
 // The payload of an announcement.
+use crate::Listed;
+use crate::limits::MOST_MODULES;
 use crate::limits::has_twice;
 use crate::limits::is_beyond;
+use crate::module_at;
+use crate::none_listed;
 use section::Header;
 use wire::sixteen_at;
 ghost use mathlib.Core.Path.{_≡_};
 ghost use Prim.Native.Nat.{_+_, _≤_, _<_};
 ghost use lib.Dec.{eqb};
-ghost use lib.ListN.{length};
+ghost use lib.ListN.{length, take};
 ghost use Rattle.wire.specs.Fields.{sixteenAt};
 ghost use Rattle.carousel_messages.specs.declared.Table.the-variants.{Announcements};
 ghost use Rattle.carousel_messages.specs.Contents.{announcementFramed, moduleCountOf, modulesStart, modulesEnd};
+ghost use Rattle.carousel_messages.specs.Limits.{mostModules};
 ghost use Rattle.carousel_messages.specs.Refusals.{payloadRefusal};
+ghost use Rattle.carousel_messages.specs.Heard.{listOf};
 
 // 0 where an announcement's payload is taken, else 7, 10 or 11.
 pub fn announcement_refusal(p: &[u8], h: Header) -> u8
@@ -19,13 +25,34 @@ pub fn announcement_refusal(p: &[u8], h: Header) -> u8
     if !is_announcement(p) {
         return 7;
     }
-    if is_beyond(p) {
+    let count = module_count(p);
+    if MOST_MODULES < count {
         return 10;
     }
-    if has_twice(p) {
+    let start = modules_start(p);
+    let ms = read_modules(&p[start..], count);
+    if is_beyond(sixteen_at(p, 4), ms, count) {
+        return 10;
+    }
+    if has_twice(ms, count) {
         return 11;
     }
     0
+}
+
+// The first modules of a list that has as many, and zeros after them.
+fn read_modules(list: &[u8], count: usize) -> [Listed; MOST_MODULES]
+    requires { ⌜ (count ≤ mostModules) × (count ≤ length (listOf (now list))) ⌝ }
+    ensures { λ r. ⌜ take count r ≡ take count (listOf (now (list .entry))) ⌝ }
+{
+    let none = none_listed();
+    let mut ms = [none; MOST_MODULES];
+    let mut i: usize = 0;
+    while i < count {
+        ms[i] = module_at(list, i);
+        i += 1;
+    }
+    ms
 }
 
 fn is_announcement(p: &[u8]) -> bool

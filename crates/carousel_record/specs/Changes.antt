@@ -4,11 +4,11 @@ use mathlib.Core.List.{List, [], _∷_, _++_}
 use lib.ListN.{length, take, drop, replicate}
 use Rattle.carousel_messages.specs.declared.Listed.{Listed}
 use Rattle.carousel_messages.specs.Limits.{mostModules}
-use Rattle.carousel_messages.specs.Heard.{Announced}
+use Rattle.carousel_messages.specs.Heard.{Announced, sizesOf}
 use Rattle.carousel_record.specs.declared.Module.{Module}
 use Rattle.carousel_record.specs.declared.Carousel.{Carousel}
 use Rattle.carousel_record.specs.Marks.{markWords, marksWith}
-use Rattle.carousel_record.specs.Record.{Record, sizesOf, sums, unused}
+use Rattle.carousel_record.specs.Record.{Record, sums, unused}
 
 -- "Starting gives the empty record."
 unfoldable pub emptyRecord : Carousel

@@ -1,12 +1,12 @@
 -- The carousel record: what it says, and its rule. 01, "The carousel record".
-use Prim.Native.Nat.{ℕ, suc, _+_, _*_}
+use Prim.Native.Nat.{ℕ, _+_, _*_}
 use mathlib.Core.Bool.{Bool, true, false, not, cond, _&&_}
 use mathlib.Core.List.{List, [], _∷_, map}
 use lib.Dec.{eqb, leb}
 use lib.ListN.{length, getD, take, drop}
 use Rattle.carousel_messages.specs.declared.Listed.{Listed}
 use Rattle.carousel_messages.specs.Limits.{mostModules, mostBlocks, total, beyond10, twice11}
-use Rattle.carousel_messages.specs.Heard.{noneListed, Announced}
+use Rattle.carousel_messages.specs.Heard.{noneListed, sizesOf, numbersOf, placeIn, Announced}
 use Rattle.carousel_record.specs.declared.Module.{Module}
 use Rattle.carousel_record.specs.declared.Carousel.{Carousel}
 use Rattle.carousel_record.specs.Blocks.{blocksOf, blockLengthOf}
@@ -17,12 +17,6 @@ pub record Record : Type 0 where
   pub announced : Announced
   pub starts : List ℕ
   pub marks : List ℕ
-
-abbrev pub sizesOf : List Listed → List ℕ
-sizesOf ms = map (λ m. m .size) ms
-
-abbrev pub numbersOf : List Listed → List ℕ
-numbersOf ms = map (λ m. m .number) ms
 
 -- The record as the code holds it has 16 entries and a count. What such a record says:
 abbrev pub listedIn : Module → Listed
@@ -43,11 +37,6 @@ recordOf c = record { announced = announcedBy c; starts = startsBy c; marks = c 
 -- the announced module at a place
 abbrev pub moduleAt : Announced → ℕ → Listed
 moduleAt a i = getD (a .modules) i noneListed
-
--- the place of the first module with the number n; where there is none, the number of modules
-unfoldable pub placeIn : ℕ → List Listed → ℕ
-placeIn n [] = 0
-placeIn n (m ∷ ms) = cond (eqb (m .number) n) 0 (suc (placeIn n ms))
 
 abbrev pub placeOf : Announced → ℕ → ℕ
 placeOf a n = placeIn n (a .modules)

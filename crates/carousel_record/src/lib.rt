@@ -5,23 +5,21 @@
 // broken: each call here has its answer for any record, and `is_ruled` tells whether one keeps its rule.
 
 mod blocks;
-mod entries;
 mod marks;
 mod rule;
 
 pub use blocks::blocks_of;
 pub use blocks::is_block;
+use carousel_messages::Listed;
 use carousel_messages::MOST_MODULES;
-use entries::place_from;
-use entries::total;
+use carousel_messages::place_from;
+use carousel_messages::total;
 pub use marks::is_marked;
 pub use marks::with_mark;
 pub use rule::is_ruled;
 ghost use mathlib.Core.Path.{_≡_};
-ghost use Prim.Native.Nat.{_≤_};
-ghost use lib.ListN.{take};
-ghost use Rattle.carousel_messages.specs.Limits.{mostModules};
-ghost use Rattle.carousel_record.specs.Record.{announcedBy, placeOf, bytesOf};
+ghost use mathlib.Core.List.{map};
+ghost use Rattle.carousel_record.specs.Record.{listedIn, announcedBy, placeOf, bytesOf};
 ghost use Rattle.carousel_record.specs.Changes.{emptyRecord};
 
 // An announced module, and where it starts in the image. This and the record have C's layout: programs in C hold them.
@@ -65,25 +63,36 @@ pub fn empty() -> Carousel
 pub fn place_of(c: Carousel, number: u16) -> usize
     ensures { λ r. ⌜ r ≡ placeOf (announcedBy c) number ⌝ }
 {
-    let ms = c.modules;
-    place_from(ms, used(c), 0, number)
+    place_from(listed(c), c.count as usize, 0, number)
 }
 
 // The sizes of the announced modules together.
 pub fn bytes_of(c: Carousel) -> usize
     ensures { λ r. ⌜ r ≡ bytesOf (announcedBy c) ⌝ }
 {
-    let ms = c.modules;
-    total(ms, used(c))
+    total(listed(c), c.count as usize)
 }
 
-// How many entries are in use: a record that is lent broken may count more than it has.
-fn used(c: Carousel) -> usize
-    ensures { λ r. ⌜ (r ≤ mostModules) × (take r (c .modules) ≡ take (c .count) (c .modules)) ⌝ }
+// The entries as announced modules, without their starts.
+fn listed(c: Carousel) -> [Listed; MOST_MODULES]
+    ensures { λ r. ⌜ r ≡ map listedIn (c .modules) ⌝ }
 {
-    let n = c.count as usize;
-    if MOST_MODULES < n {
-        return MOST_MODULES;
+    let none = Listed {
+        number: 0,
+        size: 0,
+        version: 0,
+    };
+    let mut ls = [none; MOST_MODULES];
+    let ms = c.modules;
+    let mut i: usize = 0;
+    while i < MOST_MODULES {
+        let m = ms[i];
+        ls[i] = Listed {
+            number: m.number,
+            size: m.size,
+            version: m.version,
+        };
+        i += 1;
     }
-    n
+    ls
 }

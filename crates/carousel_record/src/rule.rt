@@ -2,19 +2,20 @@
 use crate::Carousel;
 use crate::Module;
 use crate::blocks::blocks_of;
-use crate::entries::has_twice;
-use crate::entries::some_bad;
-use crate::entries::total;
+use crate::listed;
 use crate::marks::is_clear_from;
 use carousel_messages::MOST_MODULES;
+use carousel_messages::has_twice;
+use carousel_messages::is_beyond;
 ghost use mathlib.Core.Path.{_≡_};
 ghost use mathlib.Core.List.{map};
 ghost use Prim.Native.Nat.{_≤_};
 ghost use lib.ListN.{drop, take};
-ghost use Rattle.carousel_messages.specs.Limits.{mostModules, beyond10};
+ghost use Rattle.carousel_messages.specs.Limits.{mostModules};
 ghost use Rattle.carousel_record.specs.Blocks.{blocksOf};
 ghost use Rattle.carousel_record.specs.Marks.{marksWithin};
-ghost use Rattle.carousel_record.specs.Record.{announcedBy, listedIn, startIn, sizesOf, sums, sameNumbers, isUnused, allUnused, withinLimits, ruledOf};
+ghost use Rattle.carousel_messages.specs.Heard.{sizesOf};
+ghost use Rattle.carousel_record.specs.Record.{announcedBy, listedIn, startIn, sums, sameNumbers, isUnused, allUnused, withinLimits, ruledOf};
 
 // The words of one module's marks: 256, 32 to a word.
 const MODULE_WORDS: usize = 8;
@@ -75,37 +76,17 @@ fn is_within_limits(c: Carousel) -> bool
     ensures { λ r. ⌜ r ≡ withinLimits (announcedBy c) ⌝ }
 {
     let n = c.count as usize;
-    let ms = c.modules;
     if n == 0 {
         if c.download != 0 {
             return false;
         }
         return c.block_size == 0;
     }
+    let ms = listed(c);
     if is_beyond(c.block_size, ms, n) {
         return false;
     }
     !has_twice(ms, n)
-}
-
-// 10, of the first n entries.
-fn is_beyond(block_size: u16, ms: [Module; MOST_MODULES], n: usize) -> bool
-    requires { ⌜ n ≤ mostModules ⌝ }
-    ensures { λ r. ⌜ r ≡ beyond10 «block_size» (sizesOf (map listedIn (take n ms))) ⌝ }
-{
-    if block_size == 0 {
-        return true;
-    }
-    if carousel_messages::LARGEST_BLOCK < block_size {
-        return true;
-    }
-    if n == 0 {
-        return true;
-    }
-    if some_bad(block_size, ms, n) {
-        return true;
-    }
-    carousel_messages::MOST_BYTES < total(ms, n)
 }
 
 // Whether the starts of the first n entries are running sums.

@@ -10,8 +10,8 @@ use borrow.Author.Tests.{eq-eqb, ne-eqb, eqb-true, lt-ltb, le-ltb}
 use Rattle.wire.specs.Tests.{firstMet}
 use Rattle.wire.proofs.Laws.Tests.{both, clash}
 use Rattle.carousel_messages.specs.Limits.{twice11}
-use Rattle.carousel_messages.specs.Heard.{Announced, Arrived, Heard, refusal, announced, arrived}
-use Rattle.carousel_record.specs.Record.{numbersOf, moduleAt, placeOf, bytesOf, blockCount, blockLength}
+use Rattle.carousel_messages.specs.Heard.{Announced, Arrived, Heard, refusal, announced, arrived, numbersOf}
+use Rattle.carousel_record.specs.Record.{moduleAt, placeOf, bytesOf, blockCount, blockLength}
 use Rattle.carousel_step.specs.Step.{meets12, meets14, meets16, blockRefusal}
 use Rattle.carousel_record.specs.Refusals.{meets13, meets15}
 use Rattle.carousel_step.specs.Matching.{blockFor, heardFor, blockMatches, heardMatches, Matching}

@@ -12,11 +12,11 @@ use Rattle.wire.proofs.Laws.Tests.{clash}
 use Rattle.section.specs.Answer.{refused}
 use Rattle.carousel_messages.specs.declared.Listed.{Listed}
 use Rattle.carousel_messages.specs.Limits.{mostModules, beyond10, twice11}
-use Rattle.carousel_messages.specs.Heard.{Announced, Heard, refusal, announced, arrived, heardOf}
+use Rattle.carousel_messages.specs.Heard.{Announced, Heard, refusal, announced, arrived, heardOf, sizesOf, numbersOf}
 use Rattle.carousel_messages.proofs.Laws.Heard.{heard-limits}
 use Rattle.carousel_record.specs.declared.Carousel.{Carousel}
 use Rattle.carousel_record.specs.Marks.{clearFrom, marksWithin}
-use Rattle.carousel_record.specs.Record.{Record, sizesOf, numbersOf, listedIn, startIn, announcedBy, startsBy, recordOf, placeOf, sums, sameNumbers, withinLimits, ruled, unused, allUnused, ruledOf}
+use Rattle.carousel_record.specs.Record.{Record, listedIn, startIn, announcedBy, startsBy, recordOf, placeOf, sums, sameNumbers, withinLimits, ruled, unused, allUnused, ruledOf}
 use Rattle.carousel_record.specs.Changes.{emptyRecord, entries, madeAfresh, withMark, afresh, marking}
 use Rattle.carousel_step.specs.Step.{blockRefusal, sameAnnounced, StepOutcome, refusing, new, same, repeated, stored, matched, onArrived, onAnnounced, onHeard, outcomeOf, carouselAfter, recordAfter, steppedOf}
 use Rattle.carousel_step.proofs.Views.{isNew}

@@ -9,13 +9,13 @@ use Rattle.wire.specs.Tests.{firstMet}
 use Rattle.wire.specs.Items.{framed, itemsIn, items}
 use Rattle.section.specs.Answer.{refused}
 use Rattle.carousel_messages.specs.Limits.{someBad, total, beyond10, among, twice11}
-use Rattle.carousel_messages.specs.Heard.{Announced, Arrived, Heard, announced, arrived, listOf, announcedIn, arrivedIn, heardIn, heardOf}
+use Rattle.carousel_messages.specs.Heard.{Announced, Arrived, Heard, announced, arrived, listOf, announcedIn, arrivedIn, heardIn, heardOf, placeIn}
 use Rattle.carousel_messages.proofs.Soundings as messages
 use Rattle.carousel_record.specs.declared.Carousel.{Carousel}
 use Rattle.carousel_step.specs.declared.Answer.the-variants as answer
 use Rattle.carousel_record.specs.Blocks.{blocksOf, blockLengthOf}
 use Rattle.carousel_record.specs.Marks.{isMarked, marksWith, clearFrom, marksWithin, clearAmong}
-use Rattle.carousel_record.specs.Record.{Record, announcedBy, startsBy, recordOf, placeIn, sums, blockAt, missingOf, completeOf, sameNumbers, withinLimits, ruled, allUnused, ruledOf}
+use Rattle.carousel_record.specs.Record.{Record, announcedBy, startsBy, recordOf, sums, blockAt, missingOf, completeOf, sameNumbers, withinLimits, ruled, allUnused, ruledOf}
 use Rattle.carousel_record.specs.Changes.{emptyRecord, entries, madeAfresh, withMark, afresh, marking, overwrite}
 use Rattle.carousel_step.specs.Step.{meets12, meets14, meets16, blockRefusal, bytesDiffer, sameModules, sameAnnounced, refusing, new, same, repeated, stored}
 use Rattle.carousel_record.specs.Refusals.{meets13, meets15}

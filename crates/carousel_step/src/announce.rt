@@ -15,8 +15,8 @@ ghost use Prim.Native.Nat.{_≤_};
 ghost use lib.Dec.{eqb};
 ghost use lib.ListN.{length, take};
 ghost use Rattle.carousel_messages.specs.Limits.{mostModules, mostBytes, total};
-ghost use Rattle.carousel_messages.specs.Heard.{listOf, announcedIn};
-ghost use Rattle.carousel_record.specs.Record.{announcedBy, recordOf, listedIn, sizesOf};
+ghost use Rattle.carousel_messages.specs.Heard.{listOf, announcedIn, sizesOf};
+ghost use Rattle.carousel_record.specs.Record.{announcedBy, recordOf, listedIn};
 ghost use Rattle.carousel_record.specs.Changes.{madeAfresh};
 ghost use Rattle.carousel_step.specs.Step.{sameModules, sameAnnounced, onAnnounced, returning};
 

@@ -23,11 +23,11 @@ use Rattle.carousel_messages.specs.declared.Judged.{Judged}
 use Rattle.carousel_messages.specs.declared.Judged.the-variants as judged
 use Rattle.carousel_messages.specs.Message.{adaptationOf, messageLengthOf, payloadOf}
 use Rattle.carousel_messages.specs.Contents.{moduleKind, moduleCountOf, modulesStart, modulesEnd, modulesOf, moduleSizeOf, blockSizeOf, announcementFramed, blockDataOf}
-use Rattle.carousel_messages.specs.Limits.{someBad, total, beyond10, twice11}
+use Rattle.carousel_messages.specs.Limits.{largestBlock, mostModules, mostBytes, someBad, total, beyond10, twice11}
 use Rattle.carousel_messages.specs.Refusals.{messageFramed, payloadFramed, messageMeets7, meets10, meets11, messageTests}
 use Rattle.carousel_messages.specs.Judged.{announcementOf, blockOf, judgedOf, numberOfJudged, carouselTableIn}
 use Rattle.carousel_messages.specs.Heard.{listedOf, listOf, spanOf, Announced, announced, announcedIn, heardIn, heardOf}
-use Rattle.carousel_messages.proofs.Laws.Modules.{module-kind}
+use Rattle.carousel_messages.proofs.Laws.Listed.{module-kind}
 use Rattle.carousel_messages.proofs.Laws.Refusals.{counted, framed-starts, framed-ends}
 use Rattle.carousel_messages.proofs.Exact.{good-exactly, announced-exactly, carried-exactly}
 
@@ -66,14 +66,14 @@ module _ (s : List ℕ) (l : 12 ≤ length s) (f : 12 + adaptationOf (bodyOf s) 
 taken-long : (s : List ℕ) → numberOfJudged (judgedOf s) ≡ 0 → 12 ≤ length s
 taken-long s e = let g = good-exactly s .0 e .0 in omega (arith, g .exact, g .least)
 
--- what is within the limits is 16 modules at most
-beyond-few : (bs : ℕ) (zs : List ℕ) → beyond10 bs zs ≡ false → length zs ≤ 16
+-- what is within the limits is so many modules at most
+beyond-few : (bs : ℕ) (zs : List ℕ) → beyond10 bs zs ≡ false → length zs ≤ mostModules
 unfolding beyond10
 beyond-few bs zs e =
-    let x : Bool = eqb bs 0 || ltb 4066 bs || eqb (length zs) 0 in
-    let f = neither (x || ltb 16 (length zs) || someBad bs zs) (ltb 65536 (total zs)) e in
-    let g = neither (x || ltb 16 (length zs)) (someBad bs zs) (f .0) in
-    ltb-false 16 (length zs) (neither x (ltb 16 (length zs)) (g .0) .1)
+    let x : Bool = eqb bs 0 || ltb largestBlock bs || eqb (length zs) 0 in
+    let f = neither (x || ltb mostModules (length zs) || someBad bs zs) (ltb mostBytes (total zs)) e in
+    let g = neither (x || ltb mostModules (length zs)) (someBad bs zs) (f .0) in
+    ltb-false mostModules (length zs) (neither x (ltb mostModules (length zs)) (g .0) .1)
 
 tables-differ : Blocks ≡ Announcements → ⊥
 tables-differ e = let z : _≡_ {A = ℕ} 0 1 = cc in omega arith
@@ -138,7 +138,7 @@ module _ (s : List ℕ) (a : Announcement) (e : judgedOf s ≡ judged.Announced 
   pub count-said : a .count ≡ length (listOf (spanOf s (a .start) (a .size)))
   count-said = sym (ap length modules-said ∙ length-map (modulesOf p) listedOf ∙ how-many)
 
-  pub heard-small : a .count ≤ 16
+  pub heard-small : a .count ≤ mostModules
   unfolding meets10
   heard-small =
       let b = beyond-few (blockSizeOf p) (map moduleSizeOf (modulesOf p)) (passes .1) in

@@ -9,17 +9,20 @@ use lib.Dec.{eqb}
 use lib.ListN.{length, take, drop, getD, length-map, length-take, List·getD-eq-default, List·getD-map}
 use lib.Seq.{drop-drop, length-take-le}
 use Rattle.wire.specs.Fields.{byteAt, fieldAt, sixteenAt, thirtyTwoAt}
-use Rattle.wire.specs.Items.{Wholes, itemsIn, items, endOf}
+use Rattle.wire.specs.Items.{IsKind, Wholes, itemsIn, items, endOf}
 use Rattle.wire.proofs.Laws.Fields.{field-part, field-one}
 use Rattle.wire.proofs.Laws.Steps.{items-step, items-stop}
 use Rattle.wire.proofs.Laws.Meaning.{wholes}
-use Rattle.wire.proofs.Laws.Frames.{framed-least}
+use Rattle.wire.proofs.Laws.Frames.{framed-kind, framed-least}
 use Rattle.wire.proofs.Laws.Counted.{counted-fits}
 use Rattle.carousel_messages.specs.declared.Listed.{Listed}
-use Rattle.carousel_messages.specs.Contents.{moduleKind}
+use Rattle.carousel_messages.specs.Contents.{moduleKind, modulesStart, moduleCountOf, modulesOf, moduleSizeOf, announcementFramed}
 use Rattle.carousel_messages.specs.Heard.{listedOf, noneListed, listOf, listedAt}
-use Rattle.carousel_messages.proofs.Laws.Modules.{module-kind}
-use Rattle.carousel_messages.proofs.Laws.Refusals.{counted}
+use Rattle.carousel_messages.proofs.Laws.Refusals.{counted, framed-count}
+use Rattle.carousel_messages.proofs.Laws.Limits.{take-map}
+
+pub module-kind : IsKind moduleKind
+module-kind = framed-kind 8 (λ h. byteAt h 7)
 
 -- items that are all there end where they would from 0 on, and as much later as they begin later
 end-shift : (k a : ℕ) (is : List (List ℕ)) → k ≤ length is → endOf k a is ≡ a + endOf k 0 is
@@ -112,3 +115,17 @@ few-in (suc n) xs = go (few-in n (drop (moduleKind xs) xs)) (eqb (moduleKind xs)
 pub none-past : (list : List ℕ) (k : ℕ) → length list ≤ k → noneListed ≡ listedAt list k
 unfolding items
 none-past list k h = let f = few-in (length list) list in none-at list k (omega arith)
+
+-- the modules of an announcement that is framed whole, from the two fields that code reads for them
+module _ (p : List ℕ) (f : announcementFramed p ≡ true) (i m : ℕ) (e : i ≡ modulesStart p) (g : m ≡ moduleCountOf p) where
+  pub list-long : m ≤ length (listOf (drop i p))
+  unfolding listOf
+  list-long =
+      let l = framed-count p f in
+      let k = length-map (modulesOf p) moduleSizeOf in
+      let t = length-take (moduleCountOf p) (items moduleKind (drop (modulesStart p) p)) in
+      rw (e, length-map) (omega arith)
+
+  pub list-read : take m (listOf (drop i p)) ≡ map listedOf (modulesOf p)
+  unfolding listOf
+  list-read = rw (e, g) (take-map listedOf (moduleCountOf p) (items moduleKind (drop (modulesStart p) p)))

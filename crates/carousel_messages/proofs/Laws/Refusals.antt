@@ -2,7 +2,7 @@
 use Prim.Native.Nat.{ℕ, zero, suc, _+_, _%_, _≤_, _<_}
 use mathlib.Core.Path.{_≡_, refl, sym, ap, _∙_}
 use mathlib.Core.Bool.{Bool, true, false, not, _&&_, _||_}
-use mathlib.Core.List.{List, [], _∷_, map}
+use mathlib.Core.List.{List, [], _∷_, map, map-map}
 use native.Mathlib.Omega.{arith}
 use lib.Dec.{eqb, leb, ltb}
 use lib.ListN.{length, length-map, take, drop, drop-of-length-le}
@@ -19,11 +19,13 @@ use Rattle.section.specs.declared.Checked.the-variants as checked
 use Rattle.section.specs.Answer.{refused, checkedOf}
 use Rattle.carousel_messages.specs.declared.Table.{Table}
 use Rattle.carousel_messages.specs.declared.Table.the-variants.{Announcements, Blocks}
+use Rattle.carousel_messages.specs.declared.Listed.{Listed}
 use Rattle.carousel_messages.specs.declared.Judged.the-variants as judged
 use Rattle.carousel_messages.specs.Message.{messageOf, adaptationOf, messageLengthOf, payloadOf, wantedOf}
 use Rattle.carousel_messages.specs.Contents.{moduleKind, modulesStart, modulesEnd, moduleCountOf, modulesFrom, modulesOf, blockSizeOf, moduleSizeOf, announcementFramed, blockModuleOf, blockNumberOf}
-use Rattle.carousel_messages.specs.Limits.{someBad, total, beyond10}
+use Rattle.carousel_messages.specs.Limits.{largestBlock, mostModules, mostBytes, someBad, total, beyond10, twice11}
 use Rattle.carousel_messages.specs.Refusals.{short7, meets8, messageFramed, payloadFramed, messageMeets7, meets9, meets10, meets11, payloadRefusal, messageRefusal}
+use Rattle.carousel_messages.specs.Heard.{listedOf, sizesOf, numbersOf}
 use Rattle.carousel_messages.specs.Judged.{carouselTableOf, announcementOf, blockOf, readOf, messageJudged, judgedOf}
 
 -- the payload of a body too short to have one
@@ -133,42 +135,28 @@ module _ (p : List ℕ) (f : announcementFramed p ≡ true) where
       let k : _≡_ {A = ℕ} 0 1 = cc in
       absurd (omega arith)
 
-  framed-count : length (map moduleSizeOf (modulesOf p)) ≡ moduleCountOf p
+  pub framed-count : length (map moduleSizeOf (modulesOf p)) ≡ moduleCountOf p
   framed-count = length-map (modulesOf p) moduleSizeOf ∙ counted (moduleCountOf p) (modulesStart p) (items moduleKind (drop (modulesStart p) p)) framed-ends
 
--- the sizes, from the three fields that code reads for them
-pub sizes-said : (p : List ℕ) (i m bs : ℕ) → i ≡ modulesStart p → m ≡ moduleCountOf p → bs ≡ blockSizeOf p
-    → (someBad bs (map moduleSizeOf (modulesFrom p i m)) || ltb 65536 (total (map moduleSizeOf (modulesFrom p i m))))
-    ≡ (someBad (blockSizeOf p) (map moduleSizeOf (modulesOf p)) || ltb 65536 (total (map moduleSizeOf (modulesOf p))))
-sizes-said p i m bs e f g = rw (e, f, g)
+-- 10 and 11, of the modules as they are read
+one-met : (before after last : Bool) → (before || true || after || last) ≡ true
+one-met true after last = refl
+one-met false after last = refl
 
--- 10, one limit after another
 module _ (p : List ℕ) where
-  pub beyond-none : blockSizeOf p ≡ 0 → true ≡ meets10 p
+  pub beyond-many : announcementFramed p ≡ true → mostModules < moduleCountOf p → meets10 p ≡ true
   unfolding meets10 beyond10
-  beyond-none e = rw (eq-eqb (blockSizeOf p) 0 e)
+  beyond-many f g =
+      rw (framed-count p f, lt-ltb mostModules (moduleCountOf p) g) (one-met (eqb (blockSizeOf p) 0 || ltb largestBlock (blockSizeOf p) || eqb (moduleCountOf p) 0) (someBad (blockSizeOf p) (map moduleSizeOf (modulesOf p))) (ltb mostBytes (total (map moduleSizeOf (modulesOf p)))))
 
-  module _ (n : blockSizeOf p ≡ 0 → ⊥) where
-    pub beyond-large : 4066 < blockSizeOf p → true ≡ meets10 p
-    unfolding meets10 beyond10
-    beyond-large l = rw (ne-eqb (blockSizeOf p) 0 n, lt-ltb 4066 (blockSizeOf p) l)
+  module _ (ms : List Listed) (e : ms ≡ map listedOf (modulesOf p)) where
+    pub read-10 : (bs : ℕ) → bs ≡ blockSizeOf p → beyond10 bs (sizesOf ms) ≡ meets10 p
+    unfolding meets10
+    read-10 bs b = rw (e, b, map-map)
 
-    module _ (l : blockSizeOf p ≤ 4066) (f : announcementFramed p ≡ true) where
-      pub beyond-empty : moduleCountOf p ≡ 0 → true ≡ meets10 p
-      unfolding meets10 beyond10
-      beyond-empty e = rw (ne-eqb (blockSizeOf p) 0 n, le-ltb 4066 (blockSizeOf p) l, framed-count p f, eq-eqb (moduleCountOf p) 0 e)
-
-      module _ (m : moduleCountOf p ≡ 0 → ⊥) where
-        pub beyond-many : 16 < moduleCountOf p → true ≡ meets10 p
-        unfolding meets10 beyond10
-        beyond-many g =
-            rw (ne-eqb (blockSizeOf p) 0 n, le-ltb 4066 (blockSizeOf p) l, framed-count p f, ne-eqb (moduleCountOf p) 0 m, lt-ltb 16 (moduleCountOf p) g)
-
-        pub beyond-sizes : moduleCountOf p ≤ 16
-            → (someBad (blockSizeOf p) (map moduleSizeOf (modulesOf p)) || ltb 65536 (total (map moduleSizeOf (modulesOf p)))) ≡ meets10 p
-        unfolding meets10 beyond10
-        beyond-sizes g =
-            rw (ne-eqb (blockSizeOf p) 0 n, le-ltb 4066 (blockSizeOf p) l, framed-count p f, ne-eqb (moduleCountOf p) 0 m, le-ltb 16 (moduleCountOf p) g)
+    pub read-11 : twice11 (numbersOf ms) ≡ meets11 p
+    unfolding meets11
+    read-11 = rw (e, map-map)
 
 -- the order of the whole
 module _ (t : Table) (h : Header) (b : List ℕ) where

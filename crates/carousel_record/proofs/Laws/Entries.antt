@@ -10,12 +10,13 @@ use lib.ListN.{length, getD, take, drop, length-map, length-take, length-drop, d
 use lib.Seq.{drop-cons, getD-take, drop-drop}
 use borrow.Author.Tests.{eq-eqb, ne-eqb, lt-ltb, le-ltb}
 use Rattle.carousel_messages.specs.declared.Listed.{Listed}
-use Rattle.carousel_messages.specs.Limits.{someBad, total, among, twice11}
 use Rattle.carousel_record.specs.declared.Module.{Module}
+use Rattle.carousel_messages.proofs.Laws.Limits.{take-map}
+use Rattle.carousel_record.specs.declared.Carousel.{Carousel}
 use Rattle.carousel_record.specs.Blocks.{blocksOf}
 use Rattle.carousel_record.specs.Marks.{clearFrom, marksWithin}
-use Rattle.carousel_record.specs.Record.{listedIn, startIn, sizesOf, numbersOf, placeIn, sums, sameNumbers, unused, isUnused, allUnused}
-use Rattle.carousel_record.proofs.Laws.Places.{among-place}
+use Rattle.carousel_messages.specs.Heard.{sizesOf}
+use Rattle.carousel_record.specs.Record.{listedIn, startIn, announcedBy, sums, sameNumbers, unused, isUnused, allUnused}
 
 module _ (ms : List Module) (n : ℕ) (h : n ≤ length ms) where
   abbrev listed : List Listed
@@ -27,12 +28,9 @@ module _ (ms : List Module) (n : ℕ) (h : n ≤ length ms) where
   long : {A : Type 0} (f : Module → A) → length (map f (take n ms)) ≡ n
   long f = length-map (take n ms) f ∙ length-take n ms ∙ omega arith
 
-  -- as many modules, and as many sizes, as entries
+  -- as many modules as entries
   pub listed-long : length listed ≡ n
   listed-long = long listedIn
-
-  pub sizes-long : length (sizesOf listed) ≡ n
-  sizes-long = length-map listed (λ m. m .size) ∙ long listedIn
 
   pub next : {A : Type 0} (f : Module → A) (i : ℕ) → i < n → drop i (map f (take n ms)) ≡ f (getD ms i unused) ∷ drop (i + 1) (map f (take n ms))
   next {A} f i l =
@@ -44,48 +42,6 @@ module _ (ms : List Module) (n : ℕ) (h : n ≤ length ms) where
   none-left f i l = let k = long f in let m : length (map f (take n ms)) ≤ i = omega arith in drop-of-length-le (map f (take n ms)) m
 
   module _ (i : ℕ) (l : i < n) where
-    -- the sizes together
-    pub total-next : getD ms i unused .size + total (sizesOf (drop (i + 1) listed)) ≡ total (sizesOf (drop i listed))
-    unfolding total
-    total-next = rw (next listedIn i l)
-
-    -- a size that is 0, or too large, or neither
-    pub bad-zero : (bs : ℕ) → getD ms i unused .size ≡ 0 → someBad bs (sizesOf (drop i listed)) ≡ true
-    unfolding someBad
-    bad-zero bs e = rw (next listedIn i l, eq-eqb (getD ms i unused .size) 0 e)
-
-    module _ (bs : ℕ) (z : getD ms i unused .size ≡ 0 → ⊥) where
-      pub bad-large : 256 * bs < getD ms i unused .size → someBad bs (sizesOf (drop i listed)) ≡ true
-      unfolding someBad
-      bad-large e = rw (next listedIn i l, ne-eqb (getD ms i unused .size) 0 z, lt-ltb (256 * bs) (getD ms i unused .size) e)
-
-      pub bad-next : getD ms i unused .size ≤ 256 * bs → someBad bs (sizesOf (drop (i + 1) listed)) ≡ someBad bs (sizesOf (drop i listed))
-      unfolding someBad
-      bad-next e = rw (next listedIn i l, ne-eqb (getD ms i unused .size) 0 z, le-ltb (256 * bs) (getD ms i unused .size) e)
-
-    -- the place of a number
-    pub place-hit : (k : ℕ) → getD ms i unused .number ≡ k → placeIn k (drop i listed) ≡ 0
-    unfolding placeIn
-    place-hit k e = rw (next listedIn i l, eq-eqb (getD ms i unused .number) k e)
-
-    pub place-next : (k : ℕ) → (getD ms i unused .number ≡ k → ⊥) → placeIn k (drop i listed) ≡ suc (placeIn k (drop (i + 1) listed))
-    unfolding placeIn
-    place-next k e = rw (next listedIn i l, ne-eqb (getD ms i unused .number) k e)
-
-    -- a number that has a place among the later ones, or has none
-    later : (k : ℕ) → among k (numbersOf (drop (i + 1) listed)) ≡ ltb (placeIn k (drop (i + 1) listed)) (n - (i + 1))
-    later k =
-        let e = length-drop (i + 1) listed ∙ ap (λ (m : ℕ). m - (i + 1)) (long listedIn) in
-        among-place k (drop (i + 1) listed) ∙ ap (λ (m : ℕ). ltb (placeIn k (drop (i + 1) listed)) m) e
-
-    pub twice-hit : i + 1 + placeIn (getD ms i unused .number) (drop (i + 1) listed) < n → twice11 (numbersOf (drop i listed)) ≡ true
-    unfolding twice11
-    twice-hit h = rw (next listedIn i l, later (getD ms i unused .number), lt-ltb (placeIn (getD ms i unused .number) (drop (i + 1) listed)) (n - (i + 1)) (omega arith))
-
-    pub twice-next : n ≤ i + 1 + placeIn (getD ms i unused .number) (drop (i + 1) listed) → twice11 (numbersOf (drop (i + 1) listed)) ≡ twice11 (numbersOf (drop i listed))
-    unfolding twice11
-    twice-next h = rw (next listedIn i l, later (getD ms i unused .number), le-ltb (placeIn (getD ms i unused .number) (drop (i + 1) listed)) (n - (i + 1)) (omega arith))
-
     -- a start that is the running sum, or is not
     pub running-off : (s : ℕ) → (getD ms i unused .start ≡ s → ⊥) → sameNumbers (drop i starts) (sums s (sizesOf (drop i listed))) ≡ false
     unfolding sums sameNumbers
@@ -114,22 +70,6 @@ module _ (ms : List Module) (n : ℕ) (h : n ≤ length ms) where
 
   -- none left
   module _ (i : ℕ) (l : n ≤ i) where
-    pub total-done : total (sizesOf (drop i listed)) ≡ 0
-    unfolding total
-    total-done = rw (none-left listedIn i l)
-
-    pub bad-done : (bs : ℕ) → someBad bs (sizesOf (drop i listed)) ≡ false
-    unfolding someBad
-    bad-done bs = rw (none-left listedIn i l)
-
-    pub place-done : (k : ℕ) → placeIn k (drop i listed) ≡ 0
-    unfolding placeIn
-    place-done k = rw (none-left listedIn i l)
-
-    pub twice-done : twice11 (numbersOf (drop i listed)) ≡ false
-    unfolding twice11
-    twice-done = rw (none-left listedIn i l)
-
     pub running-done : (s : ℕ) → sameNumbers (drop i starts) (sums s (sizesOf (drop i listed))) ≡ true
     unfolding sums sameNumbers
     running-done s = rw (none-left listedIn i l, none-left startIn i l)
@@ -137,6 +77,11 @@ module _ (ms : List Module) (n : ℕ) (h : n ≤ length ms) where
     pub marks-done : (bs : ℕ) (ws : List ℕ) → marksWithin (map (λ z. blocksOf bs z) (sizesOf (drop i listed))) ws ≡ clearFrom 0 ws
     unfolding marksWithin
     marks-done bs ws = rw (none-left listedIn i l)
+
+-- the entries in use, as announced modules, are what the record says
+pub said-by : (c : Carousel) (ls : List Listed) → ls ≡ map listedIn (c .modules) → take (c .count) ls ≡ announcedBy c .modules
+unfolding announcedBy
+said-by c ls e = ap (take (c .count)) e ∙ take-map listedIn (c .count) (c .modules)
 
 -- entries that are not used
 module _ (ms : List Module) (i : ℕ) where

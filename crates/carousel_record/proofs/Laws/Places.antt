@@ -10,8 +10,9 @@ use borrow.Author.Tests.{eq-eqb, ne-eqb, eqb-true, eqb-false, lt-ltb, ltb-false}
 use Rattle.wire.proofs.Laws.Tests.{both, neither, clash}
 use Rattle.carousel_messages.specs.declared.Listed.{Listed}
 use Rattle.carousel_messages.specs.Limits.{largestBlock, mostModules, mostBlocks, mostBytes, badSize, someBad, total, beyond10, among, twice11}
-use Rattle.carousel_messages.specs.Heard.{noneListed}
-use Rattle.carousel_record.specs.Record.{sizesOf, numbersOf, placeIn, sums, sameNumbers}
+use Rattle.carousel_messages.specs.Heard.{noneListed, sizesOf, numbersOf, placeIn}
+use Rattle.carousel_messages.proofs.Laws.Limits.{among-place}
+use Rattle.carousel_record.specs.Record.{sums, sameNumbers}
 
 -- the same numbers are the same list
 pub same-is : (xs ys : List ℕ) → sameNumbers xs ys ≡ true → xs ≡ ys
@@ -50,16 +51,6 @@ place-le n (m ∷ ms) (suc i) h e = go (eqb (m .number) n) (place-le n ms i (ome
     go : (t : Bool) → placeIn n ms ≤ i → cond t 0 (suc (placeIn n ms)) ≤ suc i
     go true k = omega arith
     go false k = omega arith
-
--- a number is among those announced exactly where it has a place
-pub among-place : (n : ℕ) (ms : List Listed) → among n (numbersOf ms) ≡ ltb (placeIn n ms) (length ms)
-unfolding among placeIn
-among-place n [] = refl
-among-place n (m ∷ ms) = go (eqb (m .number) n) (among-place n ms)
-  where
-    go : (t : Bool) → among n (numbersOf ms) ≡ ltb (placeIn n ms) (length ms) → (t || among n (numbersOf ms)) ≡ ltb (cond t 0 (suc (placeIn n ms))) (suc (length ms))
-    go true e = sym (lt-ltb 0 (suc (length ms)) (omega arith))
-    go false e = e ∙ sym (leb·suc-suc (suc (placeIn n ms)) (length ms))
 
 -- where no number comes twice, a module's number is found at its place
 pub place-is : (ms : List Listed) (i : ℕ) → twice11 (numbersOf ms) ≡ false → i < length ms → placeIn (getD ms i noneListed .number) ms ≡ i

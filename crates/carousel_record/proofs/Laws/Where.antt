@@ -6,7 +6,8 @@ use mathlib.Core.Logic.{_⊎_, inl, inr}
 use native.Mathlib.Omega.{arith}
 use native.Mathlib.Decide.{decLt}
 use lib.ListN.{length, getD}
-use Rattle.carousel_record.specs.Record.{Record, sizesOf, moduleAt, bytesOf, sums, blockCount, blockLength, blockAt}
+use Rattle.carousel_messages.specs.Heard.{sizesOf}
+use Rattle.carousel_record.specs.Record.{Record, moduleAt, bytesOf, sums, blockCount, blockLength, blockAt}
 use Rattle.carousel_record.proofs.Laws.Tests.{alike}
 use Rattle.carousel_record.proofs.Laws.Blocks.{ends, apart}
 use Rattle.carousel_record.proofs.Laws.Places.{module-fits, modules-apart, block-size-pos}

@@ -9,10 +9,10 @@ use lib.Seq.{paste, paste-zero, paste-suc, take-length}
 use Rattle.carousel_messages.specs.declared.Listed.{Listed}
 use Rattle.carousel_messages.specs.declared.Announcement.{Announcement}
 use Rattle.carousel_messages.specs.Limits.{total}
-use Rattle.carousel_messages.specs.Heard.{noneListed, listOf, announcedIn}
+use Rattle.carousel_messages.specs.Heard.{noneListed, listOf, announcedIn, sizesOf}
 use Rattle.carousel_record.specs.declared.Module.{Module}
 use Rattle.carousel_record.specs.declared.Carousel.{Carousel}
-use Rattle.carousel_record.specs.Record.{sizesOf, unused}
+use Rattle.carousel_record.specs.Record.{unused}
 use Rattle.carousel_record.specs.Changes.{emptyRecord, entries, madeAfresh}
 
 -- the record of an announcement with its first i modules in it

@@ -12,9 +12,9 @@ use Rattle.carousel_messages.specs.declared.Announcement.{Announcement}
 use Rattle.carousel_messages.specs.declared.Judged.the-variants as judged
 use Rattle.carousel_messages.specs.Limits.{total}
 use Rattle.carousel_messages.specs.Judged.{judgedOf}
-use Rattle.carousel_messages.specs.Heard.{spanOf, listOf, announcedIn, arrivedIn, heardIn, heardOf}
+use Rattle.carousel_messages.specs.Heard.{spanOf, listOf, announcedIn, arrivedIn, heardIn, heardOf, sizesOf}
 use Rattle.carousel_messages.proofs.Laws.Heard.{announcement-inside, count-said, heard-small, block-inside, heard-limits}
-use Rattle.carousel_record.specs.Record.{recordOf, sizesOf, ruledOf}
+use Rattle.carousel_record.specs.Record.{recordOf, ruledOf}
 use Rattle.wire.specs.Tests.{firstMet}
 use Rattle.carousel_record.specs.declared.Carousel.{Carousel}
 use Rattle.carousel_step.specs.declared.Stepped.{Stepped}

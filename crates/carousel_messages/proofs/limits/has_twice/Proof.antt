@@ -1,25 +1,75 @@
--- `carousel_messages::limits::has_twice` meets its contract.
-use mathlib.Core.Path.{_∙_}
-use native.Mathlib.Omega.{arith}
-use Rattle.carousel_messages.specs.Refusals.{meets11}
-use Rattle.carousel_messages.proofs.Laws.Refusals.{framed-starts}
+-- `carousel_messages::limits::has_twice` meets its contract. The invariant: of the numbers left one comes twice just where one of all does.
 use borrow.Author.Needs.{needs}
+use mathlib.Core.Path.{_≡_, refl, sym, _∙_}
+use Prim.Native.Nat.{_-_}
+use native.Mathlib.Omega.{arith}
+use lib.ListN.{take, drop}
+use Rattle.carousel_messages.specs.Limits.{twice11}
+use Rattle.carousel_messages.specs.Heard.{numbersOf}
+use Rattle.carousel_messages.proofs.Laws.Limits.{twice-hit, twice-next, twice-done}
 use Rattle.carousel_messages.proofs.limits.has_twice.Statement.{statement}
 use Rattle.carousel_messages.proofs.limits.has_twice.Tie as tie
 
-modules-start-requires : tie.Need-modules-start-requires
-modules-start-requires c κs = search needs
+abbrev Inv-loop : tie.InvT-loop
+Inv-loop n ms end i₀ i = twice11 (numbersOf (drop i (take n ms))) ≡ twice11 (numbersOf (take n ms))
 
-module-count-requires : tie.Need-module-count-requires
-module-count-requires c κs = search needs
+abbrev μ-loop : tie.MeasureT-loop
+μ-loop n ms end i₀ i = end - i
 
-twice-from-requires : tie.Need-twice-from-requires
-twice-from-requires c κs = let l = framed-starts (c .before .before .before .args .p .now) (c .before .before .before .pre) in omega (arith, l, c .before .modules-start .ensures .0)
+used-requires : tie.Need-used-requires Inv-loop μ-loop
+used-requires c κs = search needs
 
-returns : tie.Need-returns
-unfolding meets11
-returns c = c .twice-from .ensures ∙ rw (c .before .module-count .ensures .0, c .before .before .modules-start .ensures .0)
+loop-holds : tie.Need-loop-holds Inv-loop μ-loop
+loop-holds c = refl
+
+mul-m : tie.Need-mul-m Inv-loop μ-loop
+mul-m c = search needs
+
+array-copy-out-m : tie.Need-array-copy-out-m Inv-loop μ-loop
+array-copy-out-m c = search needs
+
+add-i : tie.Need-add-i Inv-loop μ-loop
+add-i c = search needs
+
+place-from-requires : tie.Need-place-from-requires Inv-loop μ-loop
+place-from-requires c κs = search needs
+
+returns : tie.Need-returns Inv-loop μ-loop
+returns c =
+    let l = c .before .before .before .before in
+    let a = l .before .before .args in
+    let u = l .before .used .ensures .0 in
+    sym (twice-hit (a .t1) (a .n) (l .loop .i) (omega arith) (omega (arith, c .before .place-from .ensures, c .if1 .taken))) ∙ l .loop .inv
+
+loop-less : tie.Need-loop-less Inv-loop μ-loop
+loop-less c = search needs
+
+loop-again : tie.Need-loop-again Inv-loop μ-loop
+loop-again c =
+    let l = c .before .before .before .before in
+    let a = l .before .before .args in
+    let u = l .before .used .ensures .0 in
+    twice-next (a .t1) (a .n) (l .loop .i) (omega arith) (omega (arith, c .before .place-from .ensures, c .if1 .left)) ∙ l .loop .inv
+
+returns-2 : tie.Need-returns-2 Inv-loop μ-loop
+returns-2 c =
+    let l = c .before in
+    let a = l .before .before .args in
+    sym (twice-done (take (a .n) (a .t1)) (l .loop .i) (omega (arith, l .before .used .ensures .0))) ∙ l .loop .inv
 
 pub has-twice-spec : {M : Type 1} → statement M
 has-twice-spec =
-    tie.close (tie.spec modules-start-requires module-count-requires twice-from-requires returns)
+    tie.close
+    (tie.spec
+    Inv-loop
+    μ-loop
+    used-requires
+    loop-holds
+    mul-m
+    array-copy-out-m
+    add-i
+    place-from-requires
+    returns
+    loop-less
+    loop-again
+    returns-2)

@@ -10,7 +10,8 @@ use lib.Seq.{take-all}
 use Rattle.carousel_record.specs.declared.Carousel.{Carousel}
 use Rattle.carousel_record.specs.Blocks.{blocksOf}
 use Rattle.carousel_record.specs.Marks.{marksWithin, clearFrom}
-use Rattle.carousel_record.specs.Record.{announcedBy, listedIn, sizesOf, unused}
+use Rattle.carousel_messages.specs.Heard.{sizesOf}
+use Rattle.carousel_record.specs.Record.{announcedBy, listedIn, unused}
 use Rattle.carousel_record.proofs.Laws.Entries.{place-off, place-kept, marks-done}
 use Rattle.carousel_record.proofs.rule.is_in_place.Statement.{statement}
 use Rattle.carousel_record.proofs.rule.is_in_place.Tie as tie

@@ -7,7 +7,8 @@ use lib.ListN.{length, take, length-map}
 use Rattle.carousel_record.specs.declared.Carousel.{Carousel}
 use Rattle.carousel_record.specs.Blocks.{blocksOf}
 use Rattle.carousel_record.specs.Marks.{marksWithin}
-use Rattle.carousel_record.specs.Record.{announcedBy, startsBy, listedIn, startIn, sizesOf, sums, sameNumbers, withinLimits, ruled, ruledOf}
+use Rattle.carousel_messages.specs.Heard.{sizesOf}
+use Rattle.carousel_record.specs.Record.{announcedBy, startsBy, listedIn, startIn, sums, sameNumbers, withinLimits, ruled, ruledOf}
 use borrow.Author.Needs.{needs}
 use Rattle.carousel_record.proofs.rule.is_ruled.Statement.{statement}
 use Rattle.carousel_record.proofs.rule.is_ruled.Tie as tie
