@@ -15,6 +15,7 @@ import receiver
 from second import ROOT
 
 SOURCES = [ROOT / "crates" / c / "src" / "lib.rt" for c in ("nebosvar", "ait_numbers", "carousel_record")]
+LIMITS = [ROOT / "crates" / c / "src" / f for c, f in (("carousel_messages", "limits.rt"), ("carousel_record", "marks.rt"))]
 HEADER = ROOT / "include" / "nebosvar.h"
 C_TYPES = {"uint8_t": "u8", "uint16_t": "u16", "uint32_t": "u32", "size_t": "usize"}
 
@@ -38,13 +39,22 @@ def rattle():
     return calls, structs
 
 
+def limits():
+    """The constants that the source gives a number to, in the order in which it does."""
+    numbers = {}
+    for path in LIMITS:
+        for name, value in re.findall(r"^pub const (\w+): \w+ = ([^;]+);", path.read_text(), re.M):
+            numbers[name] = eval(re.sub(r"\w+::", "", value).replace("/", "//"), {}, numbers)
+    return numbers
+
+
 def flat(types, structs):
     """What lies one after another in memory."""
-    counts = {"MOST_MODULES": 16}
+    counts = limits()
     for t in types:
         array = re.fullmatch(r"\[(\w+); ([\w:]+)\]", t)
         if array:
-            n = counts.get(array[2]) or int(array[2])
+            n = counts.get(array[2].split("::")[-1]) or int(array[2])
             yield from n * list(flat([array[1]], structs))
         elif t in structs:
             yield "{"
@@ -99,6 +109,13 @@ def compare_declarations():
     for name in wanted:
         assert wanted[name] == declared[name], (name, wanted[name], declared[name])
     print("embed.py: include/nebosvar.h declares the %d exported functions as the source has them" % len(wanted))
+
+
+def compare_limits():
+    """The header's limits are the source's."""
+    named = {n: int(v) for n, v in re.findall(r"NEBOSVAR_((?:MOST|MARK)_\w+) = (\d+)", text_of(HEADER))}
+    assert named and named == {n: limits()[n] for n in named}, (named, limits())
+    print("embed.py: the header's limits are the source's: %s" % ", ".join("%s %d" % x for x in named.items()))
 
 
 def compare_readme():
@@ -176,6 +193,7 @@ def run_example():
 
 
 compare_declarations()
+compare_limits()
 compare_readme()
 if sys.argv[1:] == ["run"]:
     run_example()
