@@ -42,7 +42,8 @@ room : (c : tie.Else3) → let s = from1 (from2 (from3 c)) in bytesOf (announced
 room c = omega (arith, c .before .bytes-of .ensures, c .if3 .left)
 
 -- what the module that was found lacks
-lack : (c : tie.After-lack-of) → let s = from1 (from2 (from3 (c .before))) in c .lack-of .result .count ≡ lackOf (missingOf (recordOf (s .args .c)) (placeOf (announcedBy (s .args .c)) (s .args .number))) .count
+lack : (c : tie.After-lack-of) → let s = from1 (from2 (from3 (c .before))) in
+    c .lack-of .result .count ≡ lackOf (missingOf (recordOf (s .args .c)) (placeOf (announcedBy (s .args .c)) (s .args .number))) .count
 lack c =
     let s = from1 (from2 (from3 (c .before))) in
     ap (λ (l : Lack). l .count) (c .lack-of .ensures) ∙ ap (λ i. lackOf (missingOf (recordOf (s .args .c)) i) .count) (from3 (c .before) .before .before .place-of .ensures)

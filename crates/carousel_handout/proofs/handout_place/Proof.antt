@@ -21,7 +21,8 @@ all-entries : (s : tie.Start) → length (s .args .c .modules) ≡ mostModules
 all-entries s = sym (length-map (s .args .c .modules) _) ∙ s .good .0 .1 .1 .1 .1 .1 .0 .1 .0 .1
 
 given : (c : tie.Else1) → let s = c .before .before .before in
-    (ruledOf (s .args .c) ≡ true) × (placeOf (announcedBy (s .args .c)) (s .args .number) < length (announcedBy (s .args .c) .modules)) × (bytesOf (announcedBy (s .args .c)) ≤ length (s .args .image .now))
+    (ruledOf (s .args .c) ≡ true)
+    × (placeOf (announcedBy (s .args .c)) (s .args .number) < length (announcedBy (s .args .c) .modules)) × (bytesOf (announcedBy (s .args .c)) ≤ length (s .args .image .now))
 given c = let s = c .before .before .before in given-out (s .args .c) (s .args .number) (s .args .image .now) (sym (c .before .handout-number .ensures) ∙ c .if1 .left)
 
 few : (c : tie.Else1) → c .before .before .before .args .c .count ≤ mostModules
@@ -44,7 +45,8 @@ entry c = getD (from c .args .c .modules) (c .place-of .result) unused
 size-of : (c : tie.After-place-of) → moduleAt (announcedBy (from c .args .c)) (placeOf (announcedBy (from c .args .c)) (from c .args .number)) .size ≡ entry c .size
 size-of c =
     let s = from c in
-    ap (λ i. moduleAt (announcedBy (s .args .c)) i .size) (sym (c .place-of .ensures)) ∙ ap (λ (m : Listed). m .size) (says-module (s .args .c) (all-entries s) (few (c .before .before)) (c .place-of .result) (found c))
+    ap (λ i. moduleAt (announcedBy (s .args .c)) i .size) (sym (c .place-of .ensures))
+    ∙ ap (λ (m : Listed). m .size) (says-module (s .args .c) (all-entries s) (few (c .before .before)) (c .place-of .result) (found c))
 
 start-of : (c : tie.After-place-of) → getD (startsBy (from c .args .c)) (placeOf (announcedBy (from c .args .c)) (from c .args .number)) 0 ≡ entry c .start
 start-of c =

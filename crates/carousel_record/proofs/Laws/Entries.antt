@@ -1,14 +1,13 @@
 -- The record's first n entries one at a time, as the loops over them take them.
-use Prim.Native.Nat.{ℕ, suc, _+_, _-_, _*_, _≤_, _<_}
+use Prim.Native.Nat.{ℕ, suc, _+_, _*_, _≤_, _<_}
 use mathlib.Core.Path.{_≡_, ap, _∙_}
 use mathlib.Core.Bool.{true, false}
 use mathlib.Core.List.{List, [], _∷_, map}
 use native.Mathlib.Numerals.{add-one}
 use native.Mathlib.Omega.{arith}
-use lib.Dec.{ltb}
-use lib.ListN.{length, getD, take, drop, length-map, length-take, length-drop, drop-of-length-le, List·getD-map}
+use lib.ListN.{length, getD, take, drop, length-map, length-take, drop-of-length-le, List·getD-map}
 use lib.Seq.{drop-cons, getD-take, drop-drop}
-use borrow.Author.Tests.{eq-eqb, ne-eqb, lt-ltb, le-ltb}
+use borrow.Author.Tests.{eq-eqb, ne-eqb}
 use Rattle.carousel_messages.specs.declared.Listed.{Listed}
 use Rattle.carousel_record.specs.declared.Module.{Module}
 use Rattle.carousel_messages.proofs.Laws.Limits.{take-map}
@@ -62,7 +61,8 @@ module _ (ms : List Module) (n : ℕ) (h : n ≤ length ms) where
       place-off e = rw (next listedIn i l, e)
 
       pub place-kept : clearFrom (blocksOf bs (getD ms i unused .size)) here ≡ true
-          → marksWithin (map (λ z. blocksOf bs z) (sizesOf (drop (i + 1) listed))) (drop (moduleWords * (i + 1)) ws) ≡ marksWithin (map (λ z. blocksOf bs z) (sizesOf (drop i listed))) (drop (moduleWords * i) ws)
+          → marksWithin (map (λ z. blocksOf bs z) (sizesOf (drop (i + 1) listed))) (drop (moduleWords * (i + 1)) ws)
+          ≡ marksWithin (map (λ z. blocksOf bs z) (sizesOf (drop i listed))) (drop (moduleWords * i) ws)
       unfolding marksWithin
       place-kept e =
           let k : moduleWords * (i + 1) ≡ moduleWords * i + moduleWords = omega arith in

@@ -27,7 +27,10 @@ before ms i = total (sizesOf (take i ms))
 pub filled-none : (a : Announcement) (ms : List Listed)
     → record { download = a .download; «block_size» = a .«block_size»; count = a .count; modules = emptyRecord .modules; marks = emptyRecord .marks } ≡ filled a ms 0
 unfolding emptyRecord
-filled-none a ms = ap (λ (l : List Module). record { download = a .download; «block_size» = a .«block_size»; count = a .count; modules = l; marks = replicate markWords 0 }) (paste-zero (replicate mostModules unused) 0 (entries 0 ms))
+filled-none a ms =
+    ap
+    (λ (l : List Module). record { download = a .download; «block_size» = a .«block_size»; count = a .count; modules = l; marks = replicate markWords 0 })
+    (paste-zero (replicate mostModules unused) 0 (entries 0 ms))
 
 pub before-next : (ms : List Listed) (i : ℕ) → i < length ms → before ms (i + 1) ≡ before ms i + getD ms i noneListed .size
 unfolding total
@@ -65,7 +68,9 @@ modules-next a ms i h k =
     let e = entry-at 0 ms i h in
     let z : 0 + before ms i ≡ before ms i = omega arith in
     let o : i ≡ 0 + i = omega arith in
-    rw (add-one i) (ap (λ (x : Module). set (filled a ms i .modules) i x) (sym (e ∙ ap (λ (n : ℕ). record { number = getD ms i noneListed .number; size = getD ms i noneListed .size; version = getD ms i noneListed .version; start = n }) z))
+    let f : getD (entries 0 ms) i unused ≡ record { number = getD ms i noneListed .number; size = getD ms i noneListed .size; version = getD ms i noneListed .version; start = before ms i } =
+    e ∙ ap (λ (n : ℕ). record { number = getD ms i noneListed .number; size = getD ms i noneListed .size; version = getD ms i noneListed .version; start = n }) z in
+    rw (add-one i) (ap (λ (x : Module). set (filled a ms i .modules) i x) (sym f)
     ∙ ap (λ (n : ℕ). set (filled a ms i .modules) n (getD (entries 0 ms) i unused)) o
     ∙ paste-suc (replicate mostModules unused) 0 (entries 0 ms) i unused (omega arith) (omega arith))
 

@@ -1,6 +1,5 @@
 -- `test_carousel::marks_digest` stays within the record's words and ends.
 use borrow.Author.Needs.{needs}
-use native.Mathlib.Omega.{arith}
 use Prim.Native.Nat.{_≤_, _-_}
 use Rattle.carousel_record.specs.Marks.{markWords}
 use Rattle.test_carousel.proofs.marks_digest.Statement.{statement}

@@ -1,6 +1,5 @@
 -- `test_carousel::modules_digest` stays within the record's entries and ends.
 use borrow.Author.Needs.{needs}
-use native.Mathlib.Omega.{arith}
 use Prim.Native.Nat.{_≤_, _-_}
 use Rattle.carousel_messages.specs.Limits.{mostModules}
 use Rattle.test_carousel.proofs.modules_digest.Statement.{statement}

@@ -13,7 +13,9 @@ use Rattle.carousel_record.proofs.rule.is_running.Tie as tie
 
 abbrev Inv-loop : tie.InvT-loop
 Inv-loop n ms sum₀ i₀ sum i =
-    (i ≤ n) × (sum ≤ i * 4294967295) × (sameNumbers (drop i (map startIn (take n ms))) (sums sum (sizesOf (drop i (map listedIn (take n ms))))) ≡ sameNumbers (map startIn (take n ms)) (sums 0 (sizesOf (map listedIn (take n ms)))))
+    (i ≤ n) × (sum ≤ i * 4294967295)
+    × (sameNumbers (drop i (map startIn (take n ms))) (sums sum (sizesOf (drop i (map listedIn (take n ms)))))
+    ≡ sameNumbers (map startIn (take n ms)) (sums 0 (sizesOf (map listedIn (take n ms)))))
 
 abbrev μ-loop : tie.MeasureT-loop
 μ-loop n ms sum₀ i₀ sum i = n - i

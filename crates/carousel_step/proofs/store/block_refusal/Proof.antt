@@ -88,7 +88,8 @@ unfolding announcedBy arrivedIn
 fits c =
     let e = from4 (from5 (c .before .before)) in
     let s = start3 e in
-    ap (λ (m : Listed). ltb (d s .block) (blocksOf (a s .blockSize) (m .size)) && eqb (length (d s .bytes)) (blockLengthOf (a s .blockSize) (m .size) (d s .block))) (module-of e) ∙ sym (c .is-block .ensures)
+    ap (λ (m : Listed). ltb (d s .block) (blocksOf (a s .blockSize) (m .size)) && eqb (length (d s .bytes)) (blockLengthOf (a s .blockSize) (m .size) (d s .block))) (module-of e)
+    ∙ sym (c .is-block .ensures)
 
 cast-n : tie.Need-cast-n
 cast-n c = search needs
