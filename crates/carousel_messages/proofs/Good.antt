@@ -26,6 +26,7 @@ use Rattle.carousel_messages.specs.Refusals.{short7, meets8, messageFram
 use Rattle.carousel_messages.specs.Judged.{announcementOf, blockOf, judgedOf, carouselTableIn}
 use Rattle.carousel_messages.specs.declared.Listed.{Listed}
 use Rattle.carousel_messages.specs.Heard.{Announced, Arrived, announced, arrived, announcedIn, arrivedIn, heardIn, heardOf}
+use Rattle.carousel_messages.proofs.Laws.Limits.{within}
 use Rattle.carousel_messages.proofs.Laws.Heard.{modules-said, data-said}
 use Rattle.carousel_messages.specs.Good.{saidAnnouncement, saidBlock, GoodMessage, Distinct, announcedSizes, announcedNumbers, GoodList, GoodAnnouncement, GoodBlock}
 use Rattle.carousel_messages.proofs.Exact.{good-exactly, announced-exactly, carried-exactly}
@@ -108,31 +109,24 @@ distinct-back (k ∷ ks) d = rw (among-back k ks (d .0)) (distinct-back ks (d .1
 -- an announcement's payload
 module _ (p : List ℕ) where
   list-there : announcementFramed p ≡ true → meets10 p ≡ false → meets11 p ≡ false → GoodList p
-  unfolding announcementFramed meets10 meets11 beyond10
+  unfolding announcementFramed meets10 meets11
   list-there e f g =
       let a = both (leb (modulesStart p) (length p) && not (eqb (modulesEnd p) 0)) (eqb (modulesEnd p + 2 + sixteenAt p (modulesEnd p)) (length p)) e in
       let b = both (leb (modulesStart p) (length p)) (not (eqb (modulesEnd p) 0)) (a .0) in
       let bs = blockSizeOf p in
       let zs = announcedSizes p in
       let l = length-map (modulesOf p) moduleSizeOf in
-      let q = neither (eqb bs 0 || ltb largestBlock bs || eqb (length zs) 0 || ltb mostModules (length zs) || someBad bs zs) (ltb mostBytes (total zs)) f in
-      let r = neither (eqb bs 0 || ltb largestBlock bs || eqb (length zs) 0 || ltb mostModules (length zs)) (someBad bs zs) (q .0) in
-      let v = neither (eqb bs 0 || ltb largestBlock bs || eqb (length zs) 0) (ltb mostModules (length zs)) (r .0) in
-      let w = neither (eqb bs 0 || ltb largestBlock bs) (eqb (length zs) 0) (v .0) in
-      let x = neither (eqb bs 0) (ltb largestBlock bs) (w .0) in
-      let n = eqb-false bs 0 (x .0) in
-      let m = eqb-false (length zs) 0 (w .1) in
-      let k = ltb-false mostModules (length zs) (v .1) in
+      let w = within bs zs f in
       record {
         headed = leb-true _ _ (b .0);
         counted = eqb-false _ _ (not-true _ (b .1));
         ends = eqb-true _ _ (a .1);
-        blockSome = omega (arith, n);
-        blockMost = ltb-false largestBlock bs (x .1);
-        modulesSome = omega (arith, m);
-        modulesMost = omega arith;
-        sizes = sizes-there bs zs (r .1);
-        together = ltb-false mostBytes (total zs) (q .1);
+        blockSome = w .blockSome;
+        blockMost = w .blockMost;
+        modulesSome = omega (arith, w .some);
+        modulesMost = omega (arith, w .few);
+        sizes = sizes-there bs zs (w .sizes);
+        together = w .together;
         distinct = distinct-there (announcedNumbers p) g;
       }
 
@@ -194,7 +188,8 @@ module _ (s : List ℕ) where
   blocks-is : GoodSection Carousel s → carouselTableIn s ≡ Blocks → headerOf s .table ≡ blockTable
   blocks-is g e = go (eqb (headerOf s .table) announcementTable) (eqb (headerOf s .table) blockTable) refl refl e (g .table)
     where
-      go : (t u : Bool) → eqb (headerOf s .table) announcementTable ≡ t → eqb (headerOf s .table) blockTable ≡ u → cond t Announcements Blocks ≡ Blocks → (t || u) ≡ true → headerOf s .table ≡ blockTable
+      go : (t u : Bool) → eqb (headerOf s .table) announcementTable ≡ t → eqb (headerOf s .table) blockTable ≡ u
+          → cond t Announcements Blocks ≡ Blocks → (t || u) ≡ true → headerOf s .table ≡ blockTable
       go true u f k e h = let z : _≡_ {A = ℕ} 0 1 = cc in absurd (omega arith)
       go false true f k e h = eqb-true _ _ k
       go false false f k e h = absurd (clash false h refl)
@@ -278,7 +273,9 @@ module _ (s : List ℕ) where
   unfolding heardOf heardIn announcedIn announcementOf
   announcement-says g =
       let j = announcement-good .1 g in
-      ap (heardIn s) j ∙ ap (λ (ms : List Listed). announced (record { download = downloadOf (payloadOf (bodyOf s)); blockSize = blockSizeOf (payloadOf (bodyOf s)); modules = ms })) (modules-said s (announcementOf (bodyOf s)) j)
+      ap (heardIn s) j
+      ∙ ap (λ (ms : List Listed). announced (record { download = downloadOf (payloadOf (bodyOf s)); blockSize = blockSizeOf (payloadOf (bodyOf s)); modules = ms }))
+      (modules-said s (announcementOf (bodyOf s)) j)
 
   pub announcement-heard : (x : Announced) → (heardOf s ≡ announced x) ↔ (GoodAnnouncement s × (saidAnnouncement s ≡ x))
   announcement-heard x = (
@@ -294,7 +291,9 @@ module _ (s : List ℕ) where
   block-says g =
       let j = block-good .1 g in
       let p = payloadOf (bodyOf s) in
-      ap (heardIn s) j ∙ ap (λ (l : List ℕ). arrived (record { download = messageIdentifierOf (bodyOf s); number = blockModuleOf p; version = blockVersionOf p; block = blockNumberOf p; bytes = l })) (data-said s (blockOf (bodyOf s)) j)
+      ap (heardIn s) j
+      ∙ ap (λ (l : List ℕ). arrived (record { download = messageIdentifierOf (bodyOf s); number = blockModuleOf p; version = blockVersionOf p; block = blockNumberOf p; bytes = l }))
+      (data-said s (blockOf (bodyOf s)) j)
 
   pub block-heard : (x : Arrived) → (heardOf s ≡ arrived x) ↔ (GoodBlock s × (saidBlock s ≡ x))
   block-heard x = (

@@ -18,7 +18,7 @@ pub record Record : Type 0 where
   pub starts : List ℕ
   pub marks : List ℕ
 
--- The record as the code holds it has 16 entries and a count. What such a record says:
+-- The record as the code holds it has an array of entries and a count. What such a record says:
 abbrev pub listedIn : Module → Listed
 listedIn m = record { number = m .number; size = m .size; version = m .version }
 

@@ -14,6 +14,7 @@ use carousel_messages::Listed;
 use carousel_messages::MOST_MODULES;
 use carousel_messages::place_from;
 use carousel_messages::total;
+pub use marks::MARK_WORDS;
 pub use marks::is_marked;
 pub use marks::with_mark;
 pub use rule::is_ruled;
@@ -37,7 +38,7 @@ pub struct Carousel {
     pub block_size: u16,
     pub count: u16,
     pub modules: [Module; MOST_MODULES],
-    pub marks: [u32; 128],
+    pub marks: [u32; MARK_WORDS],
 }
 
 // The record that one starts with.
@@ -55,7 +56,7 @@ pub fn empty() -> Carousel
         block_size: 0,
         count: 0,
         modules: [unused; MOST_MODULES],
-        marks: [0u32; 128],
+        marks: [0u32; MARK_WORDS],
     }
 }
 

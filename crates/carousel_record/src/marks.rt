@@ -1,13 +1,18 @@
 // Received marks, in any number of words.
 use crate::Carousel;
+use carousel_messages::MOST_BLOCKS;
+use carousel_messages::MOST_MODULES;
 ghost use mathlib.Core.Path.{_≡_};
 ghost use Prim.Native.Nat.{_-_, _/_, _^_};
 ghost use lib.Dec.{eqb};
 ghost use Rattle.carousel_record.specs.Marks.{isMarked, clearFrom};
 ghost use Rattle.carousel_record.specs.Changes.{withMark};
 
+// The words of one module's marks, 32 to a word.
+pub const MODULE_WORDS: usize = MOST_BLOCKS / 32;
+
 // The words of all marks of a record.
-const MARK_WORDS: usize = 128;
+pub const MARK_WORDS: usize = MOST_MODULES * MODULE_WORDS;
 
 // Mark k. Past the words there is none.
 pub fn is_marked(words: &[u32], k: usize) -> bool

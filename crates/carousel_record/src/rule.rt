@@ -3,6 +3,7 @@ use crate::Carousel;
 use crate::Module;
 use crate::blocks::blocks_of;
 use crate::listed;
+use crate::marks::MODULE_WORDS;
 use crate::marks::is_clear_from;
 use carousel_messages::MOST_MODULES;
 use carousel_messages::has_twice;
@@ -16,9 +17,6 @@ ghost use Rattle.carousel_record.specs.Blocks.{blocksOf};
 ghost use Rattle.carousel_record.specs.Marks.{marksWithin};
 ghost use Rattle.carousel_messages.specs.Heard.{sizesOf};
 ghost use Rattle.carousel_record.specs.Record.{announcedBy, listedIn, startIn, sums, sameNumbers, isUnused, allUnused, withinLimits, ruledOf};
-
-// The words of one module's marks: 256, 32 to a word.
-const MODULE_WORDS: usize = 8;
 
 // Whether a record keeps its rule.
 pub fn is_ruled(c: Carousel) -> bool

@@ -63,7 +63,7 @@ pub outcome-ruled : (c : Carousel) (s image : List ℕ) → ruledOf c ≡ true �
 unfolding outcomeOf
 outcome-ruled c s image e = rw e
 
--- The shape is kept: at most 16 modules, unused entries zero.
+-- The shape is kept: not too many modules, unused entries zero.
 unused-zero : (n : ℕ) → allUnused (replicate n unused) ≡ true
 unfolding allUnused
 unused-zero zero = refl

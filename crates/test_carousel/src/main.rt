@@ -12,9 +12,15 @@
 //   m number 16                       missing report
 ghost use Prim.Native.Nat.{_≤_};
 use carousel_handout::Report;
+use carousel_messages::MOST_BYTES;
+use carousel_messages::MOST_MODULES;
 use carousel_record::Carousel;
+use carousel_record::MARK_WORDS;
 use carousel_record::Module;
 use carousel_step::Answer;
+
+// Room for the largest image, and some bytes more.
+const MEMORY: usize = MOST_BYTES + 64;
 
 // What is kept from command to command: the record, and how much of the memory is the image.
 struct Kept {
@@ -25,7 +31,7 @@ struct Kept {
 fn main() {
     let mut buffer = io::large_buffer();
     let n = io::read_full(0, &mut buffer);
-    let mut memory = [0u8; 65600];
+    let mut memory = [0u8; MEMORY];
     follow(&buffer[..n], &mut memory);
 }
 
@@ -159,12 +165,12 @@ fn poke(c: Carousel, s: &[u8]) -> Carousel {
             next.count = wire::sixteen_at(s, 5);
         }
         7 => {
-            if place < 128 {
+            if place < MARK_WORDS {
                 next.marks[place] = wire::thirty_two_at(s, 3);
             }
         }
         _ => {
-            if place < 16 {
+            if place < MOST_MODULES {
                 let m = c.modules[place];
                 next.modules[place] = poked_module(m, s);
             }
@@ -295,7 +301,7 @@ fn digest(s: &[u8]) -> u32 {
     d
 }
 
-// All of the record: its numbers, its 16 entries and its 128 words.
+// All of the record: its numbers, its entries and its words of marks.
 fn record_digest(c: Carousel) -> u32 {
     let a = mixed_word(0, c.download);
     let b = mixed_word(a, c.block_size as u32);
@@ -306,7 +312,7 @@ fn record_digest(c: Carousel) -> u32 {
 fn modules_digest(from: u32, c: Carousel) -> u32 {
     let mut d = from;
     let mut i: usize = 0;
-    while i < 16 {
+    while i < MOST_MODULES {
         let m = c.modules[i];
         d = module_digest(d, m);
         i += 1;
@@ -324,7 +330,7 @@ fn module_digest(from: u32, m: Module) -> u32 {
 fn marks_digest(from: u32, c: Carousel) -> u32 {
     let mut d = from;
     let mut i: usize = 0;
-    while i < 128 {
+    while i < MARK_WORDS {
         d = mixed_word(d, c.marks[i]);
         i += 1;
     }

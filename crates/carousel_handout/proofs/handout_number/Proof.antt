@@ -5,6 +5,7 @@ use mathlib.Core.Bool.{true}
 use native.Mathlib.Omega.{arith}
 use lib.ListN.{length, length-map}
 use borrow.Author.Tests.{not-true, not-false}
+use Rattle.carousel_messages.specs.Limits.{mostModules}
 use Rattle.carousel_record.specs.Record.{announcedBy, recordOf, placeOf, bytesOf, missingOf, ruledOf}
 use Rattle.carousel_record.proofs.Laws.Rule.{ruled-count}
 use Rattle.carousel_record.proofs.Laws.Says.{says-count}
@@ -15,8 +16,8 @@ use borrow.Author.Needs.{needs}
 use Rattle.carousel_handout.proofs.handout_number.Statement.{statement}
 use Rattle.carousel_handout.proofs.handout_number.Tie as tie
 
-sixteen : (s : tie.Start) → length (s .args .c .modules) ≡ 16
-sixteen s = sym (length-map (s .args .c .modules) _) ∙ s .good .0 .1 .1 .1 .1 .1 .0 .1 .0 .1
+all-entries : (s : tie.Start) → length (s .args .c .modules) ≡ mostModules
+all-entries s = sym (length-map (s .args .c .modules) _) ∙ s .good .0 .1 .1 .1 .1 .1 .0 .1 .0 .1
 
 -- what is known once the rule is kept, the module found, the image long enough
 abbrev from1 : tie.Else1 → tie.Start
@@ -32,7 +33,7 @@ ruled : (c : tie.Else1) → ruledOf (from1 c .args .c) ≡ true
 ruled c = sym (c .before .is-ruled .ensures) ∙ not-false _ (c .if1 .left)
 
 count : (c : tie.Else1) → length (announcedBy (from1 c .args .c) .modules) ≡ from1 c .args .c .count
-count c = says-count (from1 c .args .c) (sixteen (from1 c)) (ruled-count _ (ruled c))
+count c = says-count (from1 c .args .c) (all-entries (from1 c)) (ruled-count _ (ruled c))
 
 found : (c : tie.Else2) → let s = from1 (from2 c) in placeOf (announcedBy (s .args .c)) (s .args .number) < length (announcedBy (s .args .c) .modules)
 found c = let n = count (from2 c) in omega (arith, c .before .before .place-of .ensures, c .if2 .left)
@@ -41,7 +42,8 @@ room : (c : tie.Else3) → let s = from1 (from2 (from3 c)) in bytesOf (announced
 room c = omega (arith, c .before .bytes-of .ensures, c .if3 .left)
 
 -- what the module that was found lacks
-lack : (c : tie.After-lack-of) → let s = from1 (from2 (from3 (c .before))) in c .lack-of .result .count ≡ lackOf (missingOf (recordOf (s .args .c)) (placeOf (announcedBy (s .args .c)) (s .args .number))) .count
+lack : (c : tie.After-lack-of) → let s = from1 (from2 (from3 (c .before))) in
+    c .lack-of .result .count ≡ lackOf (missingOf (recordOf (s .args .c)) (placeOf (announcedBy (s .args .c)) (s .args .number))) .count
 lack c =
     let s = from1 (from2 (from3 (c .before))) in
     ap (λ (l : Lack). l .count) (c .lack-of .ensures) ∙ ap (λ i. lackOf (missingOf (recordOf (s .args .c)) i) .count) (from3 (c .before) .before .before .place-of .ensures)

@@ -4,6 +4,7 @@ use mathlib.Core.Path.{_≡_, sym, ap, _∙_}
 use mathlib.Core.Bool.{true}
 use native.Mathlib.Omega.{arith}
 use lib.ListN.{length, getD, length-map}
+use Rattle.carousel_messages.specs.Limits.{mostModules}
 use Rattle.carousel_messages.specs.declared.Listed.{Listed}
 use Rattle.carousel_record.specs.declared.Module.{Module}
 use Rattle.carousel_record.specs.Record.{announcedBy, recordOf, startsBy, moduleAt, placeOf, bytesOf, modulePart, unused, ruledOf}
@@ -16,14 +17,15 @@ use borrow.Author.Needs.{needs}
 use Rattle.carousel_handout.proofs.handout_place.Statement.{statement}
 use Rattle.carousel_handout.proofs.handout_place.Tie as tie
 
-sixteen : (s : tie.Start) → length (s .args .c .modules) ≡ 16
-sixteen s = sym (length-map (s .args .c .modules) _) ∙ s .good .0 .1 .1 .1 .1 .1 .0 .1 .0 .1
+all-entries : (s : tie.Start) → length (s .args .c .modules) ≡ mostModules
+all-entries s = sym (length-map (s .args .c .modules) _) ∙ s .good .0 .1 .1 .1 .1 .1 .0 .1 .0 .1
 
 given : (c : tie.Else1) → let s = c .before .before .before in
-    (ruledOf (s .args .c) ≡ true) × (placeOf (announcedBy (s .args .c)) (s .args .number) < length (announcedBy (s .args .c) .modules)) × (bytesOf (announcedBy (s .args .c)) ≤ length (s .args .image .now))
+    (ruledOf (s .args .c) ≡ true)
+    × (placeOf (announcedBy (s .args .c)) (s .args .number) < length (announcedBy (s .args .c) .modules)) × (bytesOf (announcedBy (s .args .c)) ≤ length (s .args .image .now))
 given c = let s = c .before .before .before in given-out (s .args .c) (s .args .number) (s .args .image .now) (sym (c .before .handout-number .ensures) ∙ c .if1 .left)
 
-few : (c : tie.Else1) → c .before .before .before .args .c .count ≤ 16
+few : (c : tie.Else1) → c .before .before .before .args .c .count ≤ mostModules
 few c = ruled-count (c .before .before .before .args .c) (given c .0)
 
 -- once it was found
@@ -33,7 +35,7 @@ from c = c .before .before .before .before .before
 found : (c : tie.After-place-of) → c .place-of .result < from c .args .c .count
 found c =
     let s = from c in
-    let n = says-count (s .args .c) (sixteen s) (few (c .before .before)) in
+    let n = says-count (s .args .c) (all-entries s) (few (c .before .before)) in
     omega (arith, c .place-of .ensures, given (c .before .before) .1)
 
 -- the entry that was found
@@ -43,12 +45,13 @@ entry c = getD (from c .args .c .modules) (c .place-of .result) unused
 size-of : (c : tie.After-place-of) → moduleAt (announcedBy (from c .args .c)) (placeOf (announcedBy (from c .args .c)) (from c .args .number)) .size ≡ entry c .size
 size-of c =
     let s = from c in
-    ap (λ i. moduleAt (announcedBy (s .args .c)) i .size) (sym (c .place-of .ensures)) ∙ ap (λ (m : Listed). m .size) (says-module (s .args .c) (sixteen s) (few (c .before .before)) (c .place-of .result) (found c))
+    ap (λ i. moduleAt (announcedBy (s .args .c)) i .size) (sym (c .place-of .ensures))
+    ∙ ap (λ (m : Listed). m .size) (says-module (s .args .c) (all-entries s) (few (c .before .before)) (c .place-of .result) (found c))
 
 start-of : (c : tie.After-place-of) → getD (startsBy (from c .args .c)) (placeOf (announcedBy (from c .args .c)) (from c .args .number)) 0 ≡ entry c .start
 start-of c =
     let s = from c in
-    ap (λ i. getD (startsBy (s .args .c)) i 0) (sym (c .place-of .ensures)) ∙ says-start (s .args .c) (sixteen s) (few (c .before .before)) (c .place-of .result) (found c)
+    ap (λ i. getD (startsBy (s .args .c)) i 0) (sym (c .place-of .ensures)) ∙ says-start (s .args .c) (all-entries s) (few (c .before .before)) (c .place-of .result) (found c)
 
 inside : (c : tie.After-place-of) → entry c .start + entry c .size ≤ length (from c .args .image .now)
 inside c =

@@ -5,6 +5,7 @@ use mathlib.Core.Bool.{true}
 use native.Mathlib.Omega.{arith}
 use lib.ListN.{length, length-map}
 use borrow.Author.Tests.{not-true, not-false}
+use Rattle.carousel_messages.specs.Limits.{mostModules}
 use Rattle.carousel_handout.specs.declared.Lack.{Lack}
 use Rattle.carousel_record.specs.Record.{announcedBy, recordOf, placeOf, missingOf, ruledOf}
 use Rattle.carousel_record.specs.declared.Carousel.{Carousel}
@@ -17,8 +18,8 @@ use borrow.Author.Needs.{needs}
 use Rattle.carousel_handout.proofs.missing.Statement.{statement}
 use Rattle.carousel_handout.proofs.missing.Tie as tie
 
-sixteen : (s : tie.Start) → length (s .args .c .modules) ≡ 16
-sixteen s = sym (length-map (s .args .c .modules) _) ∙ s .good .0 .1 .1 .1 .1 .1 .0 .1 .0 .1
+all-entries : (s : tie.Start) → length (s .args .c .modules) ≡ mostModules
+all-entries s = sym (length-map (s .args .c .modules) _) ∙ s .good .0 .1 .1 .1 .1 .1 .0 .1 .0 .1
 
 -- what is known once the rule is kept, and once the module is found
 abbrev from1 : tie.Else1 → tie.Start
@@ -31,7 +32,7 @@ ruled : (c : tie.Else1) → ruledOf (from1 c .args .c) ≡ true
 ruled c = sym (c .before .is-ruled .ensures) ∙ not-false _ (c .if1 .left)
 
 count : (c : tie.Else1) → length (announcedBy (from1 c .args .c) .modules) ≡ from1 c .args .c .count
-count c = says-count (from1 c .args .c) (sixteen (from1 c)) (ruled-count _ (ruled c))
+count c = says-count (from1 c .args .c) (all-entries (from1 c)) (ruled-count _ (ruled c))
 
 found : (c : tie.Else2) → let s = from1 (from2 c) in placeOf (announcedBy (s .args .c)) (s .args .number) < length (announcedBy (s .args .c) .modules)
 found c = let n = count (from2 c) in omega (arith, c .before .before .place-of .ensures, c .if2 .left)

@@ -1,15 +1,15 @@
 -- What is heard of a section that is taken: the places that its answer gives lie in the section, and the bytes there are the modules, or the data, of its message.
 use Prim.Native.Nat.{ℕ, _+_, _-_, _≤_}
 use mathlib.Core.Path.{_≡_, refl, sym, ap, _∙_}
-use mathlib.Core.Bool.{Bool, true, false, _||_}
+use mathlib.Core.Bool.{true, false}
 use mathlib.Core.List.{List, map, map-map}
 use native.Mathlib.Omega.{arith}
-use lib.Dec.{eqb, leb, ltb}
+use lib.Dec.{eqb, leb}
 use lib.ListN.{length, take, drop, length-map, length-drop}
 use lib.Seq.{drop-drop, length-take-le}
-use borrow.Author.Tests.{eqb-true, leb-true, ltb-false, not-false}
+use borrow.Author.Tests.{eqb-true, leb-true, not-false}
 use Rattle.wire.specs.Items.{items}
-use Rattle.wire.proofs.Laws.Tests.{both, neither}
+use Rattle.wire.proofs.Laws.Tests.{both}
 use Rattle.wire.proofs.Laws.Order.{None}
 use Rattle.wire.proofs.Laws.Loops.{tail}
 use Rattle.wire.proofs.Laws.Counted.{counted-fits, counted-items}
@@ -23,10 +23,11 @@ use Rattle.carousel_messages.specs.declared.Judged.{Judged}
 use Rattle.carousel_messages.specs.declared.Judged.the-variants as judged
 use Rattle.carousel_messages.specs.Message.{adaptationOf, messageLengthOf, payloadOf}
 use Rattle.carousel_messages.specs.Contents.{moduleKind, moduleCountOf, modulesStart, modulesEnd, modulesOf, moduleSizeOf, blockSizeOf, announcementFramed, blockDataOf}
-use Rattle.carousel_messages.specs.Limits.{largestBlock, mostModules, mostBytes, someBad, total, beyond10, twice11}
+use Rattle.carousel_messages.specs.Limits.{mostModules, beyond10, twice11}
 use Rattle.carousel_messages.specs.Refusals.{messageFramed, payloadFramed, messageMeets7, meets10, meets11, messageTests}
 use Rattle.carousel_messages.specs.Judged.{announcementOf, blockOf, judgedOf, numberOfJudged, carouselTableIn}
 use Rattle.carousel_messages.specs.Heard.{listedOf, listOf, spanOf, Announced, announced, announcedIn, heardIn, heardOf}
+use Rattle.carousel_messages.proofs.Laws.Limits.{within}
 use Rattle.carousel_messages.proofs.Laws.Listed.{module-kind}
 use Rattle.carousel_messages.proofs.Laws.Refusals.{counted, framed-starts, framed-ends}
 use Rattle.carousel_messages.proofs.Exact.{good-exactly, announced-exactly, carried-exactly}
@@ -65,15 +66,6 @@ module _ (s : List ℕ) (l : 12 ≤ length s) (f : 12 + adaptationOf (bodyOf s) 
 -- a section that is taken has its header and its CRC
 taken-long : (s : List ℕ) → numberOfJudged (judgedOf s) ≡ 0 → 12 ≤ length s
 taken-long s e = let g = good-exactly s .0 e .0 in omega (arith, g .exact, g .least)
-
--- what is within the limits is so many modules at most
-beyond-few : (bs : ℕ) (zs : List ℕ) → beyond10 bs zs ≡ false → length zs ≤ mostModules
-unfolding beyond10
-beyond-few bs zs e =
-    let x : Bool = eqb bs 0 || ltb largestBlock bs || eqb (length zs) 0 in
-    let f = neither (x || ltb mostModules (length zs) || someBad bs zs) (ltb mostBytes (total zs)) e in
-    let g = neither (x || ltb mostModules (length zs)) (someBad bs zs) (f .0) in
-    ltb-false mostModules (length zs) (neither x (ltb mostModules (length zs)) (g .0) .1)
 
 tables-differ : Blocks ≡ Announcements → ⊥
 tables-differ e = let z : _≡_ {A = ℕ} 0 1 = cc in omega arith
@@ -141,7 +133,7 @@ module _ (s : List ℕ) (a : Announcement) (e : judgedOf s ≡ judged.Announced 
   pub heard-small : a .count ≤ mostModules
   unfolding meets10
   heard-small =
-      let b = beyond-few (blockSizeOf p) (map moduleSizeOf (modulesOf p)) (passes .1) in
+      let b = within (blockSizeOf p) (map moduleSizeOf (modulesOf p)) (passes .1) .few in
       let l = length-map (modulesOf p) moduleSizeOf in
       let k = how-many in
       omega arith

@@ -1,5 +1,5 @@
 -- The limits over the first n modules of an array, one module at a time, as the loops take them.
-use Prim.Native.Nat.{ℕ, zero, suc, _+_, _-_, _*_, _≤_, _<_}
+use Prim.Native.Nat.{ℕ, zero, suc, _+_, _*_, _≤_, _<_}
 use mathlib.Core.Path.{_≡_, refl, sym, ap, _∙_}
 use mathlib.Core.Bool.{Bool, true, false, cond, _||_}
 use mathlib.Core.List.{List, [], _∷_, _++_, map}
@@ -8,7 +8,8 @@ use native.Mathlib.Omega.{arith}
 use lib.Dec.{eqb, ltb, leb·suc-suc}
 use lib.ListN.{length, getD, set, take, drop, length-map, length-take, length-drop, drop-of-length-le}
 use lib.Seq.{drop-cons, getD-take, take-suc, take-suc-set}
-use borrow.Author.Tests.{eq-eqb, ne-eqb, lt-ltb, le-ltb}
+use borrow.Author.Tests.{eq-eqb, ne-eqb, lt-ltb, le-ltb, eqb-false, ltb-false}
+use Rattle.wire.proofs.Laws.Tests.{neither}
 use Rattle.carousel_messages.specs.declared.Listed.{Listed}
 use Rattle.carousel_messages.specs.Limits.{largestBlock, mostModules, mostBlocks, mostBytes, someBad, total, beyond10, among, twice11}
 use Rattle.carousel_messages.specs.Heard.{noneListed, sizesOf, numbersOf, placeIn}
@@ -129,3 +130,33 @@ module _ (bs : ℕ) (xs : List Listed) where
       pub beyond-sizes : (length xs ≡ 0 → ⊥) → length xs ≤ mostModules → beyond10 bs (sizesOf xs) ≡ (someBad bs (sizesOf xs) || ltb mostBytes (total (sizesOf xs)))
       unfolding beyond10
       beyond-sizes m g = rw (ne-eqb bs 0 n, le-ltb largestBlock bs l, length-map xs (λ m. m .size), ne-eqb (length xs) 0 m, le-ltb mostModules (length xs) g)
+
+-- and what it is to be within all of them
+pub record Within (bs : ℕ) (zs : List ℕ) : Type 0 where
+  pub blockSome : 0 < bs
+  pub blockMost : bs ≤ largestBlock
+  pub some : 0 < length zs
+  pub few : length zs ≤ mostModules
+  pub sizes : someBad bs zs ≡ false
+  pub together : total zs ≤ mostBytes
+
+pub within : (bs : ℕ) (zs : List ℕ) → beyond10 bs zs ≡ false → Within bs zs
+unfolding beyond10
+within bs zs e =
+    let o : Bool = eqb bs 0 in
+    let p : Bool = ltb largestBlock bs in
+    let q : Bool = eqb (length zs) 0 in
+    let r : Bool = ltb mostModules (length zs) in
+    let h = neither (o || p || q || r || someBad bs zs) (ltb mostBytes (total zs)) e in
+    let k = neither (o || p || q || r) (someBad bs zs) (h .0) in
+    let l = neither (o || p || q) r (k .0) in
+    let m = neither (o || p) q (l .0) in
+    let n = neither o p (m .0) in
+    record {
+      blockSome = omega (arith, eqb-false bs 0 (n .0));
+      blockMost = ltb-false largestBlock bs (n .1);
+      some = omega (arith, eqb-false (length zs) 0 (m .1));
+      few = ltb-false mostModules (length zs) (l .1);
+      sizes = k .1;
+      together = ltb-false mostBytes (total zs) (h .1);
+    }

@@ -50,7 +50,10 @@ module _ (list : List ℕ) where
 
   pub past : (k : ℕ) → endOf (k + 1) 0 modules ≡ 0 → length modules ≤ k
   past k e = elim (decLt k (length modules)) [
-    | yes p ↦ let q = end-some k modules (wholes moduleKind module-kind list) p in let r : endOf (k + 1) 0 modules ≡ endOf (suc k) 0 modules = ap (λ (n : ℕ). endOf n 0 modules) (omega arith) in absurd (omega arith)
+    | yes p ↦
+        let q = end-some k modules (wholes moduleKind module-kind list) p in
+        let r : endOf (k + 1) 0 modules ≡ endOf (suc k) 0 modules = ap (λ (n : ℕ). endOf n 0 modules) (omega arith) in
+        absurd (omega arith)
     | no p ↦ omega arith
   ]
 
@@ -94,7 +97,8 @@ module _ (list : List ℕ) (k i : ℕ) (e : i ≡ endOf k 0 (items moduleKind li
       let g : getD (items moduleKind list) k [] ≡ take (moduleKind (drop i list)) (drop i list) = rw e (q .0) in
       let n : sixteenAt (take (moduleKind (drop i list)) (drop i list)) 0 ≡ sixteenAt list i = field-part 2 list i (moduleKind (drop i list)) 0 (omega arith) ∙ ap (fieldAt 2 list) (omega arith) in
       let z : thirtyTwoAt (take (moduleKind (drop i list)) (drop i list)) 2 ≡ thirtyTwoAt list (i + 2) = field-part 4 list i (moduleKind (drop i list)) 2 (omega arith) in
-      let v : byteAt (take (moduleKind (drop i list)) (drop i list)) 6 ≡ byteAt list (i + 6) = sym (field-one (take (moduleKind (drop i list)) (drop i list)) 6) ∙ field-part 1 list i (moduleKind (drop i list)) 6 (omega arith) ∙ field-one list (i + 6) in
+      let v : byteAt (take (moduleKind (drop i list)) (drop i list)) 6 ≡ byteAt list (i + 6) =
+      sym (field-one (take (moduleKind (drop i list)) (drop i list)) 6) ∙ field-part 1 list i (moduleKind (drop i list)) 6 (omega arith) ∙ field-one list (i + 6) in
       sym (List·getD-map listedOf (items moduleKind list) k [] ∙ ap listedOf g ∙ fields _ _ _ _ _ _ n z v)
 
 -- so many modules end within their bytes

@@ -22,7 +22,7 @@ use Rattle.carousel_messages.specs.declared.Table.the-variants.{Announce
 use Rattle.carousel_messages.specs.declared.Listed.{Listed}
 use Rattle.carousel_messages.specs.declared.Judged.the-variants as judged
 use Rattle.carousel_messages.specs.Message.{messageOf, adaptationOf, messageLengthOf, payloadOf, wantedOf}
-use Rattle.carousel_messages.specs.Contents.{moduleKind, modulesStart, modulesEnd, moduleCountOf, modulesFrom, modulesOf, blockSizeOf, moduleSizeOf, announcementFramed, blockModuleOf, blockNumberOf}
+use Rattle.carousel_messages.specs.Contents.{moduleKind, modulesStart, modulesEnd, moduleCountOf, modulesOf, blockSizeOf, moduleSizeOf, announcementFramed, blockModuleOf, blockNumberOf}
 use Rattle.carousel_messages.specs.Limits.{largestBlock, mostModules, mostBytes, someBad, total, beyond10, twice11}
 use Rattle.carousel_messages.specs.Refusals.{short7, meets8, messageFramed, payloadFramed, messageMeets7, meets9, meets10, meets11, payloadRefusal, messageRefusal}
 use Rattle.carousel_messages.specs.Heard.{listedOf, sizesOf, numbersOf}
@@ -147,7 +147,10 @@ module _ (p : List ℕ) where
   pub beyond-many : announcementFramed p ≡ true → mostModules < moduleCountOf p → meets10 p ≡ true
   unfolding meets10 beyond10
   beyond-many f g =
-      rw (framed-count p f, lt-ltb mostModules (moduleCountOf p) g) (one-met (eqb (blockSizeOf p) 0 || ltb largestBlock (blockSizeOf p) || eqb (moduleCountOf p) 0) (someBad (blockSizeOf p) (map moduleSizeOf (modulesOf p))) (ltb mostBytes (total (map moduleSizeOf (modulesOf p)))))
+      let bs = blockSizeOf p in
+      let zs = map moduleSizeOf (modulesOf p) in
+      rw (framed-count p f, lt-ltb mostModules (moduleCountOf p) g)
+      (one-met (eqb bs 0 || ltb largestBlock bs || eqb (moduleCountOf p) 0) (someBad bs zs) (ltb mostBytes (total zs)))
 
   module _ (ms : List Listed) (e : ms ≡ map listedOf (modulesOf p)) where
     pub read-10 : (bs : ℕ) → bs ≡ blockSizeOf p → beyond10 bs (sizesOf ms) ≡ meets10 p

@@ -1,20 +1,19 @@
 -- The record's first n entries one at a time, as the loops over them take them.
-use Prim.Native.Nat.{ℕ, suc, _+_, _-_, _*_, _≤_, _<_}
+use Prim.Native.Nat.{ℕ, suc, _+_, _*_, _≤_, _<_}
 use mathlib.Core.Path.{_≡_, ap, _∙_}
 use mathlib.Core.Bool.{true, false}
 use mathlib.Core.List.{List, [], _∷_, map}
 use native.Mathlib.Numerals.{add-one}
 use native.Mathlib.Omega.{arith}
-use lib.Dec.{ltb}
-use lib.ListN.{length, getD, take, drop, length-map, length-take, length-drop, drop-of-length-le, List·getD-map}
+use lib.ListN.{length, getD, take, drop, length-map, length-take, drop-of-length-le, List·getD-map}
 use lib.Seq.{drop-cons, getD-take, drop-drop}
-use borrow.Author.Tests.{eq-eqb, ne-eqb, lt-ltb, le-ltb}
+use borrow.Author.Tests.{eq-eqb, ne-eqb}
 use Rattle.carousel_messages.specs.declared.Listed.{Listed}
 use Rattle.carousel_record.specs.declared.Module.{Module}
 use Rattle.carousel_messages.proofs.Laws.Limits.{take-map}
 use Rattle.carousel_record.specs.declared.Carousel.{Carousel}
 use Rattle.carousel_record.specs.Blocks.{blocksOf}
-use Rattle.carousel_record.specs.Marks.{clearFrom, marksWithin}
+use Rattle.carousel_record.specs.Marks.{moduleWords, clearFrom, marksWithin}
 use Rattle.carousel_messages.specs.Heard.{sizesOf}
 use Rattle.carousel_record.specs.Record.{listedIn, startIn, announcedBy, sums, sameNumbers, unused, isUnused, allUnused}
 
@@ -55,18 +54,19 @@ module _ (ms : List Module) (n : ℕ) (h : n ≤ length ms) where
     -- marks past a module's blocks, or none
     module _ (bs : ℕ) (ws : List ℕ) where
       abbrev here : List ℕ
-      here = take 8 (drop (8 * i) ws)
+      here = take moduleWords (drop (moduleWords * i) ws)
 
-      pub place-off : clearFrom (blocksOf bs (getD ms i unused .size)) here ≡ false → marksWithin (map (λ z. blocksOf bs z) (sizesOf (drop i listed))) (drop (8 * i) ws) ≡ false
+      pub place-off : clearFrom (blocksOf bs (getD ms i unused .size)) here ≡ false → marksWithin (map (λ z. blocksOf bs z) (sizesOf (drop i listed))) (drop (moduleWords * i) ws) ≡ false
       unfolding marksWithin
       place-off e = rw (next listedIn i l, e)
 
       pub place-kept : clearFrom (blocksOf bs (getD ms i unused .size)) here ≡ true
-          → marksWithin (map (λ z. blocksOf bs z) (sizesOf (drop (i + 1) listed))) (drop (8 * (i + 1)) ws) ≡ marksWithin (map (λ z. blocksOf bs z) (sizesOf (drop i listed))) (drop (8 * i) ws)
+          → marksWithin (map (λ z. blocksOf bs z) (sizesOf (drop (i + 1) listed))) (drop (moduleWords * (i + 1)) ws)
+          ≡ marksWithin (map (λ z. blocksOf bs z) (sizesOf (drop i listed))) (drop (moduleWords * i) ws)
       unfolding marksWithin
       place-kept e =
-          let k : 8 * (i + 1) ≡ 8 * i + 8 = omega arith in
-          rw (next listedIn i l, e, k, ← (drop-drop 8 (8 * i) ws))
+          let k : moduleWords * (i + 1) ≡ moduleWords * i + moduleWords = omega arith in
+          rw (next listedIn i l, e, k, ← (drop-drop moduleWords (moduleWords * i) ws))
 
   -- none left
   module _ (i : ℕ) (l : n ≤ i) where

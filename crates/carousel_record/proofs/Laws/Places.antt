@@ -1,17 +1,17 @@
 -- Laws of the announcement: what the limits give, the place of a number, and that modules do not overlap.
 use Prim.Native.Nat.{ℕ, zero, suc, _+_, _*_, _≤_, _<_}
 use mathlib.Core.Path.{_≡_, refl, sym, ap, _∙_}
-use mathlib.Core.Bool.{Bool, true, false, cond, _||_}
+use mathlib.Core.Bool.{Bool, true, false, cond}
 use mathlib.Core.List.{List, [], _∷_, map}
 use native.Mathlib.Omega.{arith}
-use lib.Dec.{eqb, ltb, leb·suc-suc}
+use lib.Dec.{eqb, ltb}
 use lib.ListN.{length, getD, length-map}
-use borrow.Author.Tests.{eq-eqb, ne-eqb, eqb-true, eqb-false, lt-ltb, ltb-false}
+use borrow.Author.Tests.{eq-eqb, ne-eqb, eqb-true, eqb-false, ltb-false}
 use Rattle.wire.proofs.Laws.Tests.{both, neither, clash}
 use Rattle.carousel_messages.specs.declared.Listed.{Listed}
 use Rattle.carousel_messages.specs.Limits.{largestBlock, mostModules, mostBlocks, mostBytes, badSize, someBad, total, beyond10, among, twice11}
 use Rattle.carousel_messages.specs.Heard.{noneListed, sizesOf, numbersOf, placeIn}
-use Rattle.carousel_messages.proofs.Laws.Limits.{among-place}
+use Rattle.carousel_messages.proofs.Laws.Limits.{among-place, Within, within}
 use Rattle.carousel_record.specs.Record.{sums, sameNumbers}
 
 -- the same numbers are the same list
@@ -102,38 +102,27 @@ size-limits bs (m ∷ ms) zero e h =
     (omega arith, ltb-false (mostBlocks * bs) (m .size) (k .1))
 size-limits bs (m ∷ ms) (suc i) e h = size-limits bs ms i (neither (badSize bs (m .size)) (someBad bs (sizesOf ms)) e .1) (omega arith)
 
-six : (o p q r s t : Bool) → (o || p || q || r || s || t) ≡ false → (o ≡ false) × (p ≡ false) × (q ≡ false) × (r ≡ false) × (s ≡ false) × (t ≡ false)
-six o p q r s t e =
-    let h = neither (o || p || q || r || s) t e in
-    let k = neither (o || p || q || r) s (h .0) in
-    let l = neither (o || p || q) r (k .0) in
-    let m = neither (o || p) q (l .0) in
-    let n = neither o p (m .0) in
-    (n .0, n .1, m .1, l .1, k .1, h .1)
-
 module _ (bs : ℕ) (ms : List Listed) (e : beyond10 bs (sizesOf ms) ≡ false) where
-  limits : (eqb bs 0 ≡ false) × (ltb largestBlock bs ≡ false) × (eqb (length (sizesOf ms)) 0 ≡ false) × (ltb mostModules (length (sizesOf ms)) ≡ false)
-      × (someBad bs (sizesOf ms) ≡ false) × (ltb mostBytes (total (sizesOf ms)) ≡ false)
-  unfolding beyond10
-  limits = six (eqb bs 0) (ltb largestBlock bs) (eqb (length (sizesOf ms)) 0) (ltb mostModules (length (sizesOf ms))) (someBad bs (sizesOf ms)) (ltb mostBytes (total (sizesOf ms))) e
+  limits : Within bs (sizesOf ms)
+  limits = within bs (sizesOf ms) e
 
   pub block-size-pos : 0 < bs
-  block-size-pos = let z = eqb-false bs 0 (limits .0) in omega arith
+  block-size-pos = limits .blockSome
 
   pub block-size-most : bs ≤ largestBlock
-  block-size-most = ltb-false largestBlock bs (limits .1)
+  block-size-most = limits .blockMost
 
   pub some-modules : 0 < length ms
-  some-modules = let z = eqb-false (length (sizesOf ms)) 0 (limits .2) in let l = length-map ms (λ m. m .size) in omega arith
+  some-modules = let l = length-map ms (λ m. m .size) in omega (arith, limits .some)
 
   pub few-modules : length ms ≤ mostModules
-  few-modules = let z = ltb-false mostModules (length (sizesOf ms)) (limits .3) in let l = length-map ms (λ m. m .size) in omega arith
+  few-modules = let l = length-map ms (λ m. m .size) in omega (arith, limits .few)
 
   pub size-pos : (i : ℕ) → i < length ms → 0 < getD ms i noneListed .size
-  size-pos i h = size-limits bs ms i (limits .4) h .0
+  size-pos i h = size-limits bs ms i (limits .sizes) h .0
 
   pub size-most : (i : ℕ) → i < length ms → getD ms i noneListed .size ≤ mostBlocks * bs
-  size-most i h = size-limits bs ms i (limits .4) h .1
+  size-most i h = size-limits bs ms i (limits .sizes) h .1
 
   pub bytes-most : total (sizesOf ms) ≤ mostBytes
-  bytes-most = ltb-false mostBytes (total (sizesOf ms)) (limits .5)
+  bytes-most = limits .together

@@ -100,7 +100,7 @@ module _ (r : Record) (k : Kept r) where
       let u : m / mostBlocks < length (a .modules) = omega arith in
       (u, rw (sized (λ z. blocksOf (a .blockSize) z) (a .modules) (m / mostBlocks) u) at (h .1))
 
--- The rule of the record as the code holds it: at most 16 modules, unused entries zero, and the paper's rule of what it says.
+-- The rule of the record as the code holds it: not too many modules, unused entries zero, and the paper's rule of what it says.
 abbrev pub shaped : Carousel → Bool
 shaped c = leb (c .count) mostModules && allUnused (drop (c .count) (c .modules))
 

@@ -1,10 +1,11 @@
--- What a record of 16 entries says, entry by entry.
+-- What a record says, entry by entry.
 use Prim.Native.Nat.{ℕ, _≤_, _<_}
 use mathlib.Core.Path.{_≡_, ap, _∙_}
 use mathlib.Core.List.{List, map}
 use native.Mathlib.Omega.{arith}
 use lib.ListN.{length, getD, take, length-map, List·getD-map}
 use lib.Seq.{getD-take, length-take-le}
+use Rattle.carousel_messages.specs.Limits.{mostModules}
 use Rattle.carousel_record.specs.declared.Module.{Module}
 use Rattle.carousel_record.specs.declared.Carousel.{Carousel}
 use Rattle.carousel_record.specs.Record.{listedIn, startIn, announcedBy, startsBy, moduleAt, unused}
@@ -13,7 +14,7 @@ use Rattle.carousel_record.specs.Record.{listedIn, startIn, announcedBy,
 pub listed-length : (ms : List Module) (n : ℕ) → n ≤ length ms → length (map listedIn (take n ms)) ≡ n
 listed-length ms n h = length-map (take n ms) listedIn ∙ length-take-le n ms h
 
-module _ (c : Carousel) (l : length (c .modules) ≡ 16) (few : c .count ≤ 16) where
+module _ (c : Carousel) (l : length (c .modules) ≡ mostModules) (few : c .count ≤ mostModules) where
   pub says-count : length (announcedBy c .modules) ≡ c .count
   unfolding announcedBy
   says-count = listed-length (c .modules) (c .count) (omega arith)

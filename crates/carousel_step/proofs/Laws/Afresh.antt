@@ -6,9 +6,10 @@ use native.Mathlib.Numerals.{add-one}
 use native.Mathlib.Omega.{arith}
 use lib.ListN.{length, getD, set, take, drop, replicate, length-replicate}
 use lib.Seq.{paste, paste-zero, paste-suc, take-length}
+use Rattle.carousel_record.specs.Marks.{markWords}
 use Rattle.carousel_messages.specs.declared.Listed.{Listed}
 use Rattle.carousel_messages.specs.declared.Announcement.{Announcement}
-use Rattle.carousel_messages.specs.Limits.{total}
+use Rattle.carousel_messages.specs.Limits.{mostModules, total}
 use Rattle.carousel_messages.specs.Heard.{noneListed, listOf, announcedIn, sizesOf}
 use Rattle.carousel_record.specs.declared.Module.{Module}
 use Rattle.carousel_record.specs.declared.Carousel.{Carousel}
@@ -17,7 +18,7 @@ use Rattle.carousel_record.specs.Changes.{emptyRecord, entries, madeAfresh}
 
 -- the record of an announcement with its first i modules in it
 abbrev pub filled : Announcement → List Listed → ℕ → Carousel
-filled a ms i = record { download = a .download; «block_size» = a .«block_size»; count = a .count; modules = paste (replicate 16 unused) 0 (entries 0 ms) i; marks = replicate 128 0 }
+filled a ms i = record { download = a .download; «block_size» = a .«block_size»; count = a .count; modules = paste (replicate mostModules unused) 0 (entries 0 ms) i; marks = replicate markWords 0 }
 
 -- the sizes of the first i modules together
 abbrev pub before : List Listed → ℕ → ℕ
@@ -26,7 +27,10 @@ before ms i = total (sizesOf (take i ms))
 pub filled-none : (a : Announcement) (ms : List Listed)
     → record { download = a .download; «block_size» = a .«block_size»; count = a .count; modules = emptyRecord .modules; marks = emptyRecord .marks } ≡ filled a ms 0
 unfolding emptyRecord
-filled-none a ms = ap (λ (l : List Module). record { download = a .download; «block_size» = a .«block_size»; count = a .count; modules = l; marks = replicate 128 0 }) (paste-zero (replicate 16 unused) 0 (entries 0 ms))
+filled-none a ms =
+    ap
+    (λ (l : List Module). record { download = a .download; «block_size» = a .«block_size»; count = a .count; modules = l; marks = replicate markWords 0 })
+    (paste-zero (replicate mostModules unused) 0 (entries 0 ms))
 
 pub before-next : (ms : List Listed) (i : ℕ) → i < length ms → before ms (i + 1) ≡ before ms i + getD ms i noneListed .size
 unfolding total
@@ -55,25 +59,27 @@ entries-length s [] = refl
 entries-length s (m ∷ ms) = ap suc (entries-length (s + m .size) ms)
 
 -- one module more
-modules-next : (a : Announcement) (ms : List Listed) (i : ℕ) → i < length ms → i < 16
+modules-next : (a : Announcement) (ms : List Listed) (i : ℕ) → i < length ms → i < mostModules
     → set (filled a ms i .modules) i (record { number = getD ms i noneListed .number; size = getD ms i noneListed .size; version = getD ms i noneListed .version; start = before ms i })
     ≡ filled a ms (i + 1) .modules
 modules-next a ms i h k =
     let l = entries-length 0 ms in
-    let m = length-replicate {A = Module} 16 unused in
+    let m = length-replicate {A = Module} mostModules unused in
     let e = entry-at 0 ms i h in
     let z : 0 + before ms i ≡ before ms i = omega arith in
     let o : i ≡ 0 + i = omega arith in
-    rw (add-one i) (ap (λ (x : Module). set (filled a ms i .modules) i x) (sym (e ∙ ap (λ (n : ℕ). record { number = getD ms i noneListed .number; size = getD ms i noneListed .size; version = getD ms i noneListed .version; start = n }) z))
+    let f : getD (entries 0 ms) i unused ≡ record { number = getD ms i noneListed .number; size = getD ms i noneListed .size; version = getD ms i noneListed .version; start = before ms i } =
+    e ∙ ap (λ (n : ℕ). record { number = getD ms i noneListed .number; size = getD ms i noneListed .size; version = getD ms i noneListed .version; start = n }) z in
+    rw (add-one i) (ap (λ (x : Module). set (filled a ms i .modules) i x) (sym f)
     ∙ ap (λ (n : ℕ). set (filled a ms i .modules) n (getD (entries 0 ms) i unused)) o
-    ∙ paste-suc (replicate 16 unused) 0 (entries 0 ms) i unused (omega arith) (omega arith))
+    ∙ paste-suc (replicate mostModules unused) 0 (entries 0 ms) i unused (omega arith) (omega arith))
 
-pub filled-next : (a : Announcement) (ms : List Listed) (i : ℕ) → i < length ms → i < 16 → (next : Carousel) (l : Listed) (e : Module)
+pub filled-next : (a : Announcement) (ms : List Listed) (i : ℕ) → i < length ms → i < mostModules → (next : Carousel) (l : Listed) (e : Module)
     → next ≡ filled a ms i → l ≡ getD ms i noneListed → e ≡ record { number = l .number; size = l .size; version = l .version; start = before ms i }
     → record { download = next .download; «block_size» = next .«block_size»; count = next .count; modules = set (next .modules) i e; marks = next .marks } ≡ filled a ms (i + 1)
 filled-next a ms i h k next l e n f g =
     rw (n, g, f)
-    (ap (λ (x : List Module). record { download = a .download; «block_size» = a .«block_size»; count = a .count; modules = x; marks = replicate 128 0 }) (modules-next a ms i h k))
+    (ap (λ (x : List Module). record { download = a .download; «block_size» = a .«block_size»; count = a .count; modules = x; marks = replicate markWords 0 }) (modules-next a ms i h k))
 
 -- all of them
 drop-unused : (n m : ℕ) → drop n (replicate m unused) ≡ replicate (m - n) unused
@@ -87,4 +93,4 @@ filled-all c a list e =
     let l = entries-length 0 (listOf list) in
     let t : take (length (listOf list)) (entries 0 (listOf list)) ≡ entries 0 (listOf list) = ap (λ (n : ℕ). take n (entries 0 (listOf list))) (sym l) ∙ take-length (entries 0 (listOf list)) in
     let o : 0 + length (listOf list) ≡ length (listOf list) = omega arith in
-    rw (e, t, o, drop-unused (length (listOf list)) 16)
+    rw (e, t, o, drop-unused (length (listOf list)) mostModules)

@@ -10,7 +10,7 @@ use lib.ListN.{take, drop}
 use Rattle.wire.proofs.Laws.Finders.{part}
 use Rattle.carousel_messages.specs.declared.Announcement.{Announcement}
 use Rattle.carousel_messages.specs.declared.Judged.the-variants as judged
-use Rattle.carousel_messages.specs.Limits.{total}
+use Rattle.carousel_messages.specs.Limits.{total, mostBytes}
 use Rattle.carousel_messages.specs.Judged.{judgedOf}
 use Rattle.carousel_messages.specs.Heard.{spanOf, listOf, announcedIn, arrivedIn, heardIn, heardOf, sizesOf}
 use Rattle.carousel_messages.proofs.Laws.Heard.{announcement-inside, count-said, heard-small, block-inside, heard-limits}
@@ -45,7 +45,7 @@ list-is : (c : tie.After-struct-known) → let a = announced c in
     take (a .start + a .size - a .start) (drop (a .start) (c .before .before .before .before .before .before .before .before .before .args .s .now)) ≡ spanOf (c .before .before .before .before .before .before .before .before .before .args .s .now) (a .start) (a .size)
 list-is c = part (c .before .before .before .before .before .before .before .before .before .args .s .now) (announced c .start) (announced c .size)
 
-small : (c : tie.After-struct-known) → let a = announced c in total (sizesOf (listOf (spanOf (c .before .before .before .before .before .before .before .before .before .args .s .now) (a .start) (a .size)))) ≤ 65536
+small : (c : tie.After-struct-known) → let a = announced c in total (sizesOf (listOf (spanOf (c .before .before .before .before .before .before .before .before .before .args .s .now) (a .start) (a .size)))) ≤ mostBytes
 unfolding heardOf heardIn announcedIn
 small c =
     let a = announced c in

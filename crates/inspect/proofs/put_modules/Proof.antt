@@ -1,14 +1,15 @@
 -- `put_modules` stays within the record's entries and ends.
 use borrow.Author.Needs.{needs}
 use Prim.Native.Nat.{_≤_, _-_}
+use Rattle.carousel_messages.specs.Limits.{mostModules}
 use Rattle.inspect.proofs.put_modules.Statement.{statement}
 use Rattle.inspect.proofs.put_modules.Tie as tie
 
 abbrev Inv-loop : tie.InvT-loop
-Inv-loop out₀ at image c end₀ i₀ out end i = i ≤ 16
+Inv-loop out₀ at image c end₀ i₀ out end i = i ≤ mostModules
 
 abbrev μ-loop : tie.MeasureT-loop
-μ-loop out₀ at image c end₀ i₀ out end i = 16 - i
+μ-loop out₀ at image c end₀ i₀ out end i = mostModules - i
 
 loop-holds : tie.Need-loop-holds Inv-loop μ-loop
 loop-holds c = search needs

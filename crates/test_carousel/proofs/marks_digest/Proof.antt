@@ -1,15 +1,15 @@
 -- `test_carousel::marks_digest` stays within the record's words and ends.
 use borrow.Author.Needs.{needs}
-use native.Mathlib.Omega.{arith}
 use Prim.Native.Nat.{_≤_, _-_}
+use Rattle.carousel_record.specs.Marks.{markWords}
 use Rattle.test_carousel.proofs.marks_digest.Statement.{statement}
 use Rattle.test_carousel.proofs.marks_digest.Tie as tie
 
 abbrev Inv-loop : tie.InvT-loop
-Inv-loop from c d₀ i₀ d i = i ≤ 128
+Inv-loop from c d₀ i₀ d i = i ≤ markWords
 
 abbrev μ-loop : tie.MeasureT-loop
-μ-loop from c d₀ i₀ d i = 128 - i
+μ-loop from c d₀ i₀ d i = markWords - i
 
 loop-holds : tie.Need-loop-holds Inv-loop μ-loop
 loop-holds c = search needs

@@ -1,15 +1,15 @@
 -- `test_carousel::modules_digest` stays within the record's entries and ends.
 use borrow.Author.Needs.{needs}
-use native.Mathlib.Omega.{arith}
 use Prim.Native.Nat.{_≤_, _-_}
+use Rattle.carousel_messages.specs.Limits.{mostModules}
 use Rattle.test_carousel.proofs.modules_digest.Statement.{statement}
 use Rattle.test_carousel.proofs.modules_digest.Tie as tie
 
 abbrev Inv-loop : tie.InvT-loop
-Inv-loop from c d₀ i₀ d i = i ≤ 16
+Inv-loop from c d₀ i₀ d i = i ≤ mostModules
 
 abbrev μ-loop : tie.MeasureT-loop
-μ-loop from c d₀ i₀ d i = 16 - i
+μ-loop from c d₀ i₀ d i = mostModules - i
 
 loop-holds : tie.Need-loop-holds Inv-loop μ-loop
 loop-holds c = search needs

@@ -1,8 +1,9 @@
--- `carousel_handout::lacks::lack_of` meets its contract: the marks of a module begin at 256 times its place, and its blocks are 256 at most.
+-- `carousel_handout::lacks::lack_of` meets its contract: the marks of a module begin at so many times its place, and its blocks are no more.
 use Prim.Native.Nat.{ℕ, _*_, _≤_, _<_}
 use mathlib.Core.Path.{_≡_, sym, ap, _∙_}
 use native.Mathlib.Omega.{arith}
 use lib.ListN.{length, getD, length-map}
+use Rattle.carousel_messages.specs.Limits.{mostModules, mostBlocks}
 use Rattle.carousel_messages.specs.declared.Listed.{Listed}
 use Rattle.carousel_record.specs.Blocks.{blocksOf}
 use Rattle.carousel_record.specs.Marks.{clearAmong}
@@ -16,28 +17,28 @@ use borrow.Author.Needs.{needs}
 use Rattle.carousel_handout.proofs.lacks.lack_of.Statement.{statement}
 use Rattle.carousel_handout.proofs.lacks.lack_of.Tie as tie
 
-sixteen : (s : tie.Start) → length (s .args .c .modules) ≡ 16
-sixteen s = sym (length-map (s .args .c .modules) _) ∙ s .good .0 .1 .1 .1 .1 .1 .0 .1 .0 .1
+all-entries : (s : tie.Start) → length (s .args .c .modules) ≡ mostModules
+all-entries s = sym (length-map (s .args .c .modules) _) ∙ s .good .0 .1 .1 .1 .1 .1 .0 .1 .0 .1
 
-few-modules : (s : tie.Start) → s .args .c .count ≤ 16
+few-modules : (s : tie.Start) → s .args .c .count ≤ mostModules
 few-modules s = ruled-count (s .args .c) (s .pre .0)
 
 count : (s : tie.Start) → length (announcedBy (s .args .c) .modules) ≡ s .args .c .count
-count s = says-count (s .args .c) (sixteen s) (few-modules s)
+count s = says-count (s .args .c) (all-entries s) (few-modules s)
 
 -- the module's blocks, as code counts them
 blocks : (s : tie.Start) → blocksOf (s .args .c .«block_size») (getD (s .args .c .modules) (s .args .place) unused .size) ≡ blockCount (announcedBy (s .args .c)) (s .args .place)
 unfolding announcedBy
-blocks s = sym (ap (λ (m : Listed). blocksOf (s .args .c .«block_size») (m .size)) (says-module (s .args .c) (sixteen s) (few-modules s) (s .args .place) (s .pre .1)))
+blocks s = sym (ap (λ (m : Listed). blocksOf (s .args .c .«block_size») (m .size)) (says-module (s .args .c) (all-entries s) (few-modules s) (s .args .place) (s .pre .1)))
 
--- are 256 at most
-most : (s : tie.Start) → blockCount (announcedBy (s .args .c)) (s .args .place) ≤ 256
+-- are not too many
+most : (s : tie.Start) → blockCount (announcedBy (s .args .c)) (s .args .place) ≤ mostBlocks
 most s =
     let a = announcedBy (s .args .c) in
     let n = count s in
     let u : s .args .place < length (a .modules) = omega (arith, s .pre .1) in
     let k = kept (recordOf (s .args .c)) (omega arith) (ruled-says (s .args .c) (s .pre .0)) in
-    few (a .blockSize) (moduleAt a (s .args .place) .size) (block-size-pos (a .blockSize) (a .modules) (k .limits)) 256 (size-most (a .blockSize) (a .modules) (k .limits) (s .args .place) u)
+    few (a .blockSize) (moduleAt a (s .args .place) .size) (block-size-pos (a .blockSize) (a .modules) (k .limits)) mostBlocks (size-most (a .blockSize) (a .modules) (k .limits) (s .args .place) u)
 
 mul-m : tie.Need-mul-m
 mul-m c = search needs
@@ -67,7 +68,7 @@ unfolding missingOf
 returns c =
     let s = c .before .before .before .before .before .before in
     let e = c .before .blocks-of .ensures .0 ∙ blocks s in
-    c .lack-among .ensures ∙ ap (λ (n : ℕ). lackOf (clearAmong (s .args .c .marks) (256 * s .args .place) 0 n)) e
+    c .lack-among .ensures ∙ ap (λ (n : ℕ). lackOf (clearAmong (s .args .c .marks) (mostBlocks * s .args .place) 0 n)) e
 
 pub lack-of-spec : {M : Type 1} → statement M
 lack-of-spec =

@@ -20,7 +20,8 @@ rest-is : (c : tie.Else3) → let a = start (c .before) .args in
 rest-is c =
     let u = c .before in
     let a = start u .args in
-    beyond-sizes (a .block-size) (take (a .n) (a .ms)) (u .before .before .if1 .left) (u .before .if2 .left) (λ e. c .if3 .left (u .used .ensures .0 ∙ e)) (omega (arith, u .used .ensures .0, u .used .ensures .1))
+    let n = u .used .ensures in
+    beyond-sizes (a .block-size) (take (a .n) (a .ms)) (u .before .before .if1 .left) (u .before .if2 .left) (λ e. c .if3 .left (n .0 ∙ e)) (omega (arith, n .0, n .1))
 
 returns : tie.Need-returns
 returns c = let a = c .before .args in sym (beyond-none (a .block-size) (take (a .n) (a .ms)) (c .if1 .taken))

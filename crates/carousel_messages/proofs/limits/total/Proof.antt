@@ -1,9 +1,9 @@
 -- `carousel_messages::limits::total` meets its contract. The invariant: the sum so far and the sizes left are the sizes together.
 use borrow.Author.Needs.{needs}
 use mathlib.Core.Path.{_≡_}
-use Prim.Native.Nat.{_+_, _-_, _*_, _≤_, _<_}
+use Prim.Native.Nat.{_+_, _-_, _*_, _≤_}
 use native.Mathlib.Omega.{arith}
-use lib.ListN.{length, take, drop}
+use lib.ListN.{take, drop}
 use Rattle.carousel_messages.specs.Limits as limits
 use Rattle.carousel_messages.specs.Heard.{sizesOf}
 use Rattle.carousel_messages.proofs.Laws.Limits.{total-next, total-done}

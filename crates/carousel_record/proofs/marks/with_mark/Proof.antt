@@ -4,14 +4,14 @@ use mathlib.Core.Path.{_≡_, sym, _∙_}
 use native.Mathlib.Omega.{arith}
 use lib.ListN.{length, length-map}
 use lib.Seq.{set-out}
-use Rattle.carousel_record.specs.Marks.{marksWith}
+use Rattle.carousel_record.specs.Marks.{markWords, marksWith}
 use Rattle.carousel_record.specs.Changes.{withMark}
 use Rattle.carousel_record.proofs.Laws.Words.{one-shl}
 use borrow.Author.Needs.{needs}
 use Rattle.carousel_record.proofs.marks.with_mark.Statement.{statement}
 use Rattle.carousel_record.proofs.marks.with_mark.Tie as tie
 
-all-words : (s : tie.Start) → length (s .args .c .marks) ≡ 128
+all-words : (s : tie.Start) → length (s .args .c .marks) ≡ markWords
 all-words s = sym (length-map (s .args .c .marks) _) ∙ s .good .0 .1 .1 .1 .1 .1 .1 .0 .1 .0 .1
 
 past : (c : tie.Then1) → length (c .before .args .c .marks) ≤ c .before .args .k / 32

@@ -13,13 +13,18 @@ use Rattle.carousel_record.proofs.rule.is_running.Tie as tie
 
 abbrev Inv-loop : tie.InvT-loop
 Inv-loop n ms sum₀ i₀ sum i =
-    (i ≤ n) × (sum ≤ i * 4294967295) × (sameNumbers (drop i (map startIn (take n ms))) (sums sum (sizesOf (drop i (map listedIn (take n ms))))) ≡ sameNumbers (map startIn (take n ms)) (sums 0 (sizesOf (map listedIn (take n ms)))))
+    (i ≤ n) × (sum ≤ i * 4294967295)
+    × (sameNumbers (drop i (map startIn (take n ms))) (sums sum (sizesOf (drop i (map listedIn (take n ms)))))
+    ≡ sameNumbers (map startIn (take n ms)) (sums 0 (sizesOf (map listedIn (take n ms)))))
 
 abbrev μ-loop : tie.MeasureT-loop
 μ-loop n ms sum₀ i₀ sum i = n - i
 
 enough : (c : tie.Start Inv-loop μ-loop) → c .args .n ≤ length (c .args .t1)
 enough c = let e = c .good .0 .1 .0 .1 in omega (arith, c .pre)
+
+abbrev read : tie.After-struct-known Inv-loop μ-loop → tie.At-loop Inv-loop μ-loop
+read c = c .before .before .before
 
 loop-holds : tie.Need-loop-holds Inv-loop μ-loop
 loop-holds c = (omega arith, omega arith, refl)
@@ -35,8 +40,9 @@ cast-if1 c = search needs
 
 returns : tie.Need-returns Inv-loop μ-loop
 returns c =
-    let s = c .before .before .before .before .before in
-    let l = c .before .before .before .before .loop in
+    let h = c .before .before .before .before in
+    let l = h .loop in
+    let s = h .before in
     sym (running-off (s .args .t1) (s .args .n) (enough s) (l .i) (omega arith) (l .sum) (c .if1 .taken)) ∙ l .inv .2
 
 cast-sum : tie.Need-cast-sum Inv-loop μ-loop
@@ -53,8 +59,9 @@ loop-less c = search needs
 
 loop-again : tie.Need-loop-again Inv-loop μ-loop
 loop-again c =
-    let s = c .before .before .before .before .before .before in
-    let l = c .before .before .before .before .before .loop in
+    let h = read (c .before .before) in
+    let l = h .loop in
+    let s = h .before in
     (omega arith, omega arith, running-next (s .args .t1) (s .args .n) (enough s) (l .i) (omega arith) (l .sum) (c .before .if1 .left) ∙ l .inv .2)
 
 returns-2 : tie.Need-returns-2 Inv-loop μ-loop

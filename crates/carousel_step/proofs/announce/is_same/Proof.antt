@@ -14,7 +14,7 @@ use borrow.Author.Needs.{needs}
 use Rattle.carousel_step.proofs.announce.is_same.Statement.{statement}
 use Rattle.carousel_step.proofs.announce.is_same.Tie as tie
 
--- the record's entries are 16
+-- the record has as many entries as it may count
 enough : (s : tie.Start) → s .args .c .count ≤ length (s .args .c .modules)
 enough s = let e = sym (length-map (s .args .c .modules) _) ∙ s .good .0 .1 .1 .1 .1 .1 .0 .1 .0 .1 in omega (arith, s .pre .0)
 

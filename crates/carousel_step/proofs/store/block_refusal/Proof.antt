@@ -6,6 +6,7 @@ use native.Mathlib.Omega.{arith}
 use lib.Dec.{eqb, ltb}
 use lib.ListN.{length, getD, length-map}
 use borrow.Author.Tests.{not-true, not-false}
+use Rattle.carousel_messages.specs.Limits.{mostModules}
 use Rattle.carousel_messages.specs.declared.Listed.{Listed}
 use Rattle.carousel_messages.specs.Heard.{Announced, Arrived, arrivedIn}
 use Rattle.carousel_record.specs.Blocks.{blocksOf, blockLengthOf}
@@ -41,11 +42,11 @@ from5 c = c .before .before
 abbrev start3 : tie.Else3 → tie.Start
 start3 c = from1 (from2 (from3 c))
 
-sixteen : (s : tie.Start) → length (s .args .c .modules) ≡ 16
-sixteen s = sym (length-map (s .args .c .modules) _) ∙ s .good .0 .1 .1 .1 .1 .1 .0 .1 .0 .1
+all-entries : (s : tie.Start) → length (s .args .c .modules) ≡ mostModules
+all-entries s = sym (length-map (s .args .c .modules) _) ∙ s .good .0 .1 .1 .1 .1 .1 .0 .1 .0 .1
 
 count : (s : tie.Start) → length (a s .modules) ≡ s .args .c .count
-count s = says-count (s .args .c) (sixteen s) (s .pre)
+count s = says-count (s .args .c) (all-entries s) (s .pre)
 
 some : (c : tie.Else1) → length (a (from1 c) .modules) ≡ 0 → ⊥
 some c e = c .if1 .left (sym (count (from1 c)) ∙ e)
@@ -69,7 +70,7 @@ found c = let n = count (start3 c) in omega (arith, place (c .before), c .if3 .l
 module-of : (c : tie.Else3) → let s = start3 c in moduleAt (a s) (placeOf (a s) (d s .number)) ≡ listedIn (getD (s .args .c .modules) (c .before .place-of .result) unused)
 module-of c =
     let s = start3 c in
-    ap (moduleAt (a s)) (sym (place (c .before))) ∙ says-module (s .args .c) (sixteen s) (s .pre) (c .before .place-of .result) (c .if3 .left)
+    ap (moduleAt (a s)) (sym (place (c .before))) ∙ says-module (s .args .c) (all-entries s) (s .pre) (c .before .place-of .result) (c .if3 .left)
 
 version-of : (c : tie.Else3) → let s = start3 c in moduleAt (a s) (placeOf (a s) (d s .number)) .version ≡ getD (s .args .c .modules) (c .before .place-of .result) unused .version
 version-of c = ap (λ (m : Listed). m .version) (module-of c)
@@ -87,7 +88,8 @@ unfolding announcedBy arrivedIn
 fits c =
     let e = from4 (from5 (c .before .before)) in
     let s = start3 e in
-    ap (λ (m : Listed). ltb (d s .block) (blocksOf (a s .blockSize) (m .size)) && eqb (length (d s .bytes)) (blockLengthOf (a s .blockSize) (m .size) (d s .block))) (module-of e) ∙ sym (c .is-block .ensures)
+    ap (λ (m : Listed). ltb (d s .block) (blocksOf (a s .blockSize) (m .size)) && eqb (length (d s .bytes)) (blockLengthOf (a s .blockSize) (m .size) (d s .block))) (module-of e)
+    ∙ sym (c .is-block .ensures)
 
 cast-n : tie.Need-cast-n
 cast-n c = search needs
