@@ -2,7 +2,8 @@
 """Holds the tree to its rules before anything is proved: every public function has an `ensures` and no
 `requires`, no proof assumes anything, and each must-fail edit names the sentence that it is about.
 A library's public functions are those of src/lib.rt and those that it names by `pub use`; what is
-`pub` in another file serves the crate's own files, and its callers prove what it asks."""
+`pub` in another file serves the crate's own files, and its callers prove what it asks. A program has
+no public functions: what is `pub` in its files beside src/main.rt serves these files."""
 import re
 import sys
 from pathlib import Path
@@ -25,9 +26,9 @@ def faults():
                     yield where + " promises nothing"
                 if (source == root or name in named) and re.search(r"^ *requires", head, re.M):
                     yield where + " is public and asks something of its caller"
-        for source in [] if root.exists() else sorted(crate.glob("src/**/*.rt")):
-            for name in re.findall(r"^ *pub fn (\w+)", source.read_text(), re.M):
-                yield "%s: %s is public in a program, which nobody can call" % (source.relative_to(ROOT), name)
+        program = crate / "src" / "main.rt"
+        for name in re.findall(r"^ *pub fn (\w+)", program.read_text(), re.M) if program.exists() else []:
+            yield "%s: %s is public at a program's root, where nobody calls it" % (program.relative_to(ROOT), name)
         for proof in sorted(crate.glob("**/*.antt")):
             if re.search(r"^ *(axiom|postulate)\b", proof.read_text(), re.M):
                 yield "%s assumes something" % proof.relative_to(ROOT)

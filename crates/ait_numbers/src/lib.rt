@@ -107,6 +107,44 @@ pub struct LabelOut {
     pub refusal: u8,
 }
 
+// What a kind does not have is 0.
+const BLANK_DESCRIPTOR: DescriptorOut = DescriptorOut {
+    count: 0,
+    labels: 0,
+    at: 0,
+    length: 0,
+    protocol: 0,
+    network: 0,
+    transport: 0,
+    service: 0,
+    kind: 0,
+    tag: 0,
+    label: 0,
+    component: 0,
+    bound: 0,
+    visibility: 0,
+    priority: 0,
+    refusal: 0,
+};
+
+const BLANK_ITEM: ItemOut = ItemOut {
+    at: 0,
+    length: 0,
+    extensions: 0,
+    organisation: 0,
+    number: 0,
+    kind: 0,
+    label: 0,
+    major: 0,
+    minor: 0,
+    micro: 0,
+    priority: 0,
+    first: 0,
+    second: 0,
+    third: 0,
+    refusal: 0,
+};
+
 // The section's header, and how many common descriptors and applications it has.
 pub fn table(s: &[u8]) -> TableOut
     ensures { λ r. ⌜ r ≡ tableOut (readAnswer (now (s .entry))) ⌝ }
@@ -272,22 +310,8 @@ fn no_descriptor(refusal: u8) -> DescriptorOut
     ensures { λ r. ⌜ r ≡ noDescriptor refusal ⌝ }
 {
     DescriptorOut {
-        count: 0,
-        labels: 0,
-        at: 0,
-        length: 0,
-        protocol: 0,
-        network: 0,
-        transport: 0,
-        service: 0,
-        kind: 0,
-        tag: 0,
-        label: 0,
-        component: 0,
-        bound: 0,
-        visibility: 0,
-        priority: 0,
-        refusal: refusal,
+        refusal,
+        ..BLANK_DESCRIPTOR
     }
 }
 
@@ -335,21 +359,12 @@ fn described(
 {
     DescriptorOut {
         count: profiles,
-        labels: labels,
-        at: 0,
-        length: 0,
-        protocol: 0,
-        network: 0,
-        transport: 0,
-        service: 0,
+        labels,
         kind: 1,
-        tag: 0,
-        label: 0,
-        component: 0,
-        bound: bound,
-        visibility: visibility,
-        priority: priority,
-        refusal: 0,
+        bound,
+        visibility,
+        priority,
+        ..BLANK_DESCRIPTOR
     }
 }
 
@@ -358,22 +373,12 @@ fn counted(kind: u8, tag: u8, protocol: u16, label: u8, count: usize) -> Descrip
     ensures { λ r. ⌜ r ≡ countedBy kind tag protocol label count ⌝ }
 {
     DescriptorOut {
-        count: count,
-        labels: 0,
-        at: 0,
-        length: 0,
-        protocol: protocol,
-        network: 0,
-        transport: 0,
-        service: 0,
-        kind: kind,
-        tag: tag,
-        label: label,
-        component: 0,
-        bound: 0,
-        visibility: 0,
-        priority: 0,
-        refusal: 0,
+        count,
+        protocol,
+        kind,
+        tag,
+        label,
+        ..BLANK_DESCRIPTOR
     }
 }
 
@@ -389,22 +394,15 @@ fn carried(
     ensures { λ r. ⌜ r ≡ carriedBy kind label network transport service component ⌝ }
 {
     DescriptorOut {
-        count: 0,
-        labels: 0,
-        at: 0,
-        length: 0,
         protocol: 1,
-        network: network,
-        transport: transport,
-        service: service,
-        kind: kind,
+        network,
+        transport,
+        service,
+        kind,
         tag: 0x02,
-        label: label,
-        component: component,
-        bound: 0,
-        visibility: 0,
-        priority: 0,
-        refusal: 0,
+        label,
+        component,
+        ..BLANK_DESCRIPTOR
     }
 }
 
@@ -413,22 +411,13 @@ fn placed(kind: u8, tag: u8, protocol: u16, label: u8, part: Span) -> Descriptor
     ensures { λ r. ⌜ r ≡ placedBy kind tag protocol label part ⌝ }
 {
     DescriptorOut {
-        count: 0,
-        labels: 0,
         at: part.start,
         length: part.size,
-        protocol: protocol,
-        network: 0,
-        transport: 0,
-        service: 0,
-        kind: kind,
-        tag: tag,
-        label: label,
-        component: 0,
-        bound: 0,
-        visibility: 0,
-        priority: 0,
-        refusal: 0,
+        protocol,
+        kind,
+        tag,
+        label,
+        ..BLANK_DESCRIPTOR
     }
 }
 
@@ -459,21 +448,8 @@ fn no_item(refusal: u8) -> ItemOut
     ensures { λ r. ⌜ r ≡ noItem refusal ⌝ }
 {
     ItemOut {
-        at: 0,
-        length: 0,
-        extensions: 0,
-        organisation: 0,
-        number: 0,
-        kind: 0,
-        label: 0,
-        major: 0,
-        minor: 0,
-        micro: 0,
-        priority: 0,
-        first: 0,
-        second: 0,
-        third: 0,
-        refusal: refusal,
+        refusal,
+        ..BLANK_ITEM
     }
 }
 
@@ -493,21 +469,12 @@ fn profile_out(p: Profile) -> ItemOut
     ensures { λ r. ⌜ r ≡ foundOut (item.Profile p) ⌝ }
 {
     ItemOut {
-        at: 0,
-        length: 0,
-        extensions: 0,
-        organisation: 0,
         number: p.number,
         kind: 1,
-        label: 0,
         major: p.major,
         minor: p.minor,
         micro: p.micro,
-        priority: 0,
-        first: 0,
-        second: 0,
-        third: 0,
-        refusal: 0,
+        ..BLANK_ITEM
     }
 }
 
@@ -515,21 +482,9 @@ fn label_out(label: u8) -> ItemOut
     ensures { λ r. ⌜ r ≡ foundOut (item.Label label) ⌝ }
 {
     ItemOut {
-        at: 0,
-        length: 0,
-        extensions: 0,
-        organisation: 0,
-        number: 0,
         kind: 2,
-        label: label,
-        major: 0,
-        minor: 0,
-        micro: 0,
-        priority: 0,
-        first: 0,
-        second: 0,
-        third: 0,
-        refusal: 0,
+        label,
+        ..BLANK_ITEM
     }
 }
 
@@ -540,19 +495,11 @@ fn name_out(n: Name) -> ItemOut
     ItemOut {
         at: text.start,
         length: text.size,
-        extensions: 0,
-        organisation: 0,
-        number: 0,
         kind: 3,
-        label: 0,
-        major: 0,
-        minor: 0,
-        micro: 0,
-        priority: 0,
         first: n.first,
         second: n.second,
         third: n.third,
-        refusal: 0,
+        ..BLANK_ITEM
     }
 }
 
@@ -564,18 +511,8 @@ fn base_out(b: Base) -> ItemOut
         at: text.start,
         length: text.size,
         extensions: b.extensions,
-        organisation: 0,
-        number: 0,
         kind: 4,
-        label: 0,
-        major: 0,
-        minor: 0,
-        micro: 0,
-        priority: 0,
-        first: 0,
-        second: 0,
-        third: 0,
-        refusal: 0,
+        ..BLANK_ITEM
     }
 }
 
@@ -583,20 +520,10 @@ fn identifier_out(i: Identifier) -> ItemOut
     ensures { λ r. ⌜ r ≡ foundOut (item.Identifier i) ⌝ }
 {
     ItemOut {
-        at: 0,
-        length: 0,
-        extensions: 0,
         organisation: i.organisation,
         number: i.number,
         kind: 5,
-        label: 0,
-        major: 0,
-        minor: 0,
-        micro: 0,
         priority: i.priority,
-        first: 0,
-        second: 0,
-        third: 0,
-        refusal: 0,
+        ..BLANK_ITEM
     }
 }

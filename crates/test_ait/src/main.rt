@@ -1,6 +1,6 @@
 // Reads stretches from standard input, each after its length (16 bits), takes each as an application
 // section, and writes all that can be asked of it by place, up to the first refusal of each list.
-// tests/applications_test.py, an independent second program, makes the input and says what must
+// tests/test_ait.py, an independent second program, makes the input and says what must
 // come out.
 
 use ait_read::Application;
@@ -30,9 +30,6 @@ fn print_each(s: &[u8]) {
     let mut at: usize = 0;
     while at < s.len() {
         let rest = &s[at..];
-        if rest.len() < 2 {
-            return;
-        }
         let end = 2 + wire::sixteen_at(rest, 0) as usize;
         if rest.len() < end {
             return;

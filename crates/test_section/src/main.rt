@@ -1,6 +1,6 @@
 // Reads stretches from standard input, each after its length (16 bits), and writes a line for each:
 // the register after its bytes, the numbers that `check` answers by the application's and by the
-// carousel's rules, and the header's fields where one of them accepts it. tests/section_test.py, an
+// carousel's rules, and the header's fields where one of them accepts it. tests/test_section.py, an
 // independent second program, makes the input and says what must come out.
 use section::Checked;
 use section::Header;
@@ -17,9 +17,6 @@ fn print_each(s: &[u8]) {
     let mut at: usize = 0;
     while at < s.len() {
         let rest = &s[at..];
-        if rest.len() < 2 {
-            return;
-        }
         let end = 2 + wire::sixteen_at(rest, 0) as usize;
         if rest.len() < end {
             return;

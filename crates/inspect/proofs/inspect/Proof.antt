@@ -37,11 +37,25 @@ turned stretch image c i p x t r h e w =
     let n : length s ≡ length stretch - p = ap length (tail stretch p) ∙ length-drop p stretch in
     (omega (arith, q .0), omega (arith, q .1), ap (λ (y : Took). ruledOf (y .state)) e ∙ q .2)
 
+-- from the section that was taken back to the call, to the loop's head and to the start, and from the turn's end to the section
+abbrev at-take : tie.After-what2 Inv-loop μ-loop → tie.After-take Inv-loop μ-loop
+at-take c = c .before .before .before
+
+abbrev at-head : tie.After-what2 Inv-loop μ-loop → tie.At-loop Inv-loop μ-loop
+at-head c = at-take c .before .before .before
+
+abbrev at-start : tie.After-what2 Inv-loop μ-loop → tie.Start Inv-loop μ-loop
+at-start c = at-head c .before .before .before
+
+abbrev at-section : tie.Else1 Inv-loop μ-loop → tie.After-what2 Inv-loop μ-loop
+at-section c = let p = c .before .before in p .before .before .before
+
 -- it took a section
-taken : (c : tie.After-what2 Inv-loop μ-loop) → let l = c .before .before .before .before .before .before .loop in Turned (c .before .before .before .before .before .before .before .before .before .args .stretch .now) (l .index) (l .passed) (c .what2 .given .0 .0) (c .before .before .before .take .result .state)
+taken : (c : tie.After-what2 Inv-loop μ-loop)
+    → let l = at-head c .loop in Turned (at-start c .args .stretch .now) (l .index) (l .passed) (c .what2 .given .0 .0) (at-take c .take .result .state)
 taken c =
-    let l = c .before .before .before .before .before .before .loop in
-    turned (c .before .before .before .before .before .before .before .before .before .args .stretch .now) (l .image) (l .c) (l .index) (l .passed) (c .what2 .given .0 .0) _ (l .inv .2) (l .inv .0) (c .before .before .before .take .ensures .0) (c .what2 .given .1)
+    let l = at-head c .loop in
+    turned (at-start c .args .stretch .now) (l .image) (l .c) (l .index) (l .passed) (c .what2 .given .0 .0) _ (l .inv .2) (l .inv .0) (at-take c .take .ensures .0) (c .what2 .given .1)
 
 empty-requires : tie.Need-empty-requires Inv-loop μ-loop
 empty-requires c κs = search needs
@@ -77,7 +91,7 @@ enum-known-what-2 : tie.Need-enum-known-what-2 Inv-loop μ-loop
 enum-known-what-2 c = search needs
 
 add-next : tie.Need-add-next Inv-loop μ-loop
-add-next c = record { fits = lt-of-le-of-lt (taken (c .before) .1) (c .before .before .before .before .before .before .before .before .before .before .good .0 .0) }
+add-next c = record { fits = lt-of-le-of-lt (taken (c .before) .1) (at-start (c .before) .good .0 .0) }
 
 sub-put-section : tie.Need-sub-put-section Inv-loop μ-loop
 sub-put-section c = search needs
@@ -95,13 +109,13 @@ returns-2 : tie.Need-returns-2 Inv-loop μ-loop
 returns-2 c = search needs
 
 add-index : tie.Need-add-index Inv-loop μ-loop
-add-index c = let p = taken (c .before .before .before .before .before) .0 in search needs
+add-index c = let p = taken (at-section c) .0 in search needs
 
 loop-less : tie.Need-loop-less Inv-loop μ-loop
-loop-less c = let p = taken (c .before .before .before .before .before) in omega (arith, p .0)
+loop-less c = let p = taken (at-section c) in omega (arith, p .0)
 
 loop-again : tie.Need-loop-again Inv-loop μ-loop
-loop-again c = let p = taken (c .before .before .before .before .before) in (p .1, omega (arith, p .0), p .2)
+loop-again c = let p = taken (at-section c) in (p .1, omega (arith, p .0), p .2)
 
 pub inspect-spec : {M : Type 1} → statement M
 inspect-spec =

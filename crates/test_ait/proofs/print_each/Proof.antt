@@ -1,6 +1,5 @@
 -- `test_ait::print_each` stays within its slice and ends.
 use borrow.Author.Needs.{needs}
-use native.Mathlib.Omega.{arith}
 use Prim.Native.Nat.{_≤_, _-_}
 use lib.ListN.{length}
 use Rattle.test_ait.proofs.print_each.Statement.{statement}
@@ -24,9 +23,6 @@ part-rest-start c = search needs
 part-rest-end : tie.Need-part-rest-end Inv-loop μ-loop
 part-rest-end c = search needs
 
-returns : tie.Need-returns Inv-loop μ-loop
-returns c = search needs
-
 sixteen-at-requires : tie.Need-sixteen-at-requires Inv-loop μ-loop
 sixteen-at-requires c κs = search needs
 
@@ -36,8 +32,8 @@ cast-end c = search needs
 add-end : tie.Need-add-end Inv-loop μ-loop
 add-end c = search needs
 
-returns-2 : tie.Need-returns-2 Inv-loop μ-loop
-returns-2 c = search needs
+returns : tie.Need-returns Inv-loop μ-loop
+returns c = search needs
 
 sub-print-section : tie.Need-sub-print-section Inv-loop μ-loop
 sub-print-section c = search needs
@@ -60,8 +56,8 @@ loop-less c = search needs
 loop-again : tie.Need-loop-again Inv-loop μ-loop
 loop-again c = search needs
 
-returns-3 : tie.Need-returns-3 Inv-loop μ-loop
-returns-3 c = search needs
+returns-2 : tie.Need-returns-2 Inv-loop μ-loop
+returns-2 c = search needs
 
 pub print-each-spec : {M : Type 1} → statement M
 print-each-spec =
@@ -73,11 +69,10 @@ print-each-spec =
     sub-rest
     part-rest-start
     part-rest-end
-    returns
     sixteen-at-requires
     cast-end
     add-end
-    returns-2
+    returns
     sub-print-section
     part-print-section-start
     part-print-section-end
@@ -85,4 +80,4 @@ print-each-spec =
     add-at
     loop-less
     loop-again
-    returns-3)
+    returns-2)

@@ -1,14 +1,9 @@
 -- `test_section::print_each` stays within its slice and ends.
 use borrow.Author.Needs.{needs}
-use native.Mathlib.Omega.{arith}
 use Prim.Native.Nat.{_≤_, _-_}
 use lib.ListN.{length}
 use Rattle.test_section.proofs.print_each.Statement.{statement}
 use Rattle.test_section.proofs.print_each.Tie as tie
-use Rattle.test_section.proofs.print_each.Reads as reads
-use Rattle.test_section.proofs.print_each.Lts as lts
-use Rattle.test_section.proofs.print_one.Reads as print-one-reads
-use Rattle.wire.proofs.sixteen_at.Reads as sixteen-at-reads
 
 abbrev Inv-loop : tie.InvT-loop
 Inv-loop s at₀ at = at ≤ length s
@@ -28,9 +23,6 @@ part-rest-start c = search needs
 part-rest-end : tie.Need-part-rest-end Inv-loop μ-loop
 part-rest-end c = search needs
 
-returns : tie.Need-returns Inv-loop μ-loop
-returns c = search needs
-
 sixteen-at-requires : tie.Need-sixteen-at-requires Inv-loop μ-loop
 sixteen-at-requires c κs = search needs
 
@@ -40,8 +32,8 @@ cast-end c = search needs
 add-end : tie.Need-add-end Inv-loop μ-loop
 add-end c = search needs
 
-returns-2 : tie.Need-returns-2 Inv-loop μ-loop
-returns-2 c = search needs
+returns : tie.Need-returns Inv-loop μ-loop
+returns c = search needs
 
 sub-print-one : tie.Need-sub-print-one Inv-loop μ-loop
 sub-print-one c = search needs
@@ -64,8 +56,8 @@ loop-less c = search needs
 loop-again : tie.Need-loop-again Inv-loop μ-loop
 loop-again c = search needs
 
-returns-3 : tie.Need-returns-3 Inv-loop μ-loop
-returns-3 c = search needs
+returns-2 : tie.Need-returns-2 Inv-loop μ-loop
+returns-2 c = search needs
 
 pub print-each-spec : {M : Type 1} → statement M
 print-each-spec =
@@ -77,11 +69,10 @@ print-each-spec =
     sub-rest
     part-rest-start
     part-rest-end
-    returns
     sixteen-at-requires
     cast-end
     add-end
-    returns-2
+    returns
     sub-print-one
     part-print-one-start
     part-print-one-end
@@ -89,4 +80,4 @@ print-each-spec =
     add-at
     loop-less
     loop-again
-    returns-3)
+    returns-2)

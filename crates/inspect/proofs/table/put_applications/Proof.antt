@@ -1,8 +1,8 @@
 -- `put_applications` ends.
 use borrow.Author.Needs.{needs}
 use Prim.Native.Nat.{_≤_, _-_}
-use Rattle.inspect.proofs.put_applications.Statement.{statement}
-use Rattle.inspect.proofs.put_applications.Tie as tie
+use Rattle.inspect.proofs.table.put_applications.Statement.{statement}
+use Rattle.inspect.proofs.table.put_applications.Tie as tie
 
 abbrev Inv-loop : tie.InvT-loop
 Inv-loop out₀ at s count end₀ i₀ out end i = i ≤ count

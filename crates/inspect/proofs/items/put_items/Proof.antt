@@ -1,8 +1,8 @@
 -- `put_items` ends.
 use borrow.Author.Needs.{needs}
 use Prim.Native.Nat.{_≤_, _-_}
-use Rattle.inspect.proofs.put_items.Statement.{statement}
-use Rattle.inspect.proofs.put_items.Tie as tie
+use Rattle.inspect.proofs.items.put_items.Statement.{statement}
+use Rattle.inspect.proofs.items.put_items.Tie as tie
 
 abbrev Inv-loop : tie.InvT-loop
 Inv-loop out₀ at s holder what count end₀ k₀ out end k = k ≤ count

@@ -2,8 +2,8 @@
 use borrow.Author.Needs.{needs}
 use Prim.Native.Nat.{_≤_, _-_}
 use Rattle.carousel_messages.specs.Limits.{mostModules}
-use Rattle.inspect.proofs.put_modules.Statement.{statement}
-use Rattle.inspect.proofs.put_modules.Tie as tie
+use Rattle.inspect.proofs.record.put_modules.Statement.{statement}
+use Rattle.inspect.proofs.record.put_modules.Tie as tie
 
 abbrev Inv-loop : tie.InvT-loop
 Inv-loop out₀ at image c end₀ i₀ out end i = i ≤ mostModules

@@ -1,8 +1,8 @@
 -- `put_fields` stays within the line and ends.
 use borrow.Author.Needs.{needs}
 use Prim.Native.Nat.{_≤_, _-_}
-use Rattle.inspect.proofs.put_fields.Statement.{statement}
-use Rattle.inspect.proofs.put_fields.Tie as tie
+use Rattle.inspect.proofs.words.put_fields.Statement.{statement}
+use Rattle.inspect.proofs.words.put_fields.Tie as tie
 
 abbrev Inv-loop : tie.InvT-loop
 Inv-loop out₀ at line end₀ i₀ out end i = i ≤ 11

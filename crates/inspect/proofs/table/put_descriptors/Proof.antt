@@ -1,8 +1,8 @@
 -- `put_descriptors` ends.
 use borrow.Author.Needs.{needs}
 use Prim.Native.Nat.{_≤_, _-_}
-use Rattle.inspect.proofs.put_descriptors.Statement.{statement}
-use Rattle.inspect.proofs.put_descriptors.Tie as tie
+use Rattle.inspect.proofs.table.put_descriptors.Statement.{statement}
+use Rattle.inspect.proofs.table.put_descriptors.Tie as tie
 
 abbrev Inv-loop : tie.InvT-loop
 Inv-loop out₀ at s scope count end₀ j₀ out end j = j ≤ count
