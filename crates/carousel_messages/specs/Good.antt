@@ -10,7 +10,8 @@ use Rattle.section.specs.Refusals.{GoodSection}
 use Rattle.carousel_messages.specs.declared.Table.{Table}
 use Rattle.carousel_messages.specs.declared.Table.the-variants.{Announcements, Blocks}
 use Rattle.carousel_messages.specs.Message.{messageOf, messageIdentifierOf, adaptationOf, messageLengthOf, payloadOf, wantedOf}
-use Rattle.carousel_messages.specs.Contents.{downloadOf, blockSizeOf, modulesStart, modulesEnd, modulesOf, moduleNumberOf, moduleSizeOf, blockModuleOf, blockVersionOf, blockNumberOf, blockDataOf}
+use Rattle.carousel_messages.specs.Contents.{downloadOf, blockSizeOf, modulesStart, modulesEnd, modulesOf, moduleNumberOf, moduleSizeOf}
+use Rattle.carousel_messages.specs.Contents.{blockModuleOf, blockVersionOf, blockNumberOf, blockDataOf}
 use Rattle.carousel_messages.specs.Heard.{Announced, Arrived, listedOf}
 use Rattle.carousel_messages.specs.Limits.{largestBlock, mostModules, mostBlocks, mostBytes, total}
 

@@ -140,7 +140,8 @@ module _ (c : Carousel) (s image : List ℕ) where
   step-number = go (ruledOf c)
     where
       go : (t : Bool)
-          → numberOfAnswer (answerOf (cond t (onHeard (recordOf c) image (heardOf s)) (refusing (refused 1)))) ≡ cond (not t) 1 (firstMet (carouselTests s ++ heardTests (recordOf c) image (heardOf s)))
+          → numberOfAnswer (answerOf (cond t (onHeard (recordOf c) image (heardOf s)) (refusing (refused 1))))
+          ≡ cond (not t) 1 (firstMet (carouselTests s ++ heardTests (recordOf c) image (heardOf s)))
       go true = heard-number (recordOf c) image s (judgedOf s) refl
       go false = refl
 

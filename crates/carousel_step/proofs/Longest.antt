@@ -78,7 +78,9 @@ module _ (ds : List ℕ) (e : length ds ≡ 4066) where
 
   heard-block : heardOf (longest ds) ≡ arrived (record { download = 1; number = 1; version = 0; block = 0; bytes = ds })
   unfolding heardOf heardIn arrivedIn
-  heard-block = ap (heardIn (longest ds)) judged-block ∙ ap (λ (l : List ℕ). arrived (record { download = 1; number = 1; version = 0; block = 0; bytes = l })) (take-at ds (spelled 4 (crcOf (front ds))) 4066 e)
+  heard-block = ap (heardIn (longest ds)) judged-block
+      ∙ ap (λ (l : List ℕ). arrived (record { download = 1; number = 1; version = 0; block = 0; bytes = l }))
+      (take-at ds (spelled 4 (crcOf (front ds))) 4066 e)
 
 -- "A 4,066-byte block without adaptation has L = 4,093."
 pub longest-block : ((s : List ℕ) (d : Arrived) → heardOf s ≡ arrived d → adaptationOf (bodyOf s) ≡ 0 → length (d .bytes) ≡ 4066 → lengthOf s ≡ 4093)

@@ -18,7 +18,8 @@ use Rattle.carousel_record.specs.declared.Carousel.{Carousel}
 use Rattle.carousel_record.specs.Marks.{clearFrom, marksWithin}
 use Rattle.carousel_record.specs.Record.{Record, listedIn, startIn, announcedBy, startsBy, recordOf, placeOf, sums, sameNumbers, withinLimits, ruled, unused, allUnused, ruledOf}
 use Rattle.carousel_record.specs.Changes.{emptyRecord, entries, madeAfresh, withMark, afresh, marking}
-use Rattle.carousel_step.specs.Step.{blockRefusal, sameAnnounced, StepOutcome, refusing, new, same, repeated, stored, matched, onArrived, onAnnounced, onHeard, outcomeOf, carouselAfter, recordAfter, steppedOf}
+use Rattle.carousel_step.specs.Step.{blockRefusal, sameAnnounced, StepOutcome, refusing, new, same, repeated, stored, matched, onArrived}
+use Rattle.carousel_step.specs.Step.{onAnnounced, onHeard, outcomeOf, carouselAfter, recordAfter, steppedOf}
 use Rattle.carousel_step.proofs.Views.{isNew}
 use Rattle.carousel_record.proofs.Laws.Places.{few-modules}
 use Rattle.carousel_record.proofs.Laws.Rule.{kept, keeps, fresh-kept, shaped, ruled-parts, parts-ruled}

@@ -72,15 +72,19 @@ twice = recordAfter once (onHeard once onceImage copy)
 
 pub two-copies : (onHeard started (replicate 8 0) copy ≡ stored 0 0 (65 ∷ 66 ∷ 67 ∷ 68 ∷ [])) × (onHeard once onceImage copy ≡ repeated)
     × (completeOf twice 0 ≡ false) × (missingOf twice 0 ≡ 1 ∷ [])
-unfolding afresh sums blocksOf blockLengthOf onHeard onArrived matched blockRefusal firstMet meets12 meets13 meets14 meets15 meets16 placeIn total blockAt bytesDiffer sameNumbers isMarked marksWith marking overwrite missingOf clearAmong
+unfolding afresh sums blocksOf blockLengthOf onHeard onArrived matched blockRefusal firstMet meets12 meets13 meets14 meets15 meets16 placeIn total
+    blockAt bytesDiffer sameNumbers isMarked marksWith marking overwrite missingOf clearAmong
 two-copies = (refl, refl, refl, refl)
 
 -- The two whole sections of the messages' soundings: an announcement of download 1 with one module of 6 bytes in blocks of 4, and its block 0, "ABCD".
 abbrev announcing : List ℕ
-announcing = 0x3B ∷ 0xB0 ∷ 0x33 ∷ 0x00 ∷ 0x02 ∷ 0xC1 ∷ 0x00 ∷ 0x00 ∷ 0x11 ∷ 0x03 ∷ 0x10 ∷ 0x02 ∷ 0x80 ∷ 0x00 ∷ 0x00 ∷ 0x02 ∷ 0xFF ∷ 0x00 ∷ 0x00 ∷ 0x1E ∷ 0x00 ∷ 0x00 ∷ 0x00 ∷ 0x01 ∷ 0x00 ∷ 0x04 ∷ 0x00 ∷ 0x00 ∷ 0x00 ∷ 0x00 ∷ 0x00 ∷ 0x00 ∷ 0x00 ∷ 0x00 ∷ 0x00 ∷ 0x00 ∷ 0x00 ∷ 0x00 ∷ 0x00 ∷ 0x01 ∷ 0x00 ∷ 0x01 ∷ 0x00 ∷ 0x00 ∷ 0x00 ∷ 0x06 ∷ 0x00 ∷ 0x00 ∷ 0x00 ∷ 0x00 ∷ 0x13 ∷ 0x99 ∷ 0x19 ∷ 0x34 ∷ []
+announcing = 0x3B ∷ 0xB0 ∷ 0x33 ∷ 0x00 ∷ 0x02 ∷ 0xC1 ∷ 0x00 ∷ 0x00 ∷ 0x11 ∷ 0x03 ∷ 0x10 ∷ 0x02 ∷ 0x80 ∷ 0x00 ∷ 0x00 ∷ 0x02 ∷ 0xFF ∷ 0x00 ∷ 0x00
+    ∷ 0x1E ∷ 0x00 ∷ 0x00 ∷ 0x00 ∷ 0x01 ∷ 0x00 ∷ 0x04 ∷ 0x00 ∷ 0x00 ∷ 0x00 ∷ 0x00 ∷ 0x00 ∷ 0x00 ∷ 0x00 ∷ 0x00 ∷ 0x00 ∷ 0x00 ∷ 0x00 ∷ 0x00 ∷ 0x00
+    ∷ 0x01 ∷ 0x00 ∷ 0x01 ∷ 0x00 ∷ 0x00 ∷ 0x00 ∷ 0x06 ∷ 0x00 ∷ 0x00 ∷ 0x00 ∷ 0x00 ∷ 0x13 ∷ 0x99 ∷ 0x19 ∷ 0x34 ∷ []
 
 abbrev carrying : List ℕ
-carrying = 0x3C ∷ 0xB0 ∷ 0x1F ∷ 0x00 ∷ 0x01 ∷ 0xC1 ∷ 0x00 ∷ 0x01 ∷ 0x11 ∷ 0x03 ∷ 0x10 ∷ 0x03 ∷ 0x00 ∷ 0x00 ∷ 0x00 ∷ 0x01 ∷ 0xFF ∷ 0x00 ∷ 0x00 ∷ 0x0A ∷ 0x00 ∷ 0x01 ∷ 0x00 ∷ 0xFF ∷ 0x00 ∷ 0x00 ∷ 0x41 ∷ 0x42 ∷ 0x43 ∷ 0x44 ∷ 0xAC ∷ 0x72 ∷ 0x9B ∷ 0x2F ∷ []
+carrying = 0x3C ∷ 0xB0 ∷ 0x1F ∷ 0x00 ∷ 0x01 ∷ 0xC1 ∷ 0x00 ∷ 0x01 ∷ 0x11 ∷ 0x03 ∷ 0x10 ∷ 0x03 ∷ 0x00 ∷ 0x00 ∷ 0x00 ∷ 0x01 ∷ 0xFF ∷ 0x00 ∷ 0x00 ∷ 0x0A
+    ∷ 0x00 ∷ 0x01 ∷ 0x00 ∷ 0xFF ∷ 0x00 ∷ 0x00 ∷ 0x41 ∷ 0x42 ∷ 0x43 ∷ 0x44 ∷ 0xAC ∷ 0x72 ∷ 0x9B ∷ 0x2F ∷ []
 
 abbrev told : Announced
 told = record { download = 1; blockSize = 4; modules = record { number = 1; size = 6; version = 0 } ∷ [] }
@@ -121,15 +125,18 @@ unfolding madeAfresh emptyRecord entries ruledOf allUnused ruled withinLimits be
 renewed-ruled = refl
 
 holding-ruled : ruledOf holding ≡ true
-unfolding withMark marksWith madeAfresh emptyRecord entries ruledOf allUnused ruled withinLimits beyond10 someBad total twice11 among sameNumbers sums announcedBy startsBy marksWithin clearFrom blocksOf
+unfolding withMark marksWith madeAfresh emptyRecord entries ruledOf allUnused ruled withinLimits beyond10 someBad total twice11 among sameNumbers
+    sums announcedBy startsBy marksWithin clearFrom blocksOf
 holding-ruled = refl
 
 carried-stored : onHeard (recordOf renewed) image (arrived carried) ≡ stored 0 0 (carried .bytes)
-unfolding onHeard onArrived matched blockRefusal firstMet meets12 meets13 meets14 meets15 meets16 placeIn total blocksOf blockLengthOf blockAt isMarked announcedBy startsBy madeAfresh emptyRecord entries
+unfolding onHeard onArrived matched blockRefusal firstMet meets12 meets13 meets14 meets15 meets16 placeIn total blocksOf blockLengthOf blockAt
+    isMarked announcedBy startsBy madeAfresh emptyRecord entries
 carried-stored = refl
 
 carried-repeated : onHeard (recordOf holding) imaged (arrived carried) ≡ repeated
-unfolding onHeard onArrived matched blockRefusal firstMet meets12 meets13 meets14 meets15 meets16 placeIn total blocksOf blockLengthOf blockAt isMarked announcedBy startsBy madeAfresh emptyRecord entries withMark marksWith bytesDiffer sameNumbers
+unfolding onHeard onArrived matched blockRefusal firstMet meets12 meets13 meets14 meets15 meets16 placeIn total blocksOf blockLengthOf blockAt
+    isMarked announcedBy startsBy madeAfresh emptyRecord entries withMark marksWith bytesDiffer sameNumbers
 carried-repeated = refl
 
 told-same : onHeard (recordOf renewed) image (announced told) ≡ same
@@ -137,7 +144,8 @@ unfolding onHeard onAnnounced sameAnnounced sameModules announcedBy madeAfresh e
 told-same = refl
 
 carried-other : onHeard (recordOf holding) image (arrived carried) ≡ refusing (refused 17)
-unfolding onHeard onArrived matched blockRefusal firstMet meets12 meets13 meets14 meets15 meets16 placeIn total blocksOf blockLengthOf blockAt isMarked announcedBy startsBy madeAfresh emptyRecord entries withMark marksWith bytesDiffer sameNumbers
+unfolding onHeard onArrived matched blockRefusal firstMet meets12 meets13 meets14 meets15 meets16 placeIn total blocksOf blockLengthOf blockAt
+    isMarked announcedBy startsBy madeAfresh emptyRecord entries withMark marksWith bytesDiffer sameNumbers
 carried-other = refl
 
 -- "new", "same", "stored" and "repeated", and what each leaves; and where the image has other bytes at a marked block's place, 17

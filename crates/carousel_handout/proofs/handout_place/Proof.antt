@@ -30,7 +30,7 @@ few c = ruled-count (c .before .before .before .args .c) (given c .0)
 
 -- once it was found
 abbrev from : tie.After-place-of → tie.Start
-from c = c .before .before .before .before .before
+from c = let e = c .before .before in e .before .before .before
 
 found : (c : tie.After-place-of) → c .place-of .result < from c .args .c .count
 found c =

@@ -17,6 +17,10 @@ use borrow.Author.Needs.{needs}
 use Rattle.carousel_messages.proofs.judge.Statement.{statement}
 use Rattle.carousel_messages.proofs.judge.Tie as tie
 
+-- the places that stand before a place, by name
+abbrev start-of-at-match-keys2 : tie.At-match-keys2 → tie.Start
+start-of-at-match-keys2 c = c .before .before .before
+
 check-requires : tie.Need-check-requires
 check-requires c κs = search needs
 
@@ -27,10 +31,10 @@ enum-known-checked-2 : tie.Need-enum-known-checked-2
 enum-known-checked-2 c = search needs
 
 -- what the check answered
-told : (c : tie.After-known-told2) → checkedOf Carousel (c .before .before .before .before .before .args .s .now) ≡ Accepted (c .before .checked2 .given .0 .0)
+told : (c : tie.After-known-told2) → checkedOf Carousel (start-of-at-match-keys2 (c .before .before) .args .s .now) ≡ Accepted (c .before .checked2 .given .0 .0)
 told c = sym (c .before .before .before .check .ensures .0) ∙ c .before .checked2 .given .1
 
-long : (c : tie.After-known-told2) → 12 ≤ length (c .before .before .before .before .before .args .s .now)
+long : (c : tie.After-known-told2) → 12 ≤ length (start-of-at-match-keys2 (c .before .before) .args .s .now)
 long c = accepted-has Carousel _ _ (told c) .3
 
 sub-e : tie.Need-sub-e
@@ -57,7 +61,7 @@ returns c = numbered _ _ (judged-refused _ _ (sym (c .before .before .before .ch
 
 returns-2 : tie.Need-returns-2
 returns-2 c =
-    let s = c .before .before .before .before .before .before .before .args .s .now in
+    let s = start-of-at-match-keys2 (c .before .before .before .before) .args .s .now in
     numbered s _ (c .judge-message .ensures ∙ ap (messageJudged _ _) (body-part s) ∙ judged-message s _ (told (c .before .before)))
 
 pub judge-spec : {M : Type 1} → statement M

@@ -6,6 +6,16 @@ use borrow.Author.Needs.{needs}
 use Rattle.carousel_messages.proofs.module_at.Statement.{statement}
 use Rattle.carousel_messages.proofs.module_at.Tie as tie
 
+-- the places that stand before a place, by name
+abbrev start-of-then2 : tie.Then2 → tie.Start
+start-of-then2 c = c .before .before .before .before
+
+abbrev start-of-else2 : tie.Else2 → tie.Start
+start-of-else2 c = c .before .before .before .before
+
+abbrev after-measured-end-of-else2 : tie.Else2 → tie.After-measured-end
+after-measured-end-of-else2 c = c .before
+
 none-listed-requires : tie.Need-none-listed-requires
 none-listed-requires c κs = search needs
 
@@ -23,7 +33,7 @@ none-listed-requires-2 c κs = search needs
 
 returns-2 : tie.Need-returns-2
 returns-2 c =
-    let p = c .before .before .before .before .before .args in
+    let p = start-of-then2 (c .before) .args in
     c .none-listed2 .ensures ∙ none-at (p .list .now) _ (past (p .list .now) _ (sym (c .before .before .measured-end .ensures) ∙ c .before .if2 .taken))
 
 measured-end-requires-2 : tie.Need-measured-end-requires-2
@@ -34,7 +44,8 @@ sixteen-at-requires c κs = search needs
 
 add-thirty-two-at : tie.Need-add-thirty-two-at
 add-thirty-two-at c =
-    let w = ends-within (c .before .before .before .before .before .before .args .list .now) (c .before .before .before .before .before .before .args .place) in
+    let s = start-of-else2 (c .before .before) in
+    let w = ends-within (s .args .list .now) (s .args .place) in
     omega arith
 
 thirty-two-at-requires : tie.Need-thirty-two-at-requires
@@ -42,7 +53,8 @@ thirty-two-at-requires c κs = search needs
 
 add-byte-at : tie.Need-add-byte-at
 add-byte-at c =
-    let w = ends-within (c .before .before .before .before .before .before .before .args .list .now) (c .before .before .before .before .before .before .before .args .place) in
+    let s = start-of-else2 (c .before .before .before) in
+    let w = ends-within (s .args .list .now) (s .args .place) in
     omega arith
 
 byte-at-requires : tie.Need-byte-at-requires
@@ -50,8 +62,8 @@ byte-at-requires c κs = search needs
 
 returns-3 : tie.Need-returns-3
 returns-3 c =
-    let p = c .before .before .before .before .before .before .before .before .args in
-    let n = there (p .list .now) _ (λ z. c .before .before .before .before .if2 .left (c .before .before .before .before .before .measured-end .ensures ∙ z)) in
+    let p = start-of-else2 (c .before .before .before .before) .args in
+    let n = there (p .list .now) _ (λ z. c .before .before .before .before .if2 .left (after-measured-end-of-else2 (c .before .before .before .before) .measured-end .ensures ∙ z)) in
     let e = listed-is (p .list .now) (p .place) _ (c .before .before .before .measured-end2 .ensures) n in
     (λ i. record {
       number = c .before .before .sixteen-at .ensures .0 i;

@@ -17,7 +17,9 @@ use Rattle.carousel_messages.specs.Heard.{Announced, Arrived, announcedIn, arri
 use Rattle.carousel_record.specs.declared.Carousel.{Carousel}
 use Rattle.carousel_record.specs.Marks.{markOf}
 use Rattle.carousel_record.specs.Record.{Record, recordOf, moduleAt, placeOf, bytesOf, blockCount, blockLength, received, blockAt, sameNumbers, ruledOf}
-use Rattle.carousel_step.specs.Step.{StepOutcome, refusing, new, same, repeated, stored, meets12, meets14, meets16, blockRefusal, bytesDiffer, matched, sameAnnounced, onAnnounced, onArrived, onHeard, outcomeOf, imageAfter, returning, steppedOf, imageOf}
+use Rattle.carousel_step.specs.Step.{StepOutcome, refusing, new, same, repeated, stored, meets12, meets14, meets16, blockRefusal, bytesDiffer}
+use Rattle.carousel_step.specs.Step.{matched, sameAnnounced, onAnnounced, onArrived, onHeard, outcomeOf, imageAfter, returning, steppedOf}
+use Rattle.carousel_step.specs.Step.{imageOf}
 use Rattle.carousel_record.specs.Refusals.{meets13, meets15}
 
 -- 12 to 16, one after another

@@ -16,6 +16,10 @@ Inv-loop words first n lack₀ b₀ lack b = (b ≤ n) × (lack ≡ lackOf (clea
 abbrev μ-loop : tie.MeasureT-loop
 μ-loop words first n lack₀ b₀ lack b = b
 
+-- the places that stand before a place, by name
+abbrev start-of-in-loop : tie.In-loop Inv-loop μ-loop → tie.Start Inv-loop μ-loop
+start-of-in-loop c = c .before .before .before
+
 loop-holds : tie.Need-loop-holds Inv-loop μ-loop
 loop-holds c =
     let s = c .before .args in
@@ -44,7 +48,7 @@ loop-less c = search needs
 
 loop-again : tie.Need-loop-again Inv-loop μ-loop
 loop-again c =
-    let s = c .before .before .before .before .before in
+    let s = start-of-in-loop (c .before .before) in
     let l = c .before .before .before .loop in
     (omega arith, rw (c .with-block .ensures, c .before .is-marked .ensures, l .inv .1) (sym (among-next (s .args .words .now) (s .args .first) (s .args .n) (l .b) (omega arith) (omega arith))))
 

@@ -17,6 +17,19 @@ use borrow.Author.Needs.{needs}
 use Rattle.carousel_handout.proofs.lacks.lack_of.Statement.{statement}
 use Rattle.carousel_handout.proofs.lacks.lack_of.Tie as tie
 
+-- the places that stand before a place, by name
+abbrev start-of-after-ms : tie.After-ms → tie.Start
+start-of-after-ms c = c .before
+
+abbrev start-of-after-blocks-of : tie.After-blocks-of → tie.Start
+start-of-after-blocks-of c = start-of-after-ms (c .before .before .before .before)
+
+abbrev start-of-after-m : tie.After-m → tie.Start
+start-of-after-m c = c .before .before
+
+abbrev start-of-after-lack-among : tie.After-lack-among → tie.Start
+start-of-after-lack-among c = start-of-after-m (c .before .before .before .before)
+
 all-entries : (s : tie.Start) → length (s .args .c .modules) ≡ mostModules
 all-entries s = sym (length-map (s .args .c .modules) _) ∙ s .good .0 .1 .1 .1 .1 .1 .0 .1 .0 .1
 
@@ -57,7 +70,7 @@ blocks-of-requires c κs = search needs
 
 lack-among-requires : tie.Need-lack-among-requires
 lack-among-requires c κs =
-    let s = c .before .before .before .before .before in
+    let s = start-of-after-blocks-of c in
     let m = most s in
     let e = blocks s in
     let n = few-modules s in
@@ -66,7 +79,7 @@ lack-among-requires c κs =
 returns : tie.Need-returns
 unfolding missingOf
 returns c =
-    let s = c .before .before .before .before .before .before in
+    let s = start-of-after-lack-among c in
     let e = c .before .blocks-of .ensures .0 ∙ blocks s in
     c .lack-among .ensures ∙ ap (λ (n : ℕ). lackOf (clearAmong (s .args .c .marks) (mostBlocks * s .args .place) 0 n)) e
 

@@ -5,6 +5,22 @@ use borrow.Author.Needs.{needs}
 use Rattle.carousel_messages.proofs.message.block_refusal.Statement.{statement}
 use Rattle.carousel_messages.proofs.message.block_refusal.Tie as tie
 
+-- the places that stand before a place, by name
+abbrev start-of-else1 : tie.Else1 → tie.Start
+start-of-else1 c = c .before .before
+
+abbrev start-of-then2 : tie.Then2 → tie.Start
+start-of-then2 c = start-of-else1 (c .before .before .before)
+
+abbrev start-of-else2 : tie.Else2 → tie.Start
+start-of-else2 c = start-of-else1 (c .before .before .before)
+
+abbrev start-of-then3 : tie.Then3 → tie.Start
+start-of-then3 c = start-of-else2 (c .before .before .before)
+
+abbrev start-of-else3 : tie.Else3 → tie.Start
+start-of-else3 c = start-of-else2 (c .before .before .before)
+
 returns : tie.Need-returns
 returns c = block-short _ (c .before .before .args .p .now) (c .if1 .taken)
 
@@ -12,7 +28,7 @@ sixteen-at-requires : tie.Need-sixteen-at-requires
 sixteen-at-requires c κs = search needs
 
 returns-2 : tie.Need-returns-2
-returns-2 c = block-other _ (c .before .before .before .before .before .args .p .now) (omega arith) (λ e. omega (arith, c .if2 .taken))
+returns-2 c = block-other _ (start-of-then2 c .args .p .now) (omega arith) (λ e. omega (arith, c .if2 .taken))
 
 sixteen-at-requires-2 : tie.Need-sixteen-at-requires-2
 sixteen-at-requires-2 c κs = search needs
@@ -21,10 +37,10 @@ cast-if3 : tie.Need-cast-if3
 cast-if3 c = search needs
 
 returns-3 : tie.Need-returns-3
-returns-3 c = block-number _ (c .before .before .before .before .before .before .before .before .args .p .now) (omega arith) (omega arith) (λ e. omega (arith, c .if3 .taken))
+returns-3 c = block-number _ (start-of-then3 c .args .p .now) (omega arith) (omega arith) (λ e. omega (arith, c .if3 .taken))
 
 returns-4 : tie.Need-returns-4
-returns-4 c = block-good _ (c .before .before .before .before .before .before .before .before .args .p .now) (omega arith) (omega arith) (omega arith)
+returns-4 c = block-good _ (start-of-else3 c .args .p .now) (omega arith) (omega arith) (omega arith)
 
 pub block-refusal-spec : {M : Type 1} → statement M
 block-refusal-spec =

@@ -11,6 +11,13 @@ use Rattle.carousel_messages.proofs.Laws.Refusals.{judged-bad, judged-g
 use Rattle.carousel_messages.proofs.message.judge_message.Statement.{statement}
 use Rattle.carousel_messages.proofs.message.judge_message.Tie as tie
 
+-- the places that stand before a place, by name
+abbrev else1-of-at-match-keys1 : tie.At-match-keys1 → tie.Else1
+else1-of-at-match-keys1 c = c .before
+
+abbrev else1-of-at-match-keys2 : tie.At-match-keys2 → tie.Else1
+else1-of-at-match-keys2 c = c .before
+
 table-of-requires : tie.Need-table-of-requires
 table-of-requires c κs = search needs
 
@@ -41,12 +48,12 @@ block-of-requires c κs = search needs
 
 returns-2 : tie.Need-returns-2
 returns-2 c =
-    let t = sym (c .before .before .before .before .before .table-of .ensures) ∙ c .before .enum-told .given .1 in
+    let t = sym (else1-of-at-match-keys1 (c .before .before) .before .before .table-of .ensures) ∙ c .before .enum-told .given .1 in
     ap Announced (c .announcement-of .ensures) ∙ read-announced _ _ t ∙ judged-good _ _ _ (sym (number (c .before .before .before .before)) ∙ c .before .before .before .if1 .left)
 
 returns-3 : tie.Need-returns-3
 returns-3 c =
-    let t = sym (c .before .before .before .before .before .table-of .ensures) ∙ c .before .enum-told2 .given .1 in
+    let t = sym (else1-of-at-match-keys2 (c .before .before) .before .before .table-of .ensures) ∙ c .before .enum-told2 .given .1 in
     ap Carried (c .block-of .ensures) ∙ read-carried _ _ t ∙ judged-good _ _ _ (sym (number (c .before .before .before .before)) ∙ c .before .before .before .if1 .left)
 
 pub judge-message-spec : {M : Type 1} → statement M

@@ -8,6 +8,19 @@ use borrow.Author.Needs.{needs}
 use Rattle.carousel_messages.proofs.message.message_refusal.Statement.{statement}
 use Rattle.carousel_messages.proofs.message.message_refusal.Tie as tie
 
+-- the places that stand before a place, by name
+abbrev start-of-else1 : tie.Else1 → tie.Start
+start-of-else1 c = c .before .before
+
+abbrev start-of-then3 : tie.Then3 → tie.Start
+start-of-then3 c = start-of-else1 (c .before .before .before .before)
+
+abbrev start-of-else3 : tie.Else3 → tie.Start
+start-of-else3 c = start-of-else1 (c .before .before .before .before)
+
+abbrev else2-of-else3 : tie.Else3 → tie.Else2
+else2-of-else3 c = c .before .before
+
 returns : tie.Need-returns
 returns c = is-short _ _ (c .before .before .args .b .now) (omega arith)
 
@@ -21,7 +34,8 @@ is-framed-requires : tie.Need-is-framed-requires
 is-framed-requires c κs = search needs
 
 returns-3 : tie.Need-returns-3
-returns-3 c = is-open _ _ (c .before .before .before .before .before .before .args .b .now) (omega arith) (sym (c .before .before .before .is-message .ensures) ∙ c .before .before .if2 .left) (sym (c .before .is-framed .ensures) ∙ not-true _ (c .if3 .taken))
+returns-3 c = is-open _ _ (start-of-then3 c .args .b .now) (omega arith) (sym (c .before .before .before .is-message .ensures)
+    ∙ c .before .before .if2 .left) (sym (c .before .is-framed .ensures) ∙ not-true _ (c .if3 .taken))
 
 payload-requires : tie.Need-payload-requires
 payload-requires c κs = search needs
@@ -33,7 +47,9 @@ returns-4 : tie.Need-returns-4
 returns-4 c =
     c .payload-refusal .ensures
     ∙ ap (payloadRefusal _ _) (c .before .payload .ensures)
-    ∙ is-payload _ _ (c .before .before .before .before .before .before .before .before .args .b .now) (omega arith) (sym (c .before .before .before .before .before .is-message .ensures) ∙ c .before .before .before .before .if2 .left) (sym (c .before .before .before .is-framed .ensures) ∙ not-false _ (c .before .before .if3 .left))
+    ∙ is-payload _ _ (start-of-else3 (c .before .before) .args .b .now) (omega arith)
+    (sym (else2-of-else3 (c .before .before) .before .is-message .ensures) ∙ c .before .before .before .before .if2 .left)
+    (sym (c .before .before .before .is-framed .ensures) ∙ not-false _ (c .before .before .if3 .left))
 
 pub message-refusal-spec : {M : Type 1} → statement M
 message-refusal-spec =

@@ -17,7 +17,8 @@ sub-if2 : tie.Need-sub-if2
 sub-if2 c = search needs
 
 returns-2 : tie.Need-returns-2
-returns-2 c = sym (ne-eqb (c .before .before .before .args .e + 2 + sixteenAt (c .before .before .before .args .p .now) (c .before .before .before .args .e)) (length (c .before .before .before .args .p .now)) (λ z. omega arith))
+returns-2 c = sym (ne-eqb (c .before .before .before .args .e + 2 + sixteenAt (c .before .before .before .args .p .now)
+    (c .before .before .before .args .e)) (length (c .before .before .before .args .p .now)) (λ z. omega arith))
 
 add-result : tie.Need-add-result
 add-result c = search needs

@@ -16,6 +16,19 @@ Inv-loop words n left₀ i₀ left i = (i ≤ length words) × (clearFrom left (
 abbrev μ-loop : tie.MeasureT-loop
 μ-loop words n left₀ i₀ left i = length words - i
 
+-- the places that stand before a place, by name
+abbrev start-of-loop : tie.At-loop Inv-loop μ-loop → tie.Start Inv-loop μ-loop
+start-of-loop c = c .before .before
+
+abbrev start-of-then1 : tie.Then1 Inv-loop μ-loop → tie.Start Inv-loop μ-loop
+start-of-then1 c = start-of-loop (c .before .before .before .before)
+
+abbrev start-of-else1 : tie.Else1 Inv-loop μ-loop → tie.Start Inv-loop μ-loop
+start-of-else1 c = start-of-loop (c .before .before .before .before)
+
+abbrev loop-of-else1 : tie.Else1 Inv-loop μ-loop → tie.At-loop Inv-loop μ-loop
+loop-of-else1 c = c .before .before .before .before
+
 loop-holds : tie.Need-loop-holds Inv-loop μ-loop
 loop-holds c = (omega arith, refl)
 
@@ -30,7 +43,7 @@ is-word-clear-requires c κs = search needs
 
 returns : tie.Need-returns Inv-loop μ-loop
 returns c =
-    let s = c .before .before .before .before .before .before in
+    let s = start-of-then1 c in
     let l = c .before .before .before .before .loop in
     sym (word-off (s .args .words .now) (l .i) (l .left) (omega arith) (sym (c .before .is-word-clear .ensures) ∙ not-true _ (c .if1 .taken))) ∙ l .inv .1
 
@@ -45,9 +58,13 @@ loop-less c = search needs
 
 loop-again : tie.Need-loop-again Inv-loop μ-loop
 loop-again c =
-    let s = c .before .before .before .before .before .before .before in
-    let l = c .before .before .before .before .before .loop in
-    (omega arith, rw (c .after-word .ensures) (word-next (s .args .words .now) (l .i) (l .left) (omega arith) (sym (c .before .before .is-word-clear .ensures) ∙ not-false _ (c .before .if1 .left)) ∙ l .inv .1))
+    let s = start-of-else1 (c .before) in
+    let l = loop-of-else1 (c .before) .loop in (
+      omega arith,
+      rw (c .after-word .ensures)
+          (word-next (s .args .words .now) (l .i) (l .left) (omega arith) (sym (c .before .before .is-word-clear .ensures)
+          ∙ not-false _ (c .before .if1 .left)) ∙ l .inv .1),
+    )
 
 returns-2 : tie.Need-returns-2 Inv-loop μ-loop
 returns-2 c =

@@ -23,6 +23,25 @@ Inv-loop n list ms i₀ i = (i ≤ n) × (sameModules (drop i (map listedIn (tak
 abbrev μ-loop : tie.MeasureT-loop
 μ-loop n list ms i₀ i = n - i
 
+-- the places that stand before a place, by name
+abbrev start-of-in-loop : tie.In-loop Inv-loop μ-loop → tie.Start Inv-loop μ-loop
+start-of-in-loop c = c .before .before .before
+
+abbrev start-of-then1 : tie.Then1 Inv-loop μ-loop → tie.Start Inv-loop μ-loop
+start-of-then1 c = start-of-in-loop (c .before .before .before .before)
+
+abbrev loop-of-in-loop : tie.In-loop Inv-loop μ-loop → tie.At-loop Inv-loop μ-loop
+loop-of-in-loop c = c .before
+
+abbrev loop-of-then1 : tie.Then1 Inv-loop μ-loop → tie.At-loop Inv-loop μ-loop
+loop-of-then1 c = loop-of-in-loop (c .before .before .before .before)
+
+abbrev start-of-else1 : tie.Else1 Inv-loop μ-loop → tie.Start Inv-loop μ-loop
+start-of-else1 c = start-of-in-loop (c .before .before .before .before)
+
+abbrev loop-of-else1 : tie.Else1 Inv-loop μ-loop → tie.At-loop Inv-loop μ-loop
+loop-of-else1 c = loop-of-in-loop (c .before .before .before .before)
+
 abbrev ms : tie.Start Inv-loop μ-loop → List Module
 ms s = s .args .t1
 
@@ -34,9 +53,9 @@ enough s = let e = s .good .0 .1 .0 .1 in omega (arith, s .pre .0)
 
 -- the announced module at i is what was read
 here : (c : tie.After-is-same-module Inv-loop μ-loop) → let l = c .before .before .before .before .loop in
-    drop (l .i) (list (c .before .before .before .before .before .before)) ≡ c .before .module-at .result ∷ drop (l .i + 1) (list (c .before .before .before .before .before .before))
+    drop (l .i) (list (start-of-in-loop (c .before .before .before))) ≡ c .before .module-at .result ∷ drop (l .i + 1) (list (start-of-in-loop (c .before .before .before)))
 here c =
-    let s = c .before .before .before .before .before .before in
+    let s = start-of-in-loop (c .before .before .before) in
     let l = c .before .before .before .before .loop in
     rw (add-one (l .i)) (drop-cons (list s) (l .i) noneListed (omega (arith, s .pre .1)) ∙ ap (λ (x : Listed). x ∷ drop (suc (l .i)) (list s)) (sym (c .before .module-at .ensures)))
 
@@ -57,8 +76,8 @@ is-same-module-requires c κs = search needs
 
 returns : tie.Need-returns Inv-loop μ-loop
 returns c =
-    let s = c .before .before .before .before .before .before .before in
-    let l = c .before .before .before .before .before .loop in
+    let s = start-of-then1 c in
+    let l = loop-of-then1 c .loop in
     sym (same-off (ms s) (s .args .n) (enough s) (l .i) (omega arith) _ (list s) (here (c .before)) (sym (c .before .is-same-module .ensures) ∙ not-true _ (c .if1 .taken))) ∙ l .inv .1
 
 add-i : tie.Need-add-i Inv-loop μ-loop
@@ -69,8 +88,8 @@ loop-less c = search needs
 
 loop-again : tie.Need-loop-again Inv-loop μ-loop
 loop-again c =
-    let s = c .before .before .before .before .before .before .before in
-    let l = c .before .before .before .before .before .loop in
+    let s = start-of-else1 c in
+    let l = loop-of-else1 c .loop in
     (omega arith, same-next (ms s) (s .args .n) (enough s) (l .i) (omega arith) _ (list s) (here (c .before)) (sym (c .before .is-same-module .ensures) ∙ not-false _ (c .if1 .left)) ∙ l .inv .1)
 
 returns-2 : tie.Need-returns-2 Inv-loop μ-loop

@@ -14,7 +14,8 @@ is-same-requires c κs = search needs
 returns : tie.Need-returns
 returns c =
     let s = c .before .before .before in
-    sym (ap (λ (o : StepOutcome). returning (s .args .c) o) (announced-same (recordOf (s .args .c)) (announcedIn (s .args .a) (s .args .list .now)) (sym (c .before .is-same .ensures) ∙ c .if1 .taken)))
+    sym (ap (λ (o : StepOutcome). returning (s .args .c) o)
+    (announced-same (recordOf (s .args .c)) (announcedIn (s .args .a) (s .args .list .now)) (sym (c .before .is-same .ensures) ∙ c .if1 .taken)))
 
 made-afresh-requires : tie.Need-made-afresh-requires
 made-afresh-requires c κs = search needs

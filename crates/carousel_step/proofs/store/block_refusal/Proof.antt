@@ -17,6 +17,13 @@ use borrow.Author.Needs.{needs}
 use Rattle.carousel_step.proofs.store.block_refusal.Statement.{statement}
 use Rattle.carousel_step.proofs.store.block_refusal.Tie as tie
 
+-- the places that stand before a place, by name
+abbrev else3-of-after-ms : tie.After-ms → tie.Else3
+else3-of-after-ms c = c .before
+
+abbrev else3-of-then4 : tie.Then4 → tie.Else3
+else3-of-then4 c = else3-of-after-ms (c .before .before .before .before)
+
 -- the announcement, the block, and what is known at each place
 abbrev a : tie.Start → Announced
 a s = announcedBy (s .args .c)
@@ -34,7 +41,7 @@ abbrev from3 : tie.Else3 → tie.Else2
 from3 c = c .before .before
 
 abbrev from4 : tie.Else4 → tie.Else3
-from4 c = c .before .before .before .before .before
+from4 c = else3-of-after-ms (c .before .before .before .before)
 
 abbrev from5 : tie.Else5 → tie.Else4
 from5 c = c .before .before
@@ -123,7 +130,7 @@ array-copy-out-m c = search needs
 returns-4 : tie.Need-returns-4
 unfolding arrivedIn
 returns-4 c =
-    let e = c .before .before .before .before .before in
+    let e = else3-of-then4 c in
     let s = start3 e in
     sym (is-14 (a s) (s .args .room) (d s) (some (from2 (from3 e))) (its (from3 e)) (found e) (λ v. omega (arith, sym (version-of e) ∙ v, c .if4 .taken)))
 

@@ -15,6 +15,16 @@ Inv-loop a b i₀ i = (i ≤ length a) × (length a ≡ length b) × (sameNumber
 abbrev μ-loop : tie.MeasureT-loop
 μ-loop a b i₀ i = length a - i
 
+-- the places that stand before a place, by name
+abbrev start-of-loop : tie.At-loop Inv-loop μ-loop → tie.Start Inv-loop μ-loop
+start-of-loop c = c .before .before
+
+abbrev start-of-then2 : tie.Then2 Inv-loop μ-loop → tie.Start Inv-loop μ-loop
+start-of-then2 c = start-of-loop (c .before .before .before .before)
+
+abbrev start-of-else2 : tie.Else2 Inv-loop μ-loop → tie.Start Inv-loop μ-loop
+start-of-else2 c = start-of-loop (c .before .before .before .before)
+
 returns : tie.Need-returns Inv-loop μ-loop
 returns c = sym (bytes-lengths _ _ (c .if1 .taken))
 
@@ -29,7 +39,7 @@ shared-slice-read-if2-2 c = search needs
 
 returns-2 : tie.Need-returns-2 Inv-loop μ-loop
 returns-2 c =
-    let s = c .before .before .before .before .before .before in
+    let s = start-of-then2 c in
     let l = c .before .before .before .before .loop in
     sym (bytes-off (s .args .a .now) (s .args .b .now) (l .i) (omega arith) (omega arith) (c .if2 .taken)) ∙ l .inv .2
 
@@ -41,7 +51,7 @@ loop-less c = search needs
 
 loop-again : tie.Need-loop-again Inv-loop μ-loop
 loop-again c =
-    let s = c .before .before .before .before .before .before in
+    let s = start-of-else2 c in
     let l = c .before .before .before .before .loop in
     (omega arith, l .inv .1, bytes-next (s .args .a .now) (s .args .b .now) (l .i) (omega arith) (omega arith) (c .if2 .left) ∙ l .inv .2)
 

@@ -13,6 +13,43 @@ use borrow.Author.Needs.{needs}
 use Rattle.carousel_step.proofs.store.put.Statement.{statement}
 use Rattle.carousel_step.proofs.store.put.Tie as tie
 
+-- the places that stand before a place, by name
+abbrev start-of-after-ms : tie.After-ms → tie.Start
+start-of-after-ms c = c .before .before .before
+
+abbrev start-of-after-struct-known3 : tie.After-struct-known3 → tie.Start
+start-of-after-struct-known3 c = start-of-after-ms (c .before .before .before .before)
+
+abbrev start-of-then1 : tie.Then1 → tie.Start
+start-of-then1 c = start-of-after-struct-known3 (c .before .before .before .before)
+
+abbrev start-of-then2 : tie.Then2 → tie.Start
+start-of-then2 c = start-of-then1 (c .before .before .before .before)
+
+abbrev then1-of-then2 : tie.Then2 → tie.Then1
+then1-of-then2 c = c .before .before .before .before
+
+abbrev start-of-else2 : tie.Else2 → tie.Start
+start-of-else2 c = start-of-then1 (c .before .before .before .before)
+
+abbrev then1-of-else2 : tie.Else2 → tie.Then1
+then1-of-else2 c = c .before .before .before .before
+
+abbrev start-of-else1 : tie.Else1 → tie.Start
+start-of-else1 c = start-of-after-struct-known3 (c .before .before .before .before)
+
+abbrev start-of-after-copy-at-arg : tie.After-copy-at-arg → tie.Start
+start-of-after-copy-at-arg c = start-of-else1 (c .before)
+
+abbrev start-of-after-with-mark : tie.After-with-mark → tie.Start
+start-of-after-with-mark c = start-of-after-copy-at-arg (c .before .before .before .before)
+
+abbrev else1-of-after-copy-at-arg : tie.After-copy-at-arg → tie.Else1
+else1-of-after-copy-at-arg c = c .before
+
+abbrev else1-of-after-with-mark : tie.After-with-mark → tie.Else1
+else1-of-after-with-mark c = else1-of-after-copy-at-arg (c .before .before .before .before)
+
 -- where the block lies, as code reckons it
 abbrev its : tie.Start → ℕ
 its s = getD (s .args .c .modules) (s .args .place) unused .start + s .args .b .block * s .args .c .«block_size»
@@ -52,10 +89,10 @@ cast-at-2 : tie.Need-cast-at-2
 cast-at-2 c = search needs
 
 mul-at : tie.Need-mul-at
-mul-at c = let r = room (c .before .before .before .before .before .before .before) in omega arith
+mul-at c = let r = room (start-of-after-struct-known3 c) in omega arith
 
 add-at : tie.Need-add-at
-add-at c = let r = room (c .before .before .before .before .before .before .before) in omega arith
+add-at c = let r = room (start-of-after-struct-known3 c) in omega arith
 
 mul-k : tie.Need-mul-k
 mul-k c = search needs
@@ -70,7 +107,7 @@ is-marked-requires : tie.Need-is-marked-requires
 is-marked-requires c κs = search needs
 
 add-e : tie.Need-add-e
-add-e c = let r = room (c .before .before .before .before .before .before .before .before .before .before .before) in omega arith
+add-e c = let r = room (start-of-then1 c) in omega arith
 
 sub-is-equal : tie.Need-sub-is-equal
 sub-is-equal c = omega arith
@@ -79,7 +116,7 @@ part-is-equal-start : tie.Need-part-is-equal-start
 part-is-equal-start c = search needs
 
 part-is-equal-end : tie.Need-part-is-equal-end
-part-is-equal-end c = let r = room (c .before .before .before .before .before .before .before .before .before .before .before .before) in omega arith
+part-is-equal-end c = let r = room (start-of-then1 (c .before)) in omega arith
 
 is-equal-requires : tie.Need-is-equal-requires
 is-equal-requires c κs = search needs
@@ -90,8 +127,8 @@ same-length c = search needs
 returns : tie.Need-returns
 unfolding arrivedIn
 returns c =
-    let s = c .before .before .before .before .before .before .before .before .before .before .before .before .before .before .before in
-    let m = sym (c .before .before .before .before .before .is-marked .ensures) ∙ c .before .before .before .before .if1 .taken in
+    let s = start-of-then2 c in
+    let m = sym (then1-of-then2 c .before .is-marked .ensures) ∙ c .before .before .before .before .if1 .taken in
     let e = compared s true (sym (c .before .is-equal .ensures) ∙ c .if2 .taken) in
     let o = matched-same (recordOf (s .args .c)) (s .args .image .now) (s .args .place) (block s) m e in
     rw o (refl, refl)
@@ -105,14 +142,15 @@ same-length-2 c = search needs
 returns-2 : tie.Need-returns-2
 unfolding arrivedIn
 returns-2 c =
-    let s = c .before .before .before .before .before .before .before .before .before .before .before .before .before .before .before .before in
-    let m = sym (c .before .before .before .before .before .before .is-marked .ensures) ∙ c .before .before .before .before .before .if1 .taken in
+    let f = then1-of-else2 (c .before) in
+    let s = start-of-else2 (c .before) in
+    let m = sym (f .before .is-marked .ensures) ∙ f .if1 .taken in
     let e = compared s false (sym (c .before .before .is-equal .ensures) ∙ c .before .if2 .left) in
     let o = matched-other (recordOf (s .args .c)) (s .args .image .now) (s .args .place) (block s) m e in
     rw o (c .refuse .ensures, refl)
 
 copy-at-requires : tie.Need-copy-at-requires
-copy-at-requires c κs = let r = room (c .before .before .before .before .before .before .before .before .before .before .before .before) in omega arith
+copy-at-requires c κs = let r = room (start-of-else1 (c .before)) in omega arith
 
 with-mark-requires : tie.Need-with-mark-requires
 with-mark-requires c κs = search needs
@@ -123,8 +161,9 @@ same-length-3 c = search needs
 returns-3 : tie.Need-returns-3
 unfolding arrivedIn
 returns-3 c =
-    let s = c .before .before .before .before .before .before .before .before .before .before .before .before .before .before .before .before in
-    let m = sym (c .before .before .before .before .before .before .is-marked .ensures) ∙ c .before .before .before .before .before .if1 .left in
+    let e = else1-of-after-with-mark c in
+    let s = start-of-after-with-mark c in
+    let m = sym (e .before .is-marked .ensures) ∙ e .if1 .left in
     let o = matched-clear (recordOf (s .args .c)) (s .args .image .now) (s .args .place) (block s) m in
     rw o (rw (c .with-mark .ensures), c .before .before .before .copy-at .ensures ∙ ap (λ (n : ℕ). overwrite (s .args .image .now) n (s .args .bytes .now)) (at-is s))
 

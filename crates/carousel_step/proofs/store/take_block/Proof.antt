@@ -13,6 +13,10 @@ use borrow.Author.Needs.{needs}
 use Rattle.carousel_step.proofs.store.take_block.Statement.{statement}
 use Rattle.carousel_step.proofs.store.take_block.Tie as tie
 
+-- the places that stand before a place, by name
+abbrev start-of-else1 : tie.Else1 → tie.Start
+start-of-else1 c = c .before .before .before .before
+
 -- the record, the block, and what is known at each place
 abbrev says : tie.Start → Record
 says s = recordOf (s .args .c)
@@ -23,7 +27,8 @@ d s = arrivedIn (s .args .b) (s .args .bytes .now)
 count : (s : tie.Start) → length (announcedBy (s .args .c) .modules) ≡ s .args .c .count
 count s = says-count (s .args .c) (sym (length-map (s .args .c .modules) _) ∙ s .good .0 .1 .1 .1 .1 .1 .0 .1 .0 .1) (ruled-count (s .args .c) (s .pre))
 
-matches : (c : tie.Else1) → blockRefusal (announcedBy (c .before .before .before .before .args .c)) (length (c .before .before .before .before .args .image .now)) (d (c .before .before .before .before)) ≡ 0
+matches : (c : tie.Else1) → blockRefusal (announcedBy (c .before .before .before .before .args .c))
+    (length (c .before .before .before .before .args .image .now)) (d (c .before .before .before .before)) ≡ 0
 matches c = sym (c .before .block-refusal .ensures) ∙ c .if1 .left
 
 its : (c : tie.Else1) → Fits (announcedBy (c .before .before .before .before .args .c)) (length (c .before .before .before .before .args .image .now)) (d (c .before .before .before .before))
@@ -32,7 +37,7 @@ its c = fits _ _ _ (matches c)
 keeping : (c : tie.Else1) → Kept (says (c .before .before .before .before))
 keeping c = let s = c .before .before .before .before in let u = its c .found in kept (says s) (omega arith) (ruled-says (s .args .c) (s .pre))
 
-place : (c : tie.After-place-of) → let s = c .before .before .before .before .before in c .place-of .result ≡ placeOf (announcedBy (s .args .c)) (d s .number)
+place : (c : tie.After-place-of) → let s = start-of-else1 (c .before) in c .place-of .result ≡ placeOf (announcedBy (s .args .c)) (d s .number)
 unfolding arrivedIn
 place c = c .place-of .ensures
 
@@ -44,7 +49,8 @@ refuse-requires c κs = search needs
 
 returns : tie.Need-returns
 returns c =
-    let s = c .before .before .before .before .before in
+    let b = c .before in
+    let s = b .before .before .before .before in
     let e = c .before .before .block-refusal .ensures in
     let o = arrived-bad (says s) (s .args .image .now) (d s) (λ z. c .before .if1 .taken (e ∙ z)) in
     rw (o, c .refuse .ensures, e) (refl, refl)
