@@ -23,7 +23,9 @@ returns : tie.Need-returns
 returns c = rw (sym (c .before .before .before .application-at .ensures .0) ∙ c .before .r .given .1)
 
 returns-2 : tie.Need-returns-2
-returns-2 c = rw (sym (c .before .before .before .before .before .application-at .ensures .0) ∙ c .before .before .before .x .given .1, c .before .class-number .ensures, c .control-number .ensures)
+returns-2 c =
+    let at = c .before .before .before in
+    rw (sym (at .before .before .application-at .ensures .0) ∙ at .x .given .1, c .before .class-number .ensures, c .control-number .ensures)
 
 pub application-spec : {M : Type 1} → statement M
 application-spec =

@@ -23,10 +23,16 @@ described-out-requires : tie.Need-described-out-requires
 described-out-requires c κs = search needs
 
 returns : tie.Need-returns
-returns c = rw (sym (c .before .before .before .before .before .scope-of .ensures), sym (c .before .before .before .before .descriptor-at .ensures .0) ∙ c .before .before .r .given .1) (c .no-descriptor .ensures)
+returns c =
+    let at = c .before .before in
+    let call = at .before .before in
+    rw (sym (call .before .scope-of .ensures), sym (call .descriptor-at .ensures .0) ∙ at .r .given .1) (c .no-descriptor .ensures)
 
 returns-2 : tie.Need-returns-2
-returns-2 c = rw (sym (c .before .before .before .before .before .scope-of .ensures), sym (c .before .before .before .before .descriptor-at .ensures .0) ∙ c .before .before .d .given .1) (c .described-out .ensures)
+returns-2 c =
+    let at = c .before .before in
+    let call = at .before .before in
+    rw (sym (call .before .scope-of .ensures), sym (call .descriptor-at .ensures .0) ∙ at .d .given .1) (c .described-out .ensures)
 
 pub descriptor-spec : {M : Type 1} → statement M
 descriptor-spec =

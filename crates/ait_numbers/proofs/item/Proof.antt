@@ -23,10 +23,16 @@ found-out-requires : tie.Need-found-out-requires
 found-out-requires c κs = search needs
 
 returns : tie.Need-returns
-returns c = rw (sym (c .before .before .before .before .before .scope-of .ensures), sym (c .before .before .before .before .item-asked .ensures) ∙ c .before .before .r .given .1) (c .no-item .ensures)
+returns c =
+    let at = c .before .before in
+    let call = at .before .before in
+    rw (sym (call .before .scope-of .ensures), sym (call .item-asked .ensures) ∙ at .r .given .1) (c .no-item .ensures)
 
 returns-2 : tie.Need-returns-2
-returns-2 c = rw (sym (c .before .before .before .before .before .scope-of .ensures), sym (c .before .before .before .before .item-asked .ensures) ∙ c .before .before .x .given .1) (c .found-out .ensures)
+returns-2 c =
+    let at = c .before .before in
+    let call = at .before .before in
+    rw (sym (call .before .scope-of .ensures), sym (call .item-asked .ensures) ∙ at .x .given .1) (c .found-out .ensures)
 
 pub item-spec : {M : Type 1} → statement M
 item-spec =

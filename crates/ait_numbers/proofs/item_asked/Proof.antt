@@ -45,7 +45,10 @@ returns-5 c = rw (c .before .match .keys5) (c .item-at5 .ensures .0)
 
 returns-6 : tie.Need-returns-6
 unfolding itemAsked
-returns-6 c = rw (ne-eqb (c .before .before .before .args .kind) 1 (c .before .match .rest .0 .0 .0 .0 .1), ne-eqb (c .before .before .before .args .kind) 2 (c .before .match .rest .0 .0 .0 .1), ne-eqb (c .before .before .before .args .kind) 3 (c .before .match .rest .0 .0 .1), ne-eqb (c .before .before .before .args .kind) 4 (c .before .match .rest .0 .1), ne-eqb (c .before .before .before .args .kind) 5 (c .before .match .rest .1)) (c .no-place .ensures)
+returns-6 c =
+    let k = c .before .before .before .args .kind in
+    let other = c .before .match .rest in
+    rw (ne-eqb k 1 (other .0 .0 .0 .0 .1), ne-eqb k 2 (other .0 .0 .0 .1), ne-eqb k 3 (other .0 .0 .1), ne-eqb k 4 (other .0 .1), ne-eqb k 5 (other .1)) (c .no-place .ensures)
 
 pub item-asked-spec : {M : Type 1} → statement M
 item-asked-spec =

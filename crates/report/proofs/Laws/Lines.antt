@@ -86,13 +86,15 @@ abbrev pub Writing : (out : List ℕ) (at : ℕ) (left : List ℕ) (out₀ : Lis
 Writing out at left out₀ at₀ whole = (sets out at left ≡ sets out₀ at₀ whole) × (reached at (length left) (length out) ≡ reached at₀ (length whole) (length out₀))
 
 -- a piece of it is put
-pub writing-on : (out : List ℕ) (at : ℕ) (left out₀ : List ℕ) (at₀ : ℕ) (whole a b m : List ℕ) (j : ℕ) → Writing out at left out₀ at₀ whole → left ≡ a ++ b → Puts out at a m j → Writing m j b out₀ at₀ whole
+pub writing-on : (out : List ℕ) (at : ℕ) (left out₀ : List ℕ) (at₀ : ℕ) (whole a b m : List ℕ) (j : ℕ)
+    → Writing out at left out₀ at₀ whole → left ≡ a ++ b → Puts out at a m j → Writing m j b out₀ at₀ whole
 writing-on out at left out₀ at₀ whole a b m j w e p =
     let q = puts-then out at a b m (sets m j b) j (reached j (length b) (length m)) p (refl, refl) in
     (q .0 ∙ ap (sets out at) (sym e) ∙ w .0, q .1 ∙ ap (λ (l : List ℕ). reached at (length l) (length out)) (sym e) ∙ w .1)
 
 -- the last of it is put
-pub writing-ends : (out : List ℕ) (at : ℕ) (left out₀ : List ℕ) (at₀ : ℕ) (whole a m : List ℕ) (j : ℕ) → Writing out at left out₀ at₀ whole → left ≡ a → Puts out at a m j → Puts out₀ at₀ whole m j
+pub writing-ends : (out : List ℕ) (at : ℕ) (left out₀ : List ℕ) (at₀ : ℕ) (whole a m : List ℕ) (j : ℕ)
+    → Writing out at left out₀ at₀ whole → left ≡ a → Puts out at a m j → Puts out₀ at₀ whole m j
 writing-ends out at left out₀ at₀ whole a m j w e p =
     (p .0 ∙ ap (sets out at) (sym e) ∙ w .0, p .1 ∙ ap (λ (l : List ℕ). reached at (length l) (length out)) (sym e) ∙ w .1)
 

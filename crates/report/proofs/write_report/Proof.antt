@@ -28,26 +28,61 @@ Inv-loop stretch image₀ out₀ c₀ at₀ index₀ passed₀ image out c at in
 abbrev μ-loop : tie.MeasureT-loop
 μ-loop stretch image₀ out₀ c₀ at₀ index₀ passed₀ image out c at index passed = budget - index
 
--- at the loop: what is left of the stretch
-rest : (c : tie.At-loop Inv-loop μ-loop) → let s = c .before .before .before .before .before .before .before .before .before .before .args .stretch .now in take (length s - c .loop .passed) (drop (c .loop .passed) s) ≡ drop (c .loop .passed) s
-rest c = tail (c .before .before .before .before .before .before .before .before .before .before .args .stretch .now) (c .loop .passed)
+-- PLACES: from the loop's head back to the header's call, to the empty record and to the start; from a call of `take` back to the head;
+abbrev at-header : tie.At-loop Inv-loop μ-loop → tie.After-put Inv-loop μ-loop
+at-header c = c .before .before .before
+
+abbrev at-empty : tie.At-loop Inv-loop μ-loop → tie.After-empty Inv-loop μ-loop
+at-empty c = at-header c .before .before .before
+
+abbrev at-start : tie.At-loop Inv-loop μ-loop → tie.Start Inv-loop μ-loop
+at-start c = at-empty c .before .before .before .before
+
+abbrev at-head : tie.After-take Inv-loop μ-loop → tie.At-loop Inv-loop μ-loop
+at-head c = c .before .before .before
+
+-- from where it stopped or took a section back to that call, and from the ends of the two ways back to there
+abbrev stopped-take : tie.After-what Inv-loop μ-loop → tie.After-take Inv-loop μ-loop
+stopped-take c = c .before .before .before .before
+
+abbrev taken-take : tie.After-what2 Inv-loop μ-loop → tie.After-take Inv-loop μ-loop
+taken-take c = c .before .before .before .before
+
+abbrev at-stop : tie.After-slice-known5 Inv-loop μ-loop → tie.After-what Inv-loop μ-loop
+at-stop c = let put = c .before .before in put .before .before .before
+
+abbrev at-section : tie.After-slice-known6 Inv-loop μ-loop → tie.After-what2 Inv-loop μ-loop
+at-section c = let put = c .before .before in put .before .before .before
+
+-- the stretch, and what is left of it at the loop's head
+abbrev stretch-at : tie.At-loop Inv-loop μ-loop → List ℕ
+stretch-at c = at-start c .args .stretch .now
+
+abbrev left-at : tie.At-loop Inv-loop μ-loop → List ℕ
+left-at c = drop (c .loop .passed) (stretch-at c)
+
+rest : (c : tie.At-loop Inv-loop μ-loop) → take (length (stretch-at c) - c .loop .passed) (left-at c) ≡ left-at c
+rest c = tail (stretch-at c) (c .loop .passed)
 
 -- what `take` answers there, and the image after it
-took : (c : tie.After-take Inv-loop μ-loop) → let s = c .before .before .before .before .before .before .before .before .before .before .before .before .before .args .stretch .now in let l = c .before .before .before .loop in c .take .result ≡ tookOf (l .c) (drop (l .passed) s) (l .image) (budget - l .index)
-took c = let l = c .before .before .before .loop in c .take .ensures .0 ∙ ap (λ (x : List ℕ). tookOf (l .c) x (l .image) (budget - l .index)) (rest (c .before .before .before))
+took : (c : tie.After-take Inv-loop μ-loop) → let l = at-head c .loop in c .take .result ≡ tookOf (l .c) (left-at (at-head c)) (l .image) (budget - l .index)
+took c = let l = at-head c .loop in c .take .ensures .0 ∙ ap (λ (x : List ℕ). tookOf (l .c) x (l .image) (budget - l .index)) (rest (at-head c))
 
-left : (c : tie.After-take Inv-loop μ-loop) → let s = c .before .before .before .before .before .before .before .before .before .before .before .before .before .args .stretch .now in let l = c .before .before .before .loop in c .take .last .1 .1 .0 ≡ imageTook (l .c) (drop (l .passed) s) (l .image) (budget - l .index)
-left c = let l = c .before .before .before .loop in c .take .ensures .1 ∙ ap (λ (x : List ℕ). imageTook (l .c) x (l .image) (budget - l .index)) (rest (c .before .before .before))
+left : (c : tie.After-take Inv-loop μ-loop) → let l = at-head c .loop in c .take .last .1 .1 .0 ≡ imageTook (l .c) (left-at (at-head c)) (l .image) (budget - l .index)
+left c = let l = at-head c .loop in c .take .ensures .1 ∙ ap (λ (x : List ℕ). imageTook (l .c) x (l .image) (budget - l .index)) (rest (at-head c))
 
 -- it stopped
-stopped : (c : tie.After-what Inv-loop μ-loop) → let s = c .before .before .before .before .before .before .before .before .before .before .before .before .before .before .before .before .before .args .stretch .now in let l = c .before .before .before .before .before .before .before .loop in tookOf (l .c) (drop (l .passed) s) (l .image) (budget - l .index) .what ≡ what.Stopped (c .what .given .0 .0)
-stopped c = ap (λ (x : Took). x .what) (sym (took (c .before .before .before .before))) ∙ c .what .given .1
+stopped : (c : tie.After-what Inv-loop μ-loop) → let h = at-head (stopped-take c) in let l = h .loop in
+    tookOf (l .c) (left-at h) (l .image) (budget - l .index) .what ≡ what.Stopped (c .what .given .0 .0)
+stopped c = ap (λ (x : Took). x .what) (sym (took (stopped-take c))) ∙ c .what .given .1
 
 -- it took a section
-taken : (c : tie.After-what2 Inv-loop μ-loop) → let l = c .before .before .before .before .before .before .before .loop in Turned (c .before .before .before .before .before .before .before .before .before .before .before .before .before .before .before .before .before .args .stretch .now) (l .image) (l .c) (l .index) (l .passed) (c .what2 .given .0 .0) (c .before .before .before .before .take .result .state) (c .before .before .before .before .take .last .1 .1 .0)
+taken : (c : tie.After-what2 Inv-loop μ-loop) → let t = taken-take c in let l = at-head t .loop in
+    Turned (stretch-at (at-head t)) (l .image) (l .c) (l .index) (l .passed) (c .what2 .given .0 .0) (t .take .result .state) (t .take .last .1 .1 .0)
 taken c =
-    let l = c .before .before .before .before .before .before .before .loop in
-    turned (c .before .before .before .before .before .before .before .before .before .before .before .before .before .before .before .before .before .args .stretch .now) (l .image) (l .c) (l .index) (l .passed) (c .what2 .given .0 .0) _ _ (l .inv .4) (l .inv .0) (took (c .before .before .before .before)) (left (c .before .before .before .before)) (c .what2 .given .1)
+    let t = taken-take c in
+    let l = at-head t .loop in
+    turned (stretch-at (at-head t)) (l .image) (l .c) (l .index) (l .passed) (c .what2 .given .0 .0) _ _ (l .inv .4) (l .inv .0) (took t) (left t) (c .what2 .given .1)
 
 empty-requires : tie.Need-empty-requires Inv-loop μ-loop
 empty-requires c κs = search needs
@@ -60,7 +95,8 @@ put-requires c κs = search needs
 
 loop-holds : tie.Need-loop-holds Inv-loop μ-loop
 loop-holds c =
-    let ruled = ap ruledOf (c .before .before .before .before .before .empty .ensures) ∙ empty-ruled in
+    let put = c .before .before in
+    let ruled = ap ruledOf (put .before .before .before .empty .ensures) ∙ empty-ruled in
     (omega arith, omega arith, refl, refl, ruled, (refl, refl), refl)
 
 sub-take : tie.Need-sub-take Inv-loop μ-loop
@@ -92,15 +128,18 @@ same-length-2 c = search needs
 
 returns : tie.Need-returns Inv-loop μ-loop
 returns c =
-    let a = c .before .before .before .before .before .before .before .before .before .before .before .before .before .before .before .before .before .before .before .before .before .before .args in
-    let l = c .before .before .before .before .before .before .before .before .before .before .before .before .loop in
-    let empty = c .before .before .before .before .before .before .before .before .before .before .before .before .before .before .before .before .before .before .empty .ensures in
-    let p = text-ends (l .c) (drop (l .passed) (a .stretch .now)) (l .image) (l .inv .4) (budget - l .index) (l .index) _ (stopped (c .before .before .before .before .before)) in
-    let whole = textFrom budget 0 (c .before .before .before .before .before .before .before .before .before .before .before .before .before .before .before .before .before .before .empty .result) (a .stretch .now) (a .image .now) in
-    let w = writing-ends (l .out) (l .at) _ (c .before .before .before .before .before .before .before .before .before .before .before .before .before .before .before .put .last .0) (c .before .before .before .before .before .before .before .before .before .before .before .before .before .before .before .put .result) whole _ _ _ (l .inv .5) (p .0) (c .before .before .put-stop .ensures) in
-    let q = puts-then (a .out .now) 0 header whole _ _ _ _ (c .before .before .before .before .before .before .before .before .before .before .before .before .before .before .before .put .ensures) w in
-    let r = puts-same (a .out .now) 0 (header ++ whole) (printed (a .stretch .now) (a .image .now)) _ _ (printed-is _ (a .stretch .now) (a .image .now) empty) q in
-    (r .0, r .1, left (c .before .before .before .before .before .before .before .before .before) ∙ p .2 ∙ sym (p .1) ∙ l .inv .6 ∙ image-is _ (a .stretch .now) (a .image .now) empty)
+    let t = stopped-take (at-stop c) in
+    let h = at-head t in
+    let l = h .loop in
+    let a = at-start h .args in
+    let put = at-header h .put in
+    let empty = at-empty h .empty in
+    let p = text-ends (l .c) (left-at h) (l .image) (l .inv .4) (budget - l .index) (l .index) _ (stopped (at-stop c)) in
+    let whole = textFrom budget 0 (empty .result) (a .stretch .now) (a .image .now) in
+    let w = writing-ends (l .out) (l .at) _ (put .last .0) (put .result) whole _ _ _ (l .inv .5) (p .0) (c .before .before .put-stop .ensures) in
+    let q = puts-then (a .out .now) 0 header whole _ _ _ _ (put .ensures) w in
+    let r = puts-same (a .out .now) 0 (header ++ whole) (printed (a .stretch .now) (a .image .now)) _ _ (printed-is _ (a .stretch .now) (a .image .now) (empty .ensures)) q in
+    (r .0, r .1, left t ∙ p .2 ∙ sym (p .1) ∙ l .inv .6 ∙ image-is _ (a .stretch .now) (a .image .now) (empty .ensures))
 
 enum-known-what-2 : tie.Need-enum-known-what-2 Inv-loop μ-loop
 enum-known-what-2 c = search needs
@@ -109,29 +148,33 @@ put-line-requires : tie.Need-put-line-requires Inv-loop μ-loop
 put-line-requires c κs = search needs
 
 add-passed : tie.Need-add-passed Inv-loop μ-loop
-add-passed c = record { fits = lt-of-le-of-lt (taken (c .before .before .before .before .before) .1) (c .before .before .before .before .before .before .before .before .before .before .before .before .before .before .before .before .before .before .before .before .before .before .good .0 .0) }
+add-passed c = let t = taken-take (at-section c) in record { fits = lt-of-le-of-lt (taken (at-section c) .1) (at-start (at-head t) .good .0 .0) }
 
 add-index : tie.Need-add-index Inv-loop μ-loop
 add-index c = search needs
 
 loop-less : tie.Need-loop-less Inv-loop μ-loop
-loop-less c = let p = taken (c .before .before .before .before .before .before) in omega (arith, p .0)
+loop-less c = let p = taken (at-section (c .before)) in omega (arith, p .0)
 
 loop-again : tie.Need-loop-again Inv-loop μ-loop
 loop-again c =
-    let a = c .before .before .before .before .before .before .before .before .before .before .before .before .before .before .before .before .before .before .before .before .before .before .before .args in
-    let l = c .before .before .before .before .before .before .before .before .before .before .before .before .before .loop in
-    let x = c .before .before .before .before .before .before .what2 .given .0 .0 in
-    let put = c .before .before .before .before .before .before .before .before .before .before .before .before .before .before .before .before .put in
-    let whole = textFrom budget 0 (c .before .before .before .before .before .before .before .before .before .before .before .before .before .before .before .before .before .before .before .empty .result) (a .stretch .now) (a .image .now) in
-    let rest = textFrom (budget - (l .index + 1)) (l .index + 1) (c .before .before .before .before .before .before .before .before .before .before .take .result .state) (drop (l .passed + x .length) (a .stretch .now)) (c .before .before .before .before .before .before .before .before .before .before .take .last .1 .1 .0) in
-    let p = taken (c .before .before .before .before .before .before) in (
+    let section = at-section (c .before) in
+    let t = taken-take section in
+    let h = at-head t in
+    let l = h .loop in
+    let a = at-start h .args in
+    let put = at-header h .put in
+    let line = c .before .before .before .put-line in
+    let x = section .what2 .given .0 .0 in
+    let whole = textFrom budget 0 (at-empty h .empty .result) (a .stretch .now) (a .image .now) in
+    let rest = textFrom (budget - (l .index + 1)) (l .index + 1) (t .take .result .state) (drop (l .passed + x .length) (a .stretch .now)) (t .take .last .1 .1 .0) in
+    let p = taken section in (
       p .1,
       omega (arith, p .0),
-      c .before .before .before .before .before .before .before .before .before .before .take .kept .1 .1 .0 ∙ l .inv .2,
-      c .before .before .before .put-line .kept .0 ∙ l .inv .3,
+      t .take .kept .1 .1 .0 ∙ l .inv .2,
+      line .kept .0 ∙ l .inv .3,
       p .2,
-      writing-on (l .out) (l .at) _ (put .last .0) (put .result) whole (lineOf (l .index) (x .fate)) rest _ _ (l .inv .5) (p .3) (c .before .before .before .put-line .ensures),
+      writing-on (l .out) (l .at) _ (put .last .0) (put .result) whole (lineOf (l .index) (x .fate)) rest _ _ (l .inv .5) (p .3) (line .ensures),
       sym (p .4) ∙ l .inv .6,
     )
 

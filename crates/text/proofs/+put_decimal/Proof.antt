@@ -66,8 +66,9 @@ put-decimal-returns : (t : ℕ) → put-decimal-lts.Need-returns (
   put-decimal.Post,
 ) (put-decimal-at t) put-decimal.Post
 put-decimal-returns t c =
-    let a = c .before .before .before .before .before .before .args in
-    puts-same (a .out .now) (a .at) _ _ _ _ (sym (decimal-one (a .n) (omega arith))) (c .before .before .put-byte .ensures)
+    let put = c .before .before in
+    let a = put .before .before .before .before .args in
+    puts-same (a .out .now) (a .at) _ _ _ _ (sym (decimal-one (a .n) (omega arith))) (put .put-byte .ensures)
 
 put-decimal-put-decimal-requires : (t : ℕ) → put-decimal-lts.Need-put-decimal-requires (
   put-byte-reads.Asked,
@@ -116,9 +117,12 @@ put-decimal-returns-2 : (t : ℕ) → put-decimal-lts.Need-returns-2 (
   put-decimal.Post,
 ) (put-decimal-at t) put-decimal.Post
 put-decimal-returns-2 t c =
-    let a = c .before .before .before .before .before .before .before .before .before .before .args in
-    let p = puts-then (a .out .now) (a .at) (decimal (a .n / 10)) (digit (a .n % 10) ∷ []) _ _ _ _ (c .before .before .before .before .before .before .put-decimal .ensures) (c .before .before .put-byte2 .ensures) in
-    puts-same (a .out .now) (a .at) _ _ _ _ (sym (decimal-more (a .n) (c .before .before .before .before .before .before .before .before .before .before .good .1 .1 .0 .1) (omega arith))) p
+    let last = c .before .before in
+    let tenth = last .before .before .before .before in
+    let start = tenth .before .before .before .before in
+    let a = start .args in
+    let p = puts-then (a .out .now) (a .at) (decimal (a .n / 10)) (digit (a .n % 10) ∷ []) _ _ _ _ (tenth .put-decimal .ensures) (last .put-byte2 .ensures) in
+    puts-same (a .out .now) (a .at) _ _ _ _ (sym (decimal-more (a .n) (start .good .1 .1 .0 .1) (omega arith))) p
 
 pub +put-decimal-spec : {M : Type 1} → statement M
 +put-decimal-spec = close μ-put-decimal λ t. put-decimal-lts.spec (

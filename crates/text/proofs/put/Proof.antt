@@ -13,7 +13,8 @@ use Rattle.text.proofs.put.Tie as tie
 
 abbrev Inv-loop : tie.InvT-loop
 Inv-loop out₀ at piece end₀ i₀ out end i =
-    (length out ≡ length out₀) × (i ≤ length piece) × (sets out end (drop i piece) ≡ sets out₀ at piece) × (reached end (length piece - i) (length out) ≡ reached at (length piece) (length out₀))
+    (length out ≡ length out₀) × (i ≤ length piece)
+    × (sets out end (drop i piece) ≡ sets out₀ at piece) × (reached end (length piece - i) (length out) ≡ reached at (length piece) (length out₀))
 
 abbrev μ-loop : tie.MeasureT-loop
 μ-loop out₀ at piece end₀ i₀ out end i = length piece - i
@@ -38,10 +39,12 @@ loop-less c = search needs
 
 loop-again : tie.Need-loop-again Inv-loop μ-loop
 loop-again c =
-    let l = c .before .before .before .before .before .before .loop in
-    let p = c .before .before .before .before .before .before .before .before .before .args .piece .now in
-    let e = c .before .before .put-byte .ensures in
-    let room = c .before .before .put-byte .kept .0 in (
+    let put = c .before .before in
+    let head = put .before .before .before .before in
+    let l = head .loop in
+    let p = head .before .before .before .args .piece .now in
+    let e = put .put-byte .ensures in
+    let room = put .put-byte .kept .0 in (
       room ∙ l .inv .0,
       omega arith,
       ap₂ (λ (o : List ℕ) (k : ℕ). sets o k (drop (l .i + 1) p)) (e .0) (e .1) ∙ sets-next (l .out) p (l .end) (l .i) (omega arith) ∙ l .inv .2,
