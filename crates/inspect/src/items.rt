@@ -1,5 +1,5 @@
 // The items repeated within a descriptor.
-use crate::page::Buffer;
+use crate::Buffer;
 use crate::page::put_line;
 use crate::words::*;
 use ait_read::Described;

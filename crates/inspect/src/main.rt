@@ -8,7 +8,6 @@ mod record;
 mod table;
 mod words;
 
-use crate::page::Buffer;
 use crate::page::CLOSED;
 use crate::page::put_line;
 use crate::page::write_out;
@@ -19,6 +18,9 @@ use carousel_record::Carousel;
 use receiver::Fate;
 use receiver::Stop;
 use receiver::What;
+
+// What `io::large_buffer` gives.
+pub type Buffer = [u8; 65_536];
 
 // The sections that are taken at most.
 const BUDGET: usize = 65_536;

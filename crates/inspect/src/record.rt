@@ -1,5 +1,5 @@
 // The carousel record after the last section: its announcement, and each module.
-use crate::page::Buffer;
+use crate::Buffer;
 use crate::page::put_line;
 use crate::words::*;
 use carousel_handout::Lack;

@@ -1,10 +1,10 @@
 // An accepted table: its header, its common descriptors and its applications.
+use crate::Buffer;
 use crate::items::Holder;
 use crate::items::first_items;
 use crate::items::held_line;
 use crate::items::label_items;
 use crate::items::put_items;
-use crate::page::Buffer;
 use crate::page::put_line;
 use crate::words::*;
 use ait_read::Application;

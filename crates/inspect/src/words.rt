@@ -1,5 +1,5 @@
 // Lines as values: they are made apart from the page, and `put_line` alone puts them.
-use crate::page::Buffer;
+use crate::Buffer;
 
 // A line's fields, its name the first; no line where that is `NIL`. A field is a number or, from `WORD`
 // on, a word: the one with number `field - WORD` in `put_field`, with the comma before it if it has one.

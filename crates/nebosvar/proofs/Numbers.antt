@@ -137,11 +137,18 @@ apart : (w : What) → Some w → whatOut w .stop ≡ 0 → OneOfTwo (whatOut w 
 apart (what.Stopped x) u e = absurd (stop-some x e)
 apart (what.Taken x) some e = one-of-two (x .fate) some
 
-pub take-one-of-two : (c : Carousel) (s image : List ℕ) (budget : ℕ) → takeOut c s image budget .answer .stop ≡ 0 → OneOfTwo (takeOut c s image budget .answer .refusal) (takeOut c s image budget .answer .kind)
+pub take-one-of-two : (c : Carousel) (s image : List ℕ) (budget : ℕ) → takeOut c s image budget .answer .stop ≡ 0
+    → OneOfTwo (takeOut c s image budget .answer .refusal) (takeOut c s image budget .answer .kind)
 unfolding takeOut tookOf
 take-one-of-two c s image budget = apart (tookOf c s image budget .what) (go (ruledOf c) (eqb (wholeAt s) 0 || eqb budget 0))
   where
-    go : (t u : Bool) → Some (cond t (cond u (stoppedBy c (stopAt s)) (record { what = what.Taken (record { length = wholeAt s; fate = givenOf c (take (wholeAt s) s) image .fate }); state = givenOf c (take (wholeAt s) s) image .state })) (stoppedBy c stop.State) .what)
+    go : (t u : Bool) → Some
+        (cond t (cond u (stoppedBy c (stopAt s))
+        (record {
+          what = what.Taken (record { length = wholeAt s; fate = givenOf c (take (wholeAt s) s) image .fate });
+          state = givenOf c
+              (take (wholeAt s) s) image .state;
+        })) (stoppedBy c stop.State) .what)
     go false u = tt
     go true true = tt
     go true false = take-some c (take (wholeAt s) s) image

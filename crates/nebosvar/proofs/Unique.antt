@@ -51,13 +51,18 @@ nebosvar-label κs a x y s t p q = p ∙ sym q
 
 -- The entries behind a pointer. Their proofs are walks by hand, for which the prover has no reading of the kind above; these are over the equations of their contracts.
 module _ (c : Carousel) (s image : List ℕ) (d d′ : Carousel) (l l′ : List ℕ) where
-  pub nebosvar-step : (r r′ : FateOut) → (r ≡ stepOut c s image .answer) × (d ≡ stepOut c s image .state) × (l ≡ imageOf c s image) → (r′ ≡ stepOut c s image .answer) × (d′ ≡ stepOut c s image .state) × (l′ ≡ imageOf c s image) → (r ≡ r′) × (d ≡ d′) × (l ≡ l′)
+  pub nebosvar-step : (r r′ : FateOut) → (r ≡ stepOut c s image .answer) × (d ≡ stepOut c s image .state) × (l ≡ imageOf c s image)
+      → (r′ ≡ stepOut c s image .answer) × (d′ ≡ stepOut c s image .state) × (l′ ≡ imageOf c s image) → (r ≡ r′) × (d ≡ d′) × (l ≡ l′)
   nebosvar-step r r′ p q = (p .0 ∙ sym (q .0), p .1 ∙ sym (q .1), p .2 ∙ sym (q .2))
 
-  pub nebosvar-take : (budget : ℕ) (r r′ : TakenOut) → (r ≡ takeOut c s image budget .answer) × (d ≡ takeOut c s image budget .state) × (l ≡ imageTook c s image budget) → (r′ ≡ takeOut c s image budget .answer) × (d′ ≡ takeOut c s image budget .state) × (l′ ≡ imageTook c s image budget) → (r ≡ r′) × (d ≡ d′) × (l ≡ l′)
+  pub nebosvar-take : (budget : ℕ) (r r′ : TakenOut) → (r ≡ takeOut c s image budget .answer) × (d ≡ takeOut c s image budget .state)
+      × (l ≡ imageTook c s image budget) → (r′ ≡ takeOut c s image budget .answer) × (d′ ≡ takeOut c s image budget .state)
+      × (l′ ≡ imageTook c s image budget) → (r ≡ r′) × (d ≡ d′) × (l ≡ l′)
   nebosvar-take budget r r′ p q = (p .0 ∙ sym (q .0), p .1 ∙ sym (q .1), p .2 ∙ sym (q .2))
 
-  pub nebosvar-run : (budget : ℕ) (r r′ : PassageOut) → (r ≡ runOut c s image budget .answer) × (d ≡ runOut c s image budget .state) × (l ≡ imageRan c s image budget) → (r′ ≡ runOut c s image budget .answer) × (d′ ≡ runOut c s image budget .state) × (l′ ≡ imageRan c s image budget) → (r ≡ r′) × (d ≡ d′) × (l ≡ l′)
+  pub nebosvar-run : (budget : ℕ) (r r′ : PassageOut) → (r ≡ runOut c s image budget .answer) × (d ≡ runOut c s image budget .state)
+      × (l ≡ imageRan c s image budget) → (r′ ≡ runOut c s image budget .answer) × (d′ ≡ runOut c s image budget .state)
+      × (l′ ≡ imageRan c s image budget) → (r ≡ r′) × (d ≡ d′) × (l ≡ l′)
   nebosvar-run budget r r′ p q = (p .0 ∙ sym (q .0), p .1 ∙ sym (q .1), p .2 ∙ sym (q .2))
 
 pub nebosvar-handout : (c : Carousel) (image : List ℕ) (number : ℕ) (r r′ : PartOut) → r ≡ partOut c image number → r′ ≡ partOut c image number → r ≡ r′

@@ -4,6 +4,13 @@ use borrow.Author.Needs.{needs}
 use Rattle.nebosvar.proofs.step.Statement.{statement}
 use Rattle.nebosvar.proofs.step.Tie as tie
 
+-- the places that stand before a place, by name
+abbrev after-step-of-after-image : tie.After-image → tie.After-step
+after-step-of-after-image c = c .before
+
+abbrev after-step-of-after-fate-out : tie.After-fate-out → tie.After-step
+after-step-of-after-fate-out c = after-step-of-after-image (c .before .before .before .before)
+
 step-requires : tie.Need-step-requires
 step-requires c κs = search needs
 
@@ -18,7 +25,9 @@ same-length c = search needs
 
 returns : tie.Need-returns
 unfolding stepOut
-returns c = (rw (c .fate-out .ensures, c .before .carousel-fate .ensures, c .before .before .before .before .before .step .ensures .0), c .before .before .before .before .before .step .ensures .1)
+returns c =
+    let e = after-step-of-after-fate-out c in
+    (rw (c .fate-out .ensures, c .before .carousel-fate .ensures, e .step .ensures .0), e .step .ensures .1)
 
 pub step-spec : {M : Type 1} → statement M
 step-spec =
