@@ -16,8 +16,8 @@ use Rattle.section.specs.Header.{headerOf, bodyOf}
 use Rattle.section.specs.Refusals.{sectionTests, refusalOf, GoodSection}
 use Rattle.section.specs.Answer.{refused}
 use Rattle.section.proofs.Laws.Exact as section
-use Rattle.carousel_messages.specs.declared.Table.{Table}
-use Rattle.carousel_messages.specs.declared.Table.the-variants.{Announcements, Blocks}
+use Rattle.carousel_messages.specs.declared.CarouselTable.{CarouselTable}
+use Rattle.carousel_messages.specs.declared.CarouselTable.the-variants.{Announcements, Blocks}
 use Rattle.carousel_messages.specs.declared.Announcement.{Announcement}
 use Rattle.carousel_messages.specs.declared.Block.{Block}
 use Rattle.carousel_messages.specs.declared.Judged.the-variants as judged
@@ -27,16 +27,16 @@ use Rattle.carousel_messages.specs.Judged.{announcementOf, blockOf, read
 use Rattle.carousel_messages.proofs.Laws.Refusals.{judged-good, judged-refused, judged-message}
 
 -- no number in the table is 0
-numbered : (t : Table) (h : Header) (b : List ℕ) → Numbered (messageTests t h b)
+numbered : (t : CarouselTable) (h : Header) (b : List ℕ) → Numbered (messageTests t h b)
 numbered Announcements h b = (λ e. omega arith, (λ e. omega arith, (λ e. omega arith, (λ e. omega arith, (λ e. omega arith, tt)))))
 numbered Blocks h b = (λ e. omega arith, (λ e. omega arith, (λ e. omega arith, (λ e. omega arith, tt))))
 
 -- THE MESSAGE
 -- what comes before the payload's own tests holds nothing against it
-abbrev pub Passed : Table → List ℕ → Type 0
+abbrev pub Passed : CarouselTable → List ℕ → Type 0
 Passed t b = (short7 b ≡ false) × (meets8 t b ≡ false) × (messageMeets7 t b ≡ false)
 
-module _ (t : Table) (h : Header) (b : List ℕ) where
+module _ (t : CarouselTable) (h : Header) (b : List ℕ) where
   -- n EXACTLY WHERE THE FIRST TEST THAT HOLDS IS OF n, 0 EXACTLY WHERE NONE HOLDS
   pub message-exactly : (n : ℕ) → 0 < n → (messageRefusal t h b ≡ n) ↔ First n (messageTests t h b)
   unfolding messageRefusal
@@ -47,7 +47,7 @@ module _ (t : Table) (h : Header) (b : List ℕ) where
   message-taken = none-exactly (messageTests t h b) (numbered t h b)
 
   -- the payload's own tests are of 9 and above
-  own : (u : Table) (n : ℕ) → n < 9 → First n (payloadTests u h (payloadOf b)) → ⊥
+  own : (u : CarouselTable) (n : ℕ) → n < 9 → First n (payloadTests u h (payloadOf b)) → ⊥
   own Announcements n l (inl w) = let e = w .1 in omega arith
   own Announcements n l (inr (f, inl w)) = let e = w .1 in omega arith
   own Announcements n l (inr (f, inr (g, w))) = w
@@ -130,7 +130,7 @@ module _ (h : Header) (b : List ℕ) where
 
 -- THE SECTION
 -- what is read is no refusal
-read-number : (t : Table) (b : List ℕ) → numberOfJudged (readOf t b) ≡ 0
+read-number : (t : CarouselTable) (b : List ℕ) → numberOfJudged (readOf t b) ≡ 0
 unfolding readOf
 read-number Announcements b = refl
 read-number Blocks b = refl
@@ -195,7 +195,7 @@ module _ (s : List ℕ) where
   unfolding readOf
   announced-exactly a = (there, back)
     where
-      read : (t : Table) → readOf t (bodyOf s) ≡ judged.Announced a → (t ≡ Announcements) × (announcementOf (bodyOf s) ≡ a)
+      read : (t : CarouselTable) → readOf t (bodyOf s) ≡ judged.Announced a → (t ≡ Announcements) × (announcementOf (bodyOf s) ≡ a)
       read Announcements e = (refl, cc)
       read Blocks e = let z : _≡_ {A = ℕ} 0 1 = cc in absurd (omega arith)
 
@@ -206,13 +206,13 @@ module _ (s : List ℕ) where
           (z, q .0, q .1)
 
       back : (numberOfJudged (judgedOf s) ≡ 0) × ((carouselTableIn s) ≡ Announcements) × (announcementOf (bodyOf s) ≡ a) → judgedOf s ≡ judged.Announced a
-      back w = taken-exactly .0 (w .0) ∙ ap (λ (t : Table). readOf t (bodyOf s)) (w .1) ∙ ap judged.Announced (w .2)
+      back w = taken-exactly .0 (w .0) ∙ ap (λ (t : CarouselTable). readOf t (bodyOf s)) (w .1) ∙ ap judged.Announced (w .2)
 
   pub carried-exactly : (b : Block) → (judgedOf s ≡ judged.Carried b) ↔ ((numberOfJudged (judgedOf s) ≡ 0) × ((carouselTableIn s) ≡ Blocks) × (blockOf (bodyOf s) ≡ b))
   unfolding readOf
   carried-exactly b = (there, back)
     where
-      read : (t : Table) → readOf t (bodyOf s) ≡ judged.Carried b → (t ≡ Blocks) × (blockOf (bodyOf s) ≡ b)
+      read : (t : CarouselTable) → readOf t (bodyOf s) ≡ judged.Carried b → (t ≡ Blocks) × (blockOf (bodyOf s) ≡ b)
       read Announcements e = let z : _≡_ {A = ℕ} 0 1 = cc in absurd (omega arith)
       read Blocks e = (refl, cc)
 
@@ -223,4 +223,4 @@ module _ (s : List ℕ) where
           (z, q .0, q .1)
 
       back : (numberOfJudged (judgedOf s) ≡ 0) × ((carouselTableIn s) ≡ Blocks) × (blockOf (bodyOf s) ≡ b) → judgedOf s ≡ judged.Carried b
-      back w = taken-exactly .0 (w .0) ∙ ap (λ (t : Table). readOf t (bodyOf s)) (w .1) ∙ ap judged.Carried (w .2)
+      back w = taken-exactly .0 (w .0) ∙ ap (λ (t : CarouselTable). readOf t (bodyOf s)) (w .1) ∙ ap judged.Carried (w .2)

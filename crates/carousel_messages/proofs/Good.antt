@@ -15,8 +15,8 @@ use Rattle.section.specs.declared.Header.{Header}
 use Rattle.section.specs.declared.Rules.the-variants.{Carousel}
 use Rattle.section.specs.Header.{announcementTable, blockTable, headerOf, bodyOf}
 use Rattle.section.specs.Refusals.{GoodSection}
-use Rattle.carousel_messages.specs.declared.Table.{Table}
-use Rattle.carousel_messages.specs.declared.Table.the-variants.{Announcements, Blocks}
+use Rattle.carousel_messages.specs.declared.CarouselTable.{CarouselTable}
+use Rattle.carousel_messages.specs.declared.CarouselTable.the-variants.{Announcements, Blocks}
 use Rattle.carousel_messages.specs.declared.Judged.{Judged}
 use Rattle.carousel_messages.specs.declared.Judged.the-variants as judged
 use Rattle.carousel_messages.specs.Message.{messageOf, messageIdentifierOf, adaptationOf, messageLengthOf, payloadOf, wantedOf}
@@ -32,7 +32,7 @@ use Rattle.carousel_messages.specs.Good.{saidAnnouncement, saidBlock, Go
 use Rattle.carousel_messages.proofs.Exact.{good-exactly, announced-exactly, carried-exactly}
 
 -- the message
-module _ (t : Table) (b : List ℕ) where
+module _ (t : CarouselTable) (b : List ℕ) where
   message-there : short7 b ≡ false → meets8 t b ≡ false → messageFramed b ≡ true → GoodMessage t b
   unfolding short7 meets8 messageFramed
   message-there e f g =
@@ -162,7 +162,7 @@ module _ (h : Header) (p : List ℕ) where
   nine-back e f = rw (eq-eqb (h .extension) (blockModuleOf p) e, eq-eqb (h .section) (blockNumberOf p % 256) f)
 
 -- 7's other cases: the message and its payload are framed
-module _ (t : Table) (b : List ℕ) where
+module _ (t : CarouselTable) (b : List ℕ) where
   seven-there : messageMeets7 t b ≡ false → (messageFramed b ≡ true) × (payloadFramed t (payloadOf b) ≡ true)
   unfolding messageMeets7
   seven-there e = both _ _ (not-false _ e)
@@ -203,7 +203,7 @@ module _ (s : List ℕ) where
       there e =
           let w = announced-exactly s (announcementOf (bodyOf s)) .0 e in
           let g = good-exactly s .0 (w .0) in
-          let n = subst (λ (t : Table). None (messageTests t (headerOf s) (bodyOf s))) (w .1) (g .1) in
+          let n = subst (λ (t : CarouselTable). None (messageTests t (headerOf s) (bodyOf s))) (w .1) (g .1) in
           let f = seven-there Announcements (bodyOf s) (n .1 .1 .0) in
           record {
             section = g .0;
@@ -218,7 +218,7 @@ module _ (s : List ℕ) where
           let l = list-back (payloadOf (bodyOf s)) (g .list) in
           let t = is-announcements (g .table) in
           let n : None (messageTests Announcements (headerOf s) (bodyOf s)) = (m .0, (m .1, (seven-back Announcements (bodyOf s) (m .2) (l .0), (l .1, (l .2, tt))))) in
-          announced-exactly s (announcementOf (bodyOf s)) .1 (good-exactly s .1 (g .section, subst (λ (t : Table). None (messageTests t (headerOf s) (bodyOf s))) (sym t) n), t, refl)
+          announced-exactly s (announcementOf (bodyOf s)) .1 (good-exactly s .1 (g .section, subst (λ (t : CarouselTable). None (messageTests t (headerOf s) (bodyOf s))) (sym t) n), t, refl)
 
   -- A BLOCK IS TAKEN EXACTLY WHEN IT IS WELL FORMED
   pub block-good : (judgedOf s ≡ judged.Carried (blockOf (bodyOf s))) ↔ GoodBlock s
@@ -229,7 +229,7 @@ module _ (s : List ℕ) where
       there e =
           let w = carried-exactly s (blockOf (bodyOf s)) .0 e in
           let g = good-exactly s .0 (w .0) in
-          let n = subst (λ (t : Table). None (messageTests t (headerOf s) (bodyOf s))) (w .1) (g .1) in
+          let n = subst (λ (t : CarouselTable). None (messageTests t (headerOf s) (bodyOf s))) (w .1) (g .1) in
           let f = seven-there Blocks (bodyOf s) (n .1 .1 .0) in
           let k = nine-there (headerOf s) (payloadOf (bodyOf s)) (n .1 .1 .1 .0) in
           record {
@@ -247,7 +247,7 @@ module _ (s : List ℕ) where
           let t = is-blocks (g .table) in
           let f = seven-back Blocks (bodyOf s) (m .2) (le-leb 6 (length (payloadOf (bodyOf s))) (g .headed)) in
           let n : None (messageTests Blocks (headerOf s) (bodyOf s)) = (m .0, (m .1, (f, (nine-back (headerOf s) (payloadOf (bodyOf s)) (g .extension) (g .number), tt)))) in
-          carried-exactly s (blockOf (bodyOf s)) .1 (good-exactly s .1 (g .section, subst (λ (t : Table). None (messageTests t (headerOf s) (bodyOf s))) (sym t) n), t, refl)
+          carried-exactly s (blockOf (bodyOf s)) .1 (good-exactly s .1 (g .section, subst (λ (t : CarouselTable). None (messageTests t (headerOf s) (bodyOf s))) (sym t) n), t, refl)
 
   -- an announcement is heard, and a block, of nothing else
   heard-announced : (x : Announced) → heardOf s ≡ announced x → judgedOf s ≡ judged.Announced (announcementOf (bodyOf s))

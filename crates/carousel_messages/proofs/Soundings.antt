@@ -12,7 +12,7 @@ use Rattle.section.specs.Refusals.{meets2, meets3, meets4, meets5, meets6, refu
 use Rattle.section.specs.Answer.{checkedOf}
 use Rattle.carousel_messages.specs.declared.Judged.the-variants.{Announced, Carried}
 use Rattle.carousel_messages.specs.Judged.{announcementOf, blockOf, readOf, messageJudged, judgedOf}
-use Rattle.carousel_messages.specs.declared.Table.the-variants.{Announcements, Blocks}
+use Rattle.carousel_messages.specs.declared.CarouselTable.the-variants.{Announcements, Blocks}
 use Rattle.carousel_messages.specs.Contents.{announcementFramed}
 use Rattle.carousel_messages.specs.Limits.{someBad, total, beyond10, among, twice11}
 use Rattle.carousel_messages.specs.Refusals.{short7, meets8, messageFramed, payloadFramed, messageMeets7, meets9, meets10, meets11, messageRefusal}

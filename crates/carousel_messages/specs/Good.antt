@@ -7,8 +7,8 @@ use Rattle.wire.specs.Fields.{byteAt, sixteenAt}
 use Rattle.section.specs.declared.Rules.the-variants.{Carousel}
 use Rattle.section.specs.Header.{announcementTable, blockTable, headerOf, bodyOf}
 use Rattle.section.specs.Refusals.{GoodSection}
-use Rattle.carousel_messages.specs.declared.Table.{Table}
-use Rattle.carousel_messages.specs.declared.Table.the-variants.{Announcements, Blocks}
+use Rattle.carousel_messages.specs.declared.CarouselTable.{CarouselTable}
+use Rattle.carousel_messages.specs.declared.CarouselTable.the-variants.{Announcements, Blocks}
 use Rattle.carousel_messages.specs.Message.{messageOf, messageIdentifierOf, adaptationOf, messageLengthOf, payloadOf, wantedOf}
 use Rattle.carousel_messages.specs.Contents.{downloadOf, blockSizeOf, modulesStart, modulesEnd, modulesOf, moduleNumberOf, moduleSizeOf}
 use Rattle.carousel_messages.specs.Contents.{blockModuleOf, blockVersionOf, blockNumberOf, blockDataOf}
@@ -17,7 +17,7 @@ use Rattle.carousel_messages.specs.Limits.{largestBlock, mostModules, mo
 
 -- The message in a body b: "0x11, 0x03, message number 16, identifier 32, one byte unread, adaptation length 8, message length 16. Message length counts all that follows
 -- up to the CRC, adaptation bytes first."
-pub record GoodMessage (t : Table) (b : List ℕ) : Type 0 where
+pub record GoodMessage (t : CarouselTable) (b : List ℕ) : Type 0 where
   pub headed : 12 ≤ length b
   pub first : byteAt b 0 ≡ 0x11
   pub second : byteAt b 1 ≡ 0x03

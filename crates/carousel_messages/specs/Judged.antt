@@ -10,8 +10,8 @@ use Rattle.section.specs.declared.Header.{Header}
 use Rattle.section.specs.Header.{announcementTable, headerOf, bodyOf}
 use Rattle.section.specs.Refusals.{sectionTests}
 use Rattle.section.specs.Answer.{refused, checkedOf, onChecked}
-use Rattle.carousel_messages.specs.declared.Table.{Table}
-use Rattle.carousel_messages.specs.declared.Table.the-variants.{Announcements, Blocks}
+use Rattle.carousel_messages.specs.declared.CarouselTable.{CarouselTable}
+use Rattle.carousel_messages.specs.declared.CarouselTable.the-variants.{Announcements, Blocks}
 use Rattle.carousel_messages.specs.declared.Announcement.{Announcement}
 use Rattle.carousel_messages.specs.declared.Block.{Block}
 use Rattle.carousel_messages.specs.declared.Judged.{Judged}
@@ -21,7 +21,7 @@ use Rattle.carousel_messages.specs.Contents.{downloadOf, blockSizeOf, mo
 use Rattle.carousel_messages.specs.Refusals.{messageTests, messageRefusal}
 
 -- "DSM-CC sections 0x3B and 0x3C become an announcement (DII) and blocks (DDB)"
-abbrev pub carouselTableOf : ℕ → Table
+abbrev pub carouselTableOf : ℕ → CarouselTable
 carouselTableOf t = cond (eqb t announcementTable) Announcements Blocks
 
 -- where the payload begins in the section: 8 bytes of header, 12 of the message's, and the adaptation bytes
@@ -51,11 +51,11 @@ blockOf b =
       size = length (payloadOf b) - 6;
     }
 
-unfoldable pub readOf : Table → List ℕ → Judged
+unfoldable pub readOf : CarouselTable → List ℕ → Judged
 readOf Announcements b = judged.Announced (announcementOf b)
 readOf Blocks b = judged.Carried (blockOf b)
 
-unfoldable pub messageJudged : Table → Header → List ℕ → Judged
+unfoldable pub messageJudged : CarouselTable → Header → List ℕ → Judged
 messageJudged t h b = cond (eqb (messageRefusal t h b) 0) (readOf t b) (judged.Refused (refused (messageRefusal t h b)))
 
 -- the section check's refusal as it came; else the message's; else what the message says
@@ -69,7 +69,7 @@ numberOfJudged (judged.Announced a) = 0
 numberOfJudged (judged.Carried b) = 0
 
 -- The paper's table for a carousel section, in its order: 2 to 6 of the section, then those of its message, with the exception.
-abbrev pub carouselTableIn : List ℕ → Table
+abbrev pub carouselTableIn : List ℕ → CarouselTable
 carouselTableIn s = carouselTableOf (headerOf s .table)
 
 abbrev pub carouselTests : List ℕ → Tests

@@ -4,8 +4,8 @@ use Prim.Native.Nat.{ℕ, _+_}
 use mathlib.Core.List.{List}
 use lib.ListN.{drop}
 use Rattle.wire.specs.Fields.{byteAt, sixteenAt, thirtyTwoAt}
-use Rattle.carousel_messages.specs.declared.Table.{Table}
-use Rattle.carousel_messages.specs.declared.Table.the-variants.{Announcements, Blocks}
+use Rattle.carousel_messages.specs.declared.CarouselTable.{CarouselTable}
+use Rattle.carousel_messages.specs.declared.CarouselTable.the-variants.{Announcements, Blocks}
 
 -- "At byte 8: 0x11, 0x03, message number 16, identifier 32, one byte unread, adaptation length 8, message length 16."
 abbrev pub messageOf : List ℕ → ℕ
@@ -25,6 +25,6 @@ abbrev pub payloadOf : List ℕ → List ℕ
 payloadOf b = drop (12 + adaptationOf b) b
 
 -- "0x3B takes message 0x1002, 0x3C takes 0x1003"
-abbrev pub wantedOf : Table → ℕ
+abbrev pub wantedOf : CarouselTable → ℕ
 wantedOf Announcements = 0x1002
 wantedOf Blocks = 0x1003

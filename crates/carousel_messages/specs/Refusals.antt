@@ -7,8 +7,8 @@ use lib.ListN.{length}
 use Rattle.wire.specs.Fields.{byteAt}
 use Rattle.wire.specs.Tests.{Tests, firstMet}
 use Rattle.section.specs.declared.Header.{Header}
-use Rattle.carousel_messages.specs.declared.Table.{Table}
-use Rattle.carousel_messages.specs.declared.Table.the-variants.{Announcements, Blocks}
+use Rattle.carousel_messages.specs.declared.CarouselTable.{CarouselTable}
+use Rattle.carousel_messages.specs.declared.CarouselTable.the-variants.{Announcements, Blocks}
 use Rattle.carousel_messages.specs.Message.{messageOf, adaptationOf, messageLengthOf, payloadOf, wantedOf}
 use Rattle.carousel_messages.specs.Contents.{blockSizeOf, announcementFramed, modulesOf, moduleNumberOf, moduleSizeOf, blockFramed, blockModuleOf, blockNumberOf}
 use Rattle.carousel_messages.specs.Limits.{beyond10, twice11}
@@ -18,19 +18,19 @@ unfoldable pub short7 : List ℕ → Bool
 short7 b = ltb (length b) 12
 
 -- 8: "first two message bytes or message number not as above"
-unfoldable pub meets8 : Table → List ℕ → Bool
+unfoldable pub meets8 : CarouselTable → List ℕ → Bool
 meets8 t b = not (eqb (byteAt b 0) 0x11) || not (eqb (byteAt b 1) 0x03) || not (eqb (messageOf b) (wantedOf t))
 
 -- message and adaptation lengths fit: the message ends at the CRC, and the adaptation bytes are within it
 unfoldable pub messageFramed : List ℕ → Bool
 messageFramed b = eqb (12 + messageLengthOf b) (length b) && leb (adaptationOf b) (messageLengthOf b)
 
-unfoldable pub payloadFramed : Table → List ℕ → Bool
+unfoldable pub payloadFramed : CarouselTable → List ℕ → Bool
 payloadFramed Announcements p = announcementFramed p
 payloadFramed Blocks p = blockFramed p
 
 -- 7: "a length or fixed field inside does not fit, bytes are left over"
-unfoldable pub messageMeets7 : Table → List ℕ → Bool
+unfoldable pub messageMeets7 : CarouselTable → List ℕ → Bool
 messageMeets7 t b = not (messageFramed b && payloadFramed t (payloadOf b))
 
 -- 9: "DDB: extension is not the module number, or section number is not block number mod 256"
@@ -44,17 +44,17 @@ meets10 p = beyond10 (blockSizeOf p) (map moduleSizeOf (modulesOf p))
 unfoldable pub meets11 : List ℕ → Bool
 meets11 p = twice11 (map moduleNumberOf (modulesOf p))
 
-abbrev pub payloadTests : Table → Header → List ℕ → Tests
+abbrev pub payloadTests : CarouselTable → Header → List ℕ → Tests
 payloadTests Announcements h p = (10, meets10 p) ∷ (11, meets11 p) ∷ []
 payloadTests Blocks h p = (9, meets9 h p) ∷ []
 
 -- the payload's own part of the order
-unfoldable pub payloadRefusal : Table → Header → List ℕ → ℕ
+unfoldable pub payloadRefusal : CarouselTable → Header → List ℕ → ℕ
 payloadRefusal t h p = firstMet ((7, not (payloadFramed t p)) ∷ payloadTests t h p)
 
 -- "Exception: a body under 12 bytes in a message is 7; then 8; then the other cases of 7."
-abbrev pub messageTests : Table → Header → List ℕ → Tests
+abbrev pub messageTests : CarouselTable → Header → List ℕ → Tests
 messageTests t h b = (7, short7 b) ∷ (8, meets8 t b) ∷ (7, messageMeets7 t b) ∷ payloadTests t h (payloadOf b)
 
-unfoldable pub messageRefusal : Table → Header → List ℕ → ℕ
+unfoldable pub messageRefusal : CarouselTable → Header → List ℕ → ℕ
 messageRefusal t h b = firstMet (messageTests t h b)

@@ -30,7 +30,7 @@ ghost use Rattle.carousel_messages.specs.Judged.{judgedOf, numberOfJudge
 ghost use Rattle.carousel_messages.specs.Heard.{noneListed, listedAt};
 
 // Which of the carousel's two tables.
-pub enum Table {
+pub enum CarouselTable {
     Announcements,
     Blocks,
 }

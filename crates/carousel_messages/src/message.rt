@@ -1,8 +1,8 @@
 // The message in a section's body.
 use crate::Announcement;
 use crate::Block;
+use crate::CarouselTable;
 use crate::Judged;
-use crate::Table;
 use crate::modules::announcement_refusal;
 use crate::modules::module_count;
 use crate::modules::modules_end;
@@ -16,7 +16,7 @@ use wire::thirty_two_at;
 ghost use mathlib.Core.Path.{_≡_};
 ghost use Prim.Native.Nat.{_-_};
 ghost use mathlib.Core.Bool.{not};
-ghost use Rattle.carousel_messages.specs.declared.Table.the-variants.{Blocks};
+ghost use Rattle.carousel_messages.specs.declared.CarouselTable.the-variants.{Blocks};
 ghost use Rattle.carousel_messages.specs.Message.{wantedOf, payloadOf};
 ghost use Rattle.carousel_messages.specs.Refusals.{meets8, messageFramed, payloadRefusal, messageRefusal};
 ghost use Rattle.carousel_messages.specs.Judged.{carouselTableOf, announcementOf, blockOf, messageJudged};
@@ -30,22 +30,22 @@ pub fn judge_message(b: &[u8], h: Header) -> Judged
         return Judged::Refused(Refusal { number: number });
     }
     match table {
-        Table::Announcements => Judged::Announced(announcement_of(b)),
-        Table::Blocks => Judged::Carried(block_of(b)),
+        CarouselTable::Announcements => Judged::Announced(announcement_of(b)),
+        CarouselTable::Blocks => Judged::Carried(block_of(b)),
     }
 }
 
-fn table_of(table: u8) -> Table
+fn table_of(table: u8) -> CarouselTable
     ensures { λ r. ⌜ r ≡ carouselTableOf table ⌝ }
 {
     if table == section::ANNOUNCEMENT_TABLE {
-        return Table::Announcements;
+        return CarouselTable::Announcements;
     }
-    Table::Blocks
+    CarouselTable::Blocks
 }
 
 // The paper's order: a short body is 7; then 8; then the other cases of 7; then those of the payload.
-fn message_refusal(b: &[u8], table: Table, h: Header) -> u8
+fn message_refusal(b: &[u8], table: CarouselTable, h: Header) -> u8
     ensures { λ r. ⌜ r ≡ messageRefusal table h (now (b .entry)) ⌝ }
 {
     if b.len() < 12 {
@@ -61,7 +61,7 @@ fn message_refusal(b: &[u8], table: Table, h: Header) -> u8
     payload_refusal(p, table, h)
 }
 
-fn is_message(b: &[u8], table: Table) -> bool
+fn is_message(b: &[u8], table: CarouselTable) -> bool
     ensures { λ r. ⌜ not r ≡ meets8 table (now (b .entry)) ⌝ }
 {
     if byte_at(b, 0) != 0x11 {
@@ -73,12 +73,12 @@ fn is_message(b: &[u8], table: Table) -> bool
     sixteen_at(b, 2) == wanted_of(table)
 }
 
-fn wanted_of(table: Table) -> u16
+fn wanted_of(table: CarouselTable) -> u16
     ensures { λ r. ⌜ r ≡ wantedOf table ⌝ }
 {
     match table {
-        Table::Announcements => 0x1002,
-        Table::Blocks => 0x1003,
+        CarouselTable::Announcements => 0x1002,
+        CarouselTable::Blocks => 0x1003,
     }
 }
 
@@ -93,12 +93,12 @@ fn is_framed(b: &[u8]) -> bool
     eight_at(b, 9) <= n
 }
 
-fn payload_refusal(p: &[u8], table: Table, h: Header) -> u8
+fn payload_refusal(p: &[u8], table: CarouselTable, h: Header) -> u8
     ensures { λ r. ⌜ r ≡ payloadRefusal table h (now (p .entry)) ⌝ }
 {
     match table {
-        Table::Announcements => announcement_refusal(p, h),
-        Table::Blocks => block_refusal(p, h),
+        CarouselTable::Announcements => announcement_refusal(p, h),
+        CarouselTable::Blocks => block_refusal(p, h),
     }
 }
 

@@ -12,7 +12,7 @@ ghost use Prim.Native.Nat.{_+_, _≤_, _<_};
 ghost use lib.Dec.{eqb};
 ghost use lib.ListN.{length, take};
 ghost use Rattle.wire.specs.Fields.{sixteenAt};
-ghost use Rattle.carousel_messages.specs.declared.Table.the-variants.{Announcements};
+ghost use Rattle.carousel_messages.specs.declared.CarouselTable.the-variants.{Announcements};
 ghost use Rattle.carousel_messages.specs.Contents.{announcementFramed, moduleCountOf, modulesStart, modulesEnd};
 ghost use Rattle.carousel_messages.specs.Limits.{mostModules};
 ghost use Rattle.carousel_messages.specs.Refusals.{payloadRefusal};

@@ -18,8 +18,8 @@ use Rattle.section.specs.Refusals.{sectionTests}
 use Rattle.section.specs.Answer.{refused}
 use Rattle.section.proofs.Laws.Exact as section
 use Rattle.carousel_messages.specs.declared.Listed.{Listed}
-use Rattle.carousel_messages.specs.declared.Table.{Table}
-use Rattle.carousel_messages.specs.declared.Table.the-variants.{Announcements, Blocks}
+use Rattle.carousel_messages.specs.declared.CarouselTable.{CarouselTable}
+use Rattle.carousel_messages.specs.declared.CarouselTable.the-variants.{Announcements, Blocks}
 use Rattle.carousel_messages.specs.declared.Judged.{Judged}
 use Rattle.carousel_messages.specs.declared.Judged.the-variants as judged
 use Rattle.carousel_messages.specs.Refusals.{messageTests}
@@ -62,7 +62,7 @@ section-numbered s =
     numbered-both (messageTests (carouselTableIn s) (headerOf s) (bodyOf s)) (sectionTests rules.Carousel s) (rising-numbered 0 (sectionTests rules.Carousel s) (section.rising rules.Carousel s))
     (go (carouselTableIn s))
   where
-    go : (t : Table) → Numbered (messageTests t (headerOf s) (bodyOf s))
+    go : (t : CarouselTable) → Numbered (messageTests t (headerOf s) (bodyOf s))
     go Announcements = (λ e. omega arith, (λ e. omega arith, (λ e. omega arith, (λ e. omega arith, (λ e. omega arith, tt)))))
     go Blocks = (λ e. omega arith, (λ e. omega arith, (λ e. omega arith, (λ e. omega arith, tt))))
 
@@ -85,7 +85,7 @@ section-none s e = none-exactly (carouselTests s) (section-numbered s) .0 (go (f
     go (suc n) f = let g = refused-exactly s (suc n) (omega arith) .1 (first-exactly (carouselTests s) (suc n) (omega arith) .0 f) in absurd (omega arith)
 
 -- and what is, is refused by a number
-read-other : (t : Table) (b : List ℕ) (n : Refusal) → readOf t b ≡ judged.Refused n → ⊥
+read-other : (t : CarouselTable) (b : List ℕ) (n : Refusal) → readOf t b ≡ judged.Refused n → ⊥
 unfolding readOf
 read-other Announcements b n e = let z : _≡_ {A = ℕ} 0 1 = cc in omega arith
 read-other Blocks b n e = let z : _≡_ {A = ℕ} 0 1 = cc in omega arith

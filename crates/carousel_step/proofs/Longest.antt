@@ -17,7 +17,7 @@ use Rattle.section.proofs.Laws.Crc.{own-crc}
 use Rattle.carousel_messages.specs.declared.Block.{Block}
 use Rattle.carousel_messages.specs.declared.Judged.{Judged}
 use Rattle.carousel_messages.specs.declared.Judged.the-variants as judged
-use Rattle.carousel_messages.specs.declared.Table.the-variants.{Blocks}
+use Rattle.carousel_messages.specs.declared.CarouselTable.the-variants.{Blocks}
 use Rattle.carousel_messages.specs.Message.{adaptationOf, payloadOf}
 use Rattle.carousel_messages.specs.Contents.{blockDataOf}
 use Rattle.carousel_messages.specs.Refusals.{short7, meets8, messageFramed, payloadFramed, messageMeets7, meets9, messageTests}

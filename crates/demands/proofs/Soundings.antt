@@ -14,7 +14,7 @@ use Rattle.ait_read.specs.declared.Control.the-variants.{Reserved}
 use Rattle.ait_read.specs.Acceptance.{tableJudged}
 use Rattle.ait_read.specs.Records.{classOf, controlOf}
 use Rattle.ait_read.proofs.Soundings as tables
-use Rattle.carousel_messages.specs.declared.Table.the-variants.{Announcements, Blocks}
+use Rattle.carousel_messages.specs.declared.CarouselTable.the-variants.{Announcements, Blocks}
 use Rattle.carousel_messages.specs.Message.{adaptationOf, payloadOf}
 use Rattle.carousel_messages.specs.Contents.{blockSizeOf}
 use Rattle.carousel_messages.specs.Limits.{beyond10}

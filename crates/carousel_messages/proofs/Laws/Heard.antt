@@ -15,8 +15,8 @@ use Rattle.wire.proofs.Laws.Loops.{tail}
 use Rattle.wire.proofs.Laws.Counted.{counted-fits, counted-items}
 use Rattle.wire.proofs.Laws.Finders.{part-part}
 use Rattle.section.specs.Header.{headerOf, bodyOf}
-use Rattle.carousel_messages.specs.declared.Table.{Table}
-use Rattle.carousel_messages.specs.declared.Table.the-variants.{Announcements, Blocks}
+use Rattle.carousel_messages.specs.declared.CarouselTable.{CarouselTable}
+use Rattle.carousel_messages.specs.declared.CarouselTable.the-variants.{Announcements, Blocks}
 use Rattle.carousel_messages.specs.declared.Announcement.{Announcement}
 use Rattle.carousel_messages.specs.declared.Block.{Block}
 use Rattle.carousel_messages.specs.declared.Judged.{Judged}
@@ -33,7 +33,7 @@ use Rattle.carousel_messages.proofs.Laws.Refusals.{counted, framed-star
 use Rattle.carousel_messages.proofs.Exact.{good-exactly, announced-exactly, carried-exactly}
 
 -- a message that ends with its body, and its payload with it
-module _ (t : Table) (b : List ℕ) (f : messageMeets7 t b ≡ false) where
+module _ (t : CarouselTable) (b : List ℕ) (f : messageMeets7 t b ≡ false) where
   fits : (messageFramed b ≡ true) × (payloadFramed t (payloadOf b) ≡ true)
   unfolding messageMeets7
   fits = both (messageFramed b) (payloadFramed t (payloadOf b)) (not-false _ f)
@@ -90,7 +90,7 @@ module _ (s : List ℕ) (a : Announcement) (e : judgedOf s ≡ judged.Announced 
   passes : (messageMeets7 Announcements (bodyOf s) ≡ false) × (meets10 p ≡ false) × (meets11 p ≡ false)
   passes = go (carouselTableIn s) (announced-exactly s a .0 e .1) (good-exactly s .0 (announced-exactly s a .0 e .0) .1)
     where
-      go : (t : Table) → t ≡ Announcements → None (messageTests t (headerOf s) (bodyOf s)) → (messageMeets7 Announcements (bodyOf s) ≡ false) × (meets10 p ≡ false) × (meets11 p ≡ false)
+      go : (t : CarouselTable) → t ≡ Announcements → None (messageTests t (headerOf s) (bodyOf s)) → (messageMeets7 Announcements (bodyOf s) ≡ false) × (meets10 p ≡ false) × (meets11 p ≡ false)
       go Announcements f n = (n .1 .1 .0, n .1 .1 .1 .0, n .1 .1 .1 .1 .0)
       go Blocks f n = absurd (tables-differ f)
 
@@ -164,7 +164,7 @@ module _ (s : List ℕ) (b : Block) (e : judgedOf s ≡ judged.Carried b) where
   fitting : messageMeets7 Blocks (bodyOf s) ≡ false
   fitting = go (carouselTableIn s) (carried-exactly s b .0 e .1) (good-exactly s .0 (carried-exactly s b .0 e .0) .1)
     where
-      go : (t : Table) → t ≡ Blocks → None (messageTests t (headerOf s) (bodyOf s)) → messageMeets7 Blocks (bodyOf s) ≡ false
+      go : (t : CarouselTable) → t ≡ Blocks → None (messageTests t (headerOf s) (bodyOf s)) → messageMeets7 Blocks (bodyOf s) ≡ false
       go Announcements f n = absurd (tables-differ (sym f))
       go Blocks f n = n .1 .1 .0
 

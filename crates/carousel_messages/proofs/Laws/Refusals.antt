@@ -17,8 +17,8 @@ use Rattle.section.specs.declared.Refusal.{Refusal}
 use Rattle.section.specs.declared.Rules.the-variants.{Carousel}
 use Rattle.section.specs.declared.Checked.the-variants as checked
 use Rattle.section.specs.Answer.{refused, checkedOf}
-use Rattle.carousel_messages.specs.declared.Table.{Table}
-use Rattle.carousel_messages.specs.declared.Table.the-variants.{Announcements, Blocks}
+use Rattle.carousel_messages.specs.declared.CarouselTable.{CarouselTable}
+use Rattle.carousel_messages.specs.declared.CarouselTable.the-variants.{Announcements, Blocks}
 use Rattle.carousel_messages.specs.declared.Listed.{Listed}
 use Rattle.carousel_messages.specs.declared.Judged.the-variants as judged
 use Rattle.carousel_messages.specs.Message.{messageOf, adaptationOf, messageLengthOf, payloadOf, wantedOf}
@@ -32,7 +32,7 @@ use Rattle.carousel_messages.specs.Judged.{carouselTableOf, announcement
 pub no-payload : (b : List ℕ) → length b < 12 + adaptationOf b → [] ≡ payloadOf b
 no-payload b h = let f : length b ≤ 12 + adaptationOf b = omega arith in sym (drop-of-length-le b f)
 
-module _ (t : Table) (b : List ℕ) where
+module _ (t : CarouselTable) (b : List ℕ) where
   pub first-other : (byteAt b 0 ≡ 0x11 → ⊥) → true ≡ meets8 t b
   unfolding meets8
   first-other n = rw (ne-eqb (byteAt b 0) 0x11 n)
@@ -162,7 +162,7 @@ module _ (p : List ℕ) where
     read-11 = rw (e, map-map)
 
 -- the order of the whole
-module _ (t : Table) (h : Header) (b : List ℕ) where
+module _ (t : CarouselTable) (h : Header) (b : List ℕ) where
   pub is-short : length b < 12 → 7 ≡ messageRefusal t h b
   unfolding messageRefusal firstMet short7
   is-short l = rw (lt-ltb (length b) 12 l)
@@ -189,7 +189,7 @@ module _ (t : Table) (h : Header) (b : List ℕ) where
   unfolding messageJudged
   judged-good e = rw (eq-eqb (messageRefusal t h b) 0 e)
 
-module _ (t : Table) (b : List ℕ) where
+module _ (t : CarouselTable) (b : List ℕ) where
   pub read-announced : t ≡ Announcements → judged.Announced (announcementOf b) ≡ readOf t b
   unfolding readOf
   read-announced e = rw e

@@ -26,8 +26,8 @@ use Rattle.ait_read.specs.declared.ReadAnswer.the-variants as reading
 use Rattle.ait_read.specs.Acceptance.{applicationTests, tableJudged}
 use Rattle.ait_read.specs.Answers.{readTable, readAnswer, readNumber, numberOfRead}
 use Rattle.ait_read.proofs.Laws.Numbers.{read-number}
-use Rattle.carousel_messages.specs.declared.Table.{Table}
-use Rattle.carousel_messages.specs.declared.Table.the-variants.{Announcements, Blocks}
+use Rattle.carousel_messages.specs.declared.CarouselTable.{CarouselTable}
+use Rattle.carousel_messages.specs.declared.CarouselTable.the-variants.{Announcements, Blocks}
 use Rattle.carousel_messages.specs.Refusals.{messageTests}
 use Rattle.carousel_messages.specs.declared.Judged.{Judged}
 use Rattle.carousel_messages.specs.declared.Judged.the-variants as judged
@@ -69,7 +69,7 @@ most-both : (b : ℕ) (ts us : Tests) → Most b ts → Most b us → Most b (ts
 most-both b [] us m n = n
 most-both b (t ∷ ts) us m n = (m .0, most-both b ts us (m .1) n)
 
-message-most : (t : Table) (h : Header) (b : List ℕ) → Most 17 (messageTests t h b)
+message-most : (t : CarouselTable) (h : Header) (b : List ℕ) → Most 17 (messageTests t h b)
 message-most Announcements h b = (lit≤ tt, (lit≤ tt, (lit≤ tt, (lit≤ tt, (lit≤ tt, tt)))))
 message-most Blocks h b = (lit≤ tt, (lit≤ tt, (lit≤ tt, (lit≤ tt, tt))))
 
@@ -103,7 +103,7 @@ take-known c s image = rw (given-number c s image) (go (eqb (byteAt s 0) applica
     go false = let k : firstMet (stepTests c s image) ≤ 17 = rw (← step-number c s image) (step-known c s image) in omega arith
 
 -- and none is 0, which is no refusal: not the judgement's, and not the step's
-read-no-refusal : (t : Table) (b : List ℕ) (r : Refusal) → readOf t b ≡ judged.Refused r → ⊥
+read-no-refusal : (t : CarouselTable) (b : List ℕ) (r : Refusal) → readOf t b ≡ judged.Refused r → ⊥
 unfolding readOf
 read-no-refusal Announcements b r e = let z : _≡_ {A = ℕ} 0 1 = cc in omega arith
 read-no-refusal Blocks b r e = let z : _≡_ {A = ℕ} 0 1 = cc in omega arith

@@ -3,7 +3,7 @@ use mathlib.Core.Path.{_≡_, sym, ap, _∙_}
 use Prim.Native.Nat.{ℕ}
 use borrow.Author.Needs.{needs}
 use Rattle.section.specs.Answer.{refused}
-use Rattle.carousel_messages.specs.declared.Table.{Table}
+use Rattle.carousel_messages.specs.declared.CarouselTable.{CarouselTable}
 use Rattle.carousel_messages.specs.declared.Judged.the-variants.{Refused, Announced, Carried}
 use Rattle.carousel_messages.specs.Refusals.{messageRefusal}
 use Rattle.carousel_messages.specs.Judged.{carouselTableOf}
@@ -27,7 +27,7 @@ message-refusal-requires c κs = search needs
 -- what the calls answered
 number : (c : tie.After-message-refusal)
     → c .message-refusal .result ≡ messageRefusal (carouselTableOf (c .before .before .before .args .h .table)) (c .before .before .before .args .h) (c .before .before .before .args .b .now)
-number c = c .message-refusal .ensures ∙ ap (λ (t : Table). messageRefusal t (c .before .before .before .args .h) (c .before .before .before .args .b .now)) (c .before .table-of .ensures)
+number c = c .message-refusal .ensures ∙ ap (λ (t : CarouselTable). messageRefusal t (c .before .before .before .args .h) (c .before .before .before .args .b .now)) (c .before .table-of .ensures)
 
 returns : tie.Need-returns
 returns c =
