@@ -48,7 +48,7 @@ returns-2 c =
     let e = c .before .before in
     let l = read (e .before) in
     let a = l .before .before .args in
-    sym (bad-large (a .t2) (a .n) (l .loop .i) (omega (arith, l .before .used .ensures .0)) (a .block-size) (e .if1 .left) (c .if2 .taken)) ∙ l .loop .inv
+    sym (bad-large (a .t2) (a .n) (l .loop .i) (omega (arith, l .before .used .ensures .0)) (a .block-size) (e .if1 .left) (omega (arith, c .if2 .taken))) ∙ l .loop .inv
 
 add-i : tie.Need-add-i Inv-loop μ-loop
 add-i c = search needs
@@ -61,7 +61,7 @@ loop-again c =
     let e = c .before .before in
     let l = read (e .before) in
     let a = l .before .before .args in
-    bad-next (a .t2) (a .n) (l .loop .i) (omega (arith, l .before .used .ensures .0)) (a .block-size) (e .if1 .left) (c .if2 .left) ∙ l .loop .inv
+    bad-next (a .t2) (a .n) (l .loop .i) (omega (arith, l .before .used .ensures .0)) (a .block-size) (e .if1 .left) (omega (arith, c .if2 .left)) ∙ l .loop .inv
 
 returns-3 : tie.Need-returns-3 Inv-loop μ-loop
 returns-3 c =

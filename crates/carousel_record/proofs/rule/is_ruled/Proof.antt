@@ -3,6 +3,7 @@ use borrow.Author.Tests.{eq-eqb, le-leb, lt-leb, not-true, not-false}
 use mathlib.Core.Path.{_≡_, sym, _∙_}
 use mathlib.Core.Bool.{Bool, true, _&&_}
 use mathlib.Core.List.{map}
+use native.Mathlib.Omega.{arith}
 use lib.ListN.{length, take, length-map}
 use Rattle.carousel_messages.specs.Limits.{mostModules}
 use Rattle.carousel_record.specs.declared.Carousel.{Carousel}
@@ -35,7 +36,7 @@ unfolding ruledOf ruled announcedBy startsBy
 rest-is c =
     let s = start c in
     rw (
-      le-leb (s .args .c .count) mostModules (counted (c .before) .if1 .left),
+      le-leb (s .args .c .count) mostModules (omega (arith, counted (c .before) .if1 .left)),
       sym (c .before .all-unused .ensures) ∙ not-false _ (c .if2 .left),
       eq-eqb (length (s .args .c .marks)) markWords (all-words s),
     )
@@ -48,7 +49,7 @@ cast-n c = search needs
 
 returns : tie.Need-returns
 unfolding ruledOf
-returns c = rw (lt-leb (c .before .before .args .c .count) mostModules (c .if1 .taken))
+returns c = rw (lt-leb (c .before .before .args .c .count) mostModules (omega (arith, c .if1 .taken)))
 
 all-unused-requires : tie.Need-all-unused-requires
 all-unused-requires c κs = search needs
@@ -57,7 +58,7 @@ returns-2 : tie.Need-returns-2
 unfolding ruledOf
 returns-2 c =
     let e = counted (c .before) in
-    rw (le-leb (e .before .before .args .c .count) mostModules (e .if1 .left), sym (c .before .all-unused .ensures) ∙ not-true _ (c .if2 .taken))
+    rw (le-leb (e .before .before .args .c .count) mostModules (omega (arith, e .if1 .left)), sym (c .before .all-unused .ensures) ∙ not-true _ (c .if2 .taken))
 
 is-within-limits-requires : tie.Need-is-within-limits-requires
 is-within-limits-requires c κs = search needs
