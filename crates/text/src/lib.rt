@@ -5,7 +5,7 @@
 ghost use mathlib.Core.Path.{_≡_};
 ghost use mathlib.Core.List.{_∷_, []};
 ghost use Prim.Native.Nat.{_≤_};
-ghost use lib.ListN.{length, set, take, drop};
+ghost use lib.ListN.{length, set, drop};
 ghost use lib.Seq.{sets};
 ghost use Rattle.text.specs.Text.{reached, wordAt, decimal};
 
@@ -29,10 +29,17 @@ pub fn put_word(out: &mut [u8], at: usize, words: &[u8], k: usize) -> usize
     ensures { λ r. ⌜ (now (out .exit) ≡ sets (now (out .entry)) at (wordAt k (now (words .entry))))
         × (r ≡ reached at (length (wordAt k (now (words .entry)))) (length (now (out .entry)))) ⌝ }
 {
-    let start = word_start(words, k);
-    let rest = &words[start..];
-    let n = word_length(rest);
-    put(out, at, &rest[..n])
+    let mut end = at;
+    let mut i = word_start(words, k);
+    while i < words.len() {
+        let letter = words[i];
+        if letter == b' ' {
+            return end;
+        }
+        end = put_byte(out, end, letter);
+        i += 1;
+    }
+    end
 }
 
 // Puts a number's decimal digits at a place, and answers the place after them.
@@ -58,20 +65,6 @@ fn word_start(words: &[u8], k: usize) -> usize
         }
         if words[i] == b' ' {
             left -= 1;
-        }
-        i += 1;
-    }
-    i
-}
-
-// How long the word is that a text begins with.
-fn word_length(s: &[u8]) -> usize
-    ensures { λ r. ⌜ (r ≤ length (now (s .entry))) × (take r (now (s .entry)) ≡ wordAt 0 (now (s .entry))) ⌝ }
-{
-    let mut i: usize = 0;
-    while i < s.len() {
-        if s[i] == b' ' {
-            return i;
         }
         i += 1;
     }

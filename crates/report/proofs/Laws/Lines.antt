@@ -5,7 +5,7 @@ use mathlib.Core.Bool.{true}
 use mathlib.Core.List.{List, [], _∷_, _++_, append-assoc}
 use native.Mathlib.Omega.{arith}
 use lib.ListN.{length, drop, length-drop}
-use lib.Seq.{sets, drop-drop}
+use lib.Seq.{drop-drop}
 use Rattle.carousel_record.specs.declared.Carousel.{Carousel}
 use Rattle.carousel_record.specs.Record.{ruledOf}
 use Rattle.carousel_record.specs.Changes.{emptyRecord}
@@ -18,8 +18,6 @@ use Rattle.receiver.specs.declared.What.the-variants as what
 use Rattle.receiver.specs.Run.{tookOf, imageTook, imageRan, runs, fatesOf, RunOutcome}
 use Rattle.receiver.proofs.Laws.Runs.{run-ruled}
 use Rattle.receiver.proofs.Laws.Takes.{ends, goes-on}
-use Rattle.text.specs.Text.{reached}
-use Rattle.text.proofs.Laws.Puts.{Puts, puts-then}
 use Rattle.report.specs.Report.{header, lineOf, linesFrom, lastLine, budget, printed}
 
 -- the lines of what is taken from here on, the first of them with this index, and the stop's
@@ -80,23 +78,6 @@ turned stretch image c i p x t l r h e f w =
     let k : budget - (i + 1) ≡ b - 1 = omega arith in
     let j : i + 1 ≡ suc i = omega arith in
     rw (e, f, k, j, ← drop-drop (x .length) p stretch) (omega (arith, q .0), omega (arith, q .1), q .2, g .0, g .1)
-
--- A writer that has put what came before, and has this text still to put, ends as one that puts the whole.
-abbrev pub Writing : (out : List ℕ) (at : ℕ) (left : List ℕ) (out₀ : List ℕ) (at₀ : ℕ) (whole : List ℕ) → Type 0
-Writing out at left out₀ at₀ whole = (sets out at left ≡ sets out₀ at₀ whole) × (reached at (length left) (length out) ≡ reached at₀ (length whole) (length out₀))
-
--- a piece of it is put
-pub writing-on : (out : List ℕ) (at : ℕ) (left out₀ : List ℕ) (at₀ : ℕ) (whole a b m : List ℕ) (j : ℕ)
-    → Writing out at left out₀ at₀ whole → left ≡ a ++ b → Puts out at a m j → Writing m j b out₀ at₀ whole
-writing-on out at left out₀ at₀ whole a b m j w e p =
-    let q = puts-then out at a b m (sets m j b) j (reached j (length b) (length m)) p (refl, refl) in
-    (q .0 ∙ ap (sets out at) (sym e) ∙ w .0, q .1 ∙ ap (λ (l : List ℕ). reached at (length l) (length out)) (sym e) ∙ w .1)
-
--- the last of it is put
-pub writing-ends : (out : List ℕ) (at : ℕ) (left out₀ : List ℕ) (at₀ : ℕ) (whole a m : List ℕ) (j : ℕ)
-    → Writing out at left out₀ at₀ whole → left ≡ a → Puts out at a m j → Puts out₀ at₀ whole m j
-writing-ends out at left out₀ at₀ whole a m j w e p =
-    (p .0 ∙ ap (sets out at) (sym e) ∙ w .0, p .1 ∙ ap (λ (l : List ℕ). reached at (length l) (length out)) (sym e) ∙ w .1)
 
 -- THE WHOLE TEXT: the header, and then the text from the start on; and the image that the run leaves
 pub printed-is : (c : Carousel) (s image : List ℕ) → c ≡ emptyRecord → header ++ textFrom budget 0 c s image ≡ printed s image

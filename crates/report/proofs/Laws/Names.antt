@@ -1,7 +1,5 @@
 -- The names of kinds and stops stand in the program's two texts where their numbers say.
 use mathlib.Core.Path.{_≡_, refl}
-use mathlib.Core.List.{List}
-use Prim.Native.Nat.{ℕ}
 use Rattle.text.specs.Text.{codes, wordAt}
 use Rattle.receiver.specs.declared.Stop.{Stop}
 use Rattle.receiver.specs.declared.Stop.the-variants as stop

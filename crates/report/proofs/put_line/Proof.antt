@@ -1,7 +1,7 @@
 -- `put_line` meets its contract: six pieces, one after another.
 use Prim.Native.Nat.{ℕ}
 use mathlib.Core.Path.{ap, _∙_}
-use mathlib.Core.List.{List, _++_}
+use mathlib.Core.List.{_++_}
 use Rattle.text.specs.Text.{codes, wordAt, decimal}
 use Rattle.receiver.specs.Run.{numberOfFate}
 use Rattle.report.specs.Report.{kindName}

@@ -13,9 +13,9 @@ use Rattle.carousel_step.proofs.Simulation.{empty-ruled}
 use Rattle.receiver.specs.declared.Took.{Took}
 use Rattle.receiver.specs.declared.What.the-variants as what
 use Rattle.receiver.specs.Run.{tookOf, imageTook, runs}
-use Rattle.text.proofs.Laws.Puts.{puts-then, puts-same}
+use Rattle.text.proofs.Laws.Puts.{puts-then, puts-same, Writing, writing-on, writing-ends}
 use Rattle.report.specs.Report.{budget, header, lineOf, printed}
-use Rattle.report.proofs.Laws.Lines.{textFrom, printed-is, image-is, text-ends, Turned, turned, Writing, writing-on, writing-ends}
+use Rattle.report.proofs.Laws.Lines.{textFrom, printed-is, image-is, text-ends, Turned, turned}
 use Rattle.report.proofs.write_report.Statement.{statement}
 use Rattle.report.proofs.write_report.Tie as tie
 

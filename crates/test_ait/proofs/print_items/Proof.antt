@@ -1,8 +1,6 @@
 -- `test_ait::print_items` stays within its slice and ends.
 use borrow.Author.Needs.{needs}
-use native.Mathlib.Omega.{arith}
 use Prim.Native.Nat.{_≤_, _-_}
-use lib.ListN.{length}
 use Rattle.test_ait.proofs.print_items.Statement.{statement}
 use Rattle.test_ait.proofs.print_items.Tie as tie
 

@@ -1,12 +1,12 @@
 -- Text put after text is the two together. All that a writer of many pieces needs.
-use Prim.Native.Nat.{ℕ, suc, _+_, _-_, _≤_, _<_}
+use Prim.Native.Nat.{ℕ, suc, _+_, _≤_}
 use mathlib.Core.Path.{_≡_, refl, sym, ap, ap₂, subst, _∙_}
 use mathlib.Core.Bool.{Bool, true, false, cond}
 use mathlib.Core.List.{List, [], _∷_, _++_}
 use native.Mathlib.Omega.{arith}
 use lib.Dec.{ltb}
-use lib.ListN.{length, set, getD, drop, length-append}
-use lib.Seq.{sets, set-out, length-sets, drop-cons}
+use lib.ListN.{length, set, length-append}
+use lib.Seq.{sets, set-out, length-sets}
 use borrow.Author.Tests.{le-ltb, ltb-true, ltb-false}
 use Rattle.text.specs.Text.{reached}
 
@@ -111,16 +111,6 @@ sets-more l i a b = go (way i (length a) (length l)) ∙ sym (sets-add l i a b)
     go (cut h k) = ap from (reached-cut i (length a) (length l) h k) ∙ beyond (length l) (i + length a) (omega arith) k
     go (past h) = ap from (reached-past i (length a) (length l) h) ∙ beyond i (i + length a) h (omega arith)
 
--- one byte of a piece, and then the rest of it
-pub sets-next : (l piece : List ℕ) (at i : ℕ) → i < length piece → sets (set l at (getD piece i 0)) (reached at 1 (length l)) (drop (i + 1) piece) ≡ sets l at (drop i piece)
-sets-next l piece at i h =
-    let e : i + 1 ≡ suc i = omega arith in
-    let b = getD piece i 0 in
-    ap (λ (k : ℕ). sets (set l at b) (reached at 1 (length l)) (drop k piece)) e ∙ sets-more l at (b ∷ []) (drop (suc i) piece) ∙ ap (sets l at) (sym (drop-cons piece i 0 h))
-
-pub reached-next : (at i n room : ℕ) → i < n → reached (reached at 1 room) (n - (i + 1)) room ≡ reached at (n - i) room
-reached-next at i n room h = let e : 1 + (n - (i + 1)) ≡ n - i = omega arith in reached-more at 1 (n - (i + 1)) room ∙ ap (λ (k : ℕ). reached at k room) e
-
 -- What a call that puts a text promises: the bytes after it, and the place after it.
 abbrev pub Puts : (out : List ℕ) (at : ℕ) (text : List ℕ) (after : List ℕ) (end : ℕ) → Type 0
 Puts out at text after end = (after ≡ sets out at text) × (end ≡ reached at (length text) (length out))
@@ -138,3 +128,24 @@ puts-then l i a b m k j e p q = (
 
 pub puts-same : (l : List ℕ) (i : ℕ) (a b m : List ℕ) (e : ℕ) → a ≡ b → Puts l i a m e → Puts l i b m e
 puts-same l i a b m e h p = subst (λ (x : List ℕ). Puts l i x m e) h p
+
+-- A writer that has put what came before, and has this text still to put, ends as one that puts the whole.
+abbrev pub Writing : (out : List ℕ) (at : ℕ) (left : List ℕ) (out₀ : List ℕ) (at₀ : ℕ) (whole : List ℕ) → Type 0
+Writing out at left out₀ at₀ whole = (sets out at left ≡ sets out₀ at₀ whole) × (reached at (length left) (length out) ≡ reached at₀ (length whole) (length out₀))
+
+-- a piece of it is put
+pub writing-on : (out : List ℕ) (at : ℕ) (left out₀ : List ℕ) (at₀ : ℕ) (whole a b m : List ℕ) (j : ℕ)
+    → Writing out at left out₀ at₀ whole → left ≡ a ++ b → Puts out at a m j → Writing m j b out₀ at₀ whole
+writing-on out at left out₀ at₀ whole a b m j w e p =
+    let q = puts-then out at a b m (sets m j b) j (reached j (length b) (length m)) p (refl, refl) in
+    (q .0 ∙ ap (sets out at) (sym e) ∙ w .0, q .1 ∙ ap (λ (l : List ℕ). reached at (length l) (length out)) (sym e) ∙ w .1)
+
+-- the last of it is put
+pub writing-ends : (out : List ℕ) (at : ℕ) (left out₀ : List ℕ) (at₀ : ℕ) (whole a m : List ℕ) (j : ℕ)
+    → Writing out at left out₀ at₀ whole → left ≡ a → Puts out at a m j → Puts out₀ at₀ whole m j
+writing-ends out at left out₀ at₀ whole a m j w e p =
+    (p .0 ∙ ap (sets out at) (sym e) ∙ w .0, p .1 ∙ ap (λ (l : List ℕ). reached at (length l) (length out)) (sym e) ∙ w .1)
+
+-- nothing is left of it
+pub writing-done : (out : List ℕ) (at : ℕ) (left out₀ : List ℕ) (at₀ : ℕ) (whole : List ℕ) → Writing out at left out₀ at₀ whole → left ≡ [] → Puts out₀ at₀ whole out at
+writing-done out at left out₀ at₀ whole w e = writing-ends out at left out₀ at₀ whole [] out at w e (refl, sym (reached-none at (length out)))

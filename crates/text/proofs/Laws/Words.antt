@@ -1,11 +1,11 @@
 -- A word of a text, one byte of the text after another.
 use Prim.Native.Nat.{ℕ, zero, suc, _+_, _-_, _≤_, _<_}
 use mathlib.Core.Path.{_≡_, refl}
-use mathlib.Core.List.{List, [], _∷_, _++_}
+use mathlib.Core.List.{List, [], _∷_}
 use native.Mathlib.Numerals.{add-one}
 use native.Mathlib.Omega.{arith}
-use lib.ListN.{length, take, drop, getD, drop-of-length-le}
-use lib.Seq.{drop-cons, take-suc, append-snoc}
+use lib.ListN.{length, drop, getD, drop-of-length-le}
+use lib.Seq.{drop-cons}
 use borrow.Author.Tests.{eq-eqb, ne-eqb}
 use Rattle.text.specs.Text.{wordAt}
 
@@ -20,9 +20,9 @@ module _ (s : List ℕ) (i : ℕ) (h : i < length s) where
   unfolding wordAt
   word-ends e = rw (drop-cons s i 0 h, eq-eqb _ _ e)
 
-  pub word-letter : (getD s i 0 ≡ 32 → ⊥) → take (i + 1) s ++ wordAt 0 (drop (i + 1) s) ≡ take i s ++ wordAt 0 (drop i s)
+  pub word-letter : (getD s i 0 ≡ 32 → ⊥) → wordAt 0 (drop i s) ≡ getD s i 0 ∷ wordAt 0 (drop (i + 1) s)
   unfolding wordAt
-  word-letter e = rw (add-one, drop-cons s i 0 h, ne-eqb _ _ e, take-suc s i 0 h, append-snoc)
+  word-letter e = rw (add-one, drop-cons s i 0 h, ne-eqb _ _ e)
 
   -- a word before it ends, or goes on
   pub word-passed : (k : ℕ) → (k ≡ 0 → ⊥) → getD s i 0 ≡ 32 → wordAt (k - 1) (drop (i + 1) s) ≡ wordAt k (drop i s)
