@@ -22,7 +22,9 @@ use section::Refusal;
 ghost use mathlib.Core.Path.{_≡_};
 ghost use Rattle.ait_read.specs.declared.Item.the-variants as item;
 ghost use Rattle.ait_read.specs.Answers.{readAnswer, applicationAnswer, descriptorAnswer, extensionAnswer, resolveAnswer};
-ghost use Rattle.ait_numbers.specs.Reading.{tableOut, applicationOut, classNumber, controlNumber, descriptorOut, describedOut, itemAsked, itemOut, foundOut, extensionOut, labelOut, scopeOf, noDescriptor, describedBy, countedBy, carriedBy, placedBy, noPlace, noItem};
+ghost use Rattle.ait_numbers.specs.Reading.{tableOut, applicationOut, classNumber, controlNumber, descriptorOut, describedOut, itemAsked};
+ghost use Rattle.ait_numbers.specs.Reading.{itemOut, foundOut, extensionOut, labelOut, scopeOf, noDescriptor, describedBy, countedBy};
+ghost use Rattle.ait_numbers.specs.Reading.{carriedBy, placedBy, noPlace, noItem};
 
 // Stands for the common loop where an application's place is asked for.
 const COMMON: usize = 0xFFFF_FFFF_FFFF_FFFF;

@@ -19,10 +19,13 @@ block-refusal-requires : tie.Need-block-refusal-requires
 block-refusal-requires c κs = search needs
 
 returns : tie.Need-returns
-returns c = let s = c .before .before .before .before in c .announcement-refusal .ensures ∙ ap (λ (t : CarouselTable). payloadRefusal t (s .args .h) (s .args .p .now)) (sym (c .before .enum-told .given .1))
+returns c = let s = c .before .before .before .before in
+    c .announcement-refusal .ensures ∙ ap (λ (t : CarouselTable). payloadRefusal t (s .args .h) (s .args .p .now))
+    (sym (c .before .enum-told .given .1))
 
 returns-2 : tie.Need-returns-2
-returns-2 c = let s = c .before .before .before .before in c .block-refusal .ensures ∙ ap (λ (t : CarouselTable). payloadRefusal t (s .args .h) (s .args .p .now)) (sym (c .before .enum-told2 .given .1))
+returns-2 c = let s = c .before .before .before .before in
+    c .block-refusal .ensures ∙ ap (λ (t : CarouselTable). payloadRefusal t (s .args .h) (s .args .p .now)) (sym (c .before .enum-told2 .given .1))
 
 pub payload-refusal-spec : {M : Type 1} → statement M
 payload-refusal-spec =
