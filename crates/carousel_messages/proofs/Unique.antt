@@ -3,8 +3,8 @@ use mathlib.Core.Path.{sym, _∙_}
 use Rattle.wire.proofs.Once.{OneAnswer}
 use Rattle.carousel_messages.proofs.judge.Kinds as judge-kinds
 use Rattle.carousel_messages.proofs.judge.Reads as judge-reads
-use Rattle.carousel_messages.proofs.module_at.Kinds as module-at-kinds
-use Rattle.carousel_messages.proofs.module_at.Reads as module-at-reads
+use Rattle.carousel_messages.proofs.modules.module_at.Kinds as module-at-kinds
+use Rattle.carousel_messages.proofs.modules.module_at.Reads as module-at-reads
 use Rattle.carousel_messages.proofs.limits.is_beyond.Kinds as is-beyond-kinds
 use Rattle.carousel_messages.proofs.limits.is_beyond.Reads as is-beyond-reads
 use Rattle.carousel_messages.proofs.limits.has_twice.Kinds as has-twice-kinds

@@ -18,16 +18,13 @@ pub use limits::is_beyond;
 pub use limits::place_from;
 pub use limits::total;
 use message::judge_message;
+pub use modules::module_at;
 use section::Checked;
 use section::Refusal;
 use section::Rules;
-use wire::byte_at;
-use wire::sixteen_at;
-use wire::thirty_two_at;
 ghost use mathlib.Core.Path.{_≡_};
 ghost use Rattle.wire.specs.Tests.{firstMet};
 ghost use Rattle.carousel_messages.specs.Judged.{judgedOf, numberOfJudged, carouselTests};
-ghost use Rattle.carousel_messages.specs.Heard.{noneListed, listedAt};
 
 // Which of the carousel's two tables.
 pub enum CarouselTable {
@@ -78,33 +75,5 @@ pub fn judge(s: &[u8]) -> Judged
             let e = s.len() - 4;
             judge_message(&s[8..e], h)
         }
-    }
-}
-
-// The module at a place of an announcement's modules, `list`; all zero where there is none.
-pub fn module_at(list: &[u8], place: usize) -> Listed
-    ensures { λ r. ⌜ r ≡ listedAt (now (list .entry)) place ⌝ }
-{
-    if list.len() <= place {
-        return none_listed();
-    }
-    if wire::measured_end(list, 0, place + 1, 8, 7) == 0 {
-        return none_listed();
-    }
-    let i = wire::measured_end(list, 0, place, 8, 7);
-    Listed {
-        number: sixteen_at(list, i),
-        size: thirty_two_at(list, i + 2),
-        version: byte_at(list, i + 6),
-    }
-}
-
-fn none_listed() -> Listed
-    ensures { λ r. ⌜ r ≡ noneListed ⌝ }
-{
-    Listed {
-        number: 0,
-        size: 0,
-        version: 0,
     }
 }

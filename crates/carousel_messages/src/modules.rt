@@ -3,10 +3,10 @@ use crate::Listed;
 use crate::limits::MOST_MODULES;
 use crate::limits::has_twice;
 use crate::limits::is_beyond;
-use crate::module_at;
-use crate::none_listed;
 use section::Header;
+use wire::byte_at;
 use wire::sixteen_at;
+use wire::thirty_two_at;
 ghost use mathlib.Core.Path.{_≡_};
 ghost use Prim.Native.Nat.{_+_, _≤_, _<_};
 ghost use lib.Dec.{eqb};
@@ -16,7 +16,7 @@ ghost use Rattle.carousel_messages.specs.declared.CarouselTable.the-vari
 ghost use Rattle.carousel_messages.specs.Contents.{announcementFramed, moduleCountOf, modulesStart, modulesEnd};
 ghost use Rattle.carousel_messages.specs.Limits.{mostModules};
 ghost use Rattle.carousel_messages.specs.Refusals.{payloadRefusal};
-ghost use Rattle.carousel_messages.specs.Heard.{listOf};
+ghost use Rattle.carousel_messages.specs.Heard.{noneListed, listOf, listedAt};
 
 // 0 where an announcement's payload is taken, else 7, 10 or 11.
 pub fn announcement_refusal(p: &[u8], h: Header) -> u8
@@ -53,6 +53,34 @@ fn read_modules(list: &[u8], count: usize) -> [Listed; MOST_MODULES]
         i += 1;
     }
     ms
+}
+
+// The module at a place of an announcement's modules, `list`; all zero where there is none.
+pub fn module_at(list: &[u8], place: usize) -> Listed
+    ensures { λ r. ⌜ r ≡ listedAt (now (list .entry)) place ⌝ }
+{
+    if list.len() <= place {
+        return none_listed();
+    }
+    if wire::measured_end(list, 0, place + 1, 8, 7) == 0 {
+        return none_listed();
+    }
+    let i = wire::measured_end(list, 0, place, 8, 7);
+    Listed {
+        number: sixteen_at(list, i),
+        size: thirty_two_at(list, i + 2),
+        version: byte_at(list, i + 6),
+    }
+}
+
+fn none_listed() -> Listed
+    ensures { λ r. ⌜ r ≡ noneListed ⌝ }
+{
+    Listed {
+        number: 0,
+        size: 0,
+        version: 0,
+    }
 }
 
 fn is_announcement(p: &[u8]) -> bool

@@ -5,22 +5,22 @@
 // broken: each call here has its answer for any record, and `is_ruled` tells whether one keeps its rule.
 
 mod blocks;
+mod entries;
 mod marks;
 mod rule;
 
 pub use blocks::blocks_of;
 pub use blocks::is_block;
-use carousel_messages::Listed;
 use carousel_messages::MOST_MODULES;
 use carousel_messages::place_from;
 use carousel_messages::total;
+use entries::listed;
 pub use marks::MARK_WORDS;
 pub use marks::is_marked;
 pub use marks::with_mark;
 pub use rule::is_ruled;
 ghost use mathlib.Core.Path.{_≡_};
-ghost use mathlib.Core.List.{map};
-ghost use Rattle.carousel_record.specs.Record.{listedIn, announcedBy, placeOf, bytesOf};
+ghost use Rattle.carousel_record.specs.Record.{announcedBy, placeOf, bytesOf};
 ghost use Rattle.carousel_record.specs.Changes.{emptyRecord};
 
 // An announced module, and where it starts in the image. This and the record have C's layout: programs in C hold them.
@@ -72,28 +72,4 @@ pub fn bytes_of(c: Carousel) -> usize
     ensures { λ r. ⌜ r ≡ bytesOf (announcedBy c) ⌝ }
 {
     total(listed(c), c.count as usize)
-}
-
-// The entries as announced modules, without their starts.
-fn listed(c: Carousel) -> [Listed; MOST_MODULES]
-    ensures { λ r. ⌜ r ≡ map listedIn (c .modules) ⌝ }
-{
-    let none = Listed {
-        number: 0,
-        size: 0,
-        version: 0,
-    };
-    let mut ls = [none; MOST_MODULES];
-    let ms = c.modules;
-    let mut i: usize = 0;
-    while i < MOST_MODULES {
-        let m = ms[i];
-        ls[i] = Listed {
-            number: m.number,
-            size: m.size,
-            version: m.version,
-        };
-        i += 1;
-    }
-    ls
 }

@@ -2,7 +2,7 @@
 use crate::Carousel;
 use crate::Module;
 use crate::blocks::blocks_of;
-use crate::listed;
+use crate::entries::listed;
 use crate::marks::MODULE_WORDS;
 use crate::marks::is_clear_from;
 use carousel_messages::MOST_MODULES;

@@ -1,10 +1,10 @@
--- `carousel_messages::module_at` meets its contract: a place has a module where one more than so many end somewhere; it lies where those before it end.
+-- `carousel_messages::modules::module_at` meets its contract: a place has a module where one more than so many end somewhere; it lies where those before it end.
 use mathlib.Core.Path.{sym, _∙_}
 use native.Mathlib.Omega.{arith}
 use Rattle.carousel_messages.proofs.Laws.Listed.{there, past, none-at, none-past, listed-is, ends-within}
 use borrow.Author.Needs.{needs}
-use Rattle.carousel_messages.proofs.module_at.Statement.{statement}
-use Rattle.carousel_messages.proofs.module_at.Tie as tie
+use Rattle.carousel_messages.proofs.modules.module_at.Statement.{statement}
+use Rattle.carousel_messages.proofs.modules.module_at.Tie as tie
 
 -- the places that stand before a place, by name
 abbrev start-of-then2 : tie.Then2 → tie.Start

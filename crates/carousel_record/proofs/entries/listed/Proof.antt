@@ -1,4 +1,4 @@
--- `carousel_record::listed` meets its contract. The invariant: the first i are those of the entries.
+-- `carousel_record::entries::listed` meets its contract. The invariant: the first i are those of the entries.
 use borrow.Author.Needs.{needs}
 use mathlib.Core.Path.{_≡_, refl, sym, _∙_}
 use mathlib.Core.List.{map}
@@ -11,8 +11,8 @@ use Rattle.carousel_messages.specs.Limits.{mostModules}
 use Rattle.carousel_messages.specs.Heard.{noneListed}
 use Rattle.carousel_messages.proofs.Laws.Limits.{filled-next}
 use Rattle.carousel_record.specs.Record.{listedIn, unused}
-use Rattle.carousel_record.proofs.listed.Statement.{statement}
-use Rattle.carousel_record.proofs.listed.Tie as tie
+use Rattle.carousel_record.proofs.entries.listed.Statement.{statement}
+use Rattle.carousel_record.proofs.entries.listed.Tie as tie
 
 abbrev Inv-loop : tie.InvT-loop
 Inv-loop ls₀ ms i₀ ls i = (i ≤ mostModules) × (length ls ≡ mostModules) × (take i ls ≡ take i (map listedIn ms))
