@@ -1,5 +1,6 @@
 #!/usr/bin/env python3
-"""The C side: include/nebosvar.h declares what the source exports, field by field, and the C example, compiled with every warning an error, prints what the paper's program in Python prints, and of each module what the Python receiver says.
+"""The C side: include/nebosvar.h declares what the source exports, field by field, and the C example, compiled with every warning an error,
+prints what the paper's program in Python prints, and of each module what the Python receiver says.
 
     embed.py          compare the declarations
     embed.py run      the same, then compile and run examples/receive.c over target/staticlib/libnebosvar.a"""

@@ -42,7 +42,16 @@ def faults():
                 yield "%s goes five and more places back without a name" % where
 
 
-found = list(faults())
+def long_lines():
+    """Of the programs around the crates."""
+    for pattern in ("tests/*.py", "tools/*.py", "rust/*/src/**/*.rs", "rust/*/tests/**/*.rs", "include/*.h", "examples/*.c"):
+        for path in sorted(ROOT.glob(pattern)):
+            for i, line in enumerate(path.read_text().split("\n"), 1):
+                if len(line) > MOST:
+                    yield "%s:%d has %d characters" % (path.relative_to(ROOT), i, len(line))
+
+
+found = [*faults(), *long_lines()]
 if subprocess.run([sys.executable, ROOT / "tools" / "walks.py", "--check"]).returncode != 0:
     found.append("tools/walks.py writes other walks")
 print("\n".join(found) or "house: no circle, nothing on the roof, no long way or line")

@@ -261,7 +261,8 @@ def sections():
     rnd = random.Random(102809)
     for _ in range(110):
         pick = lambda n: b"".join(rnd.choice(EVERY[1:]) for _ in range(rnd.randrange(n)))
-        apps = b"".join(app(pick(3) + d00(labels=bytes(rnd.randrange(7) for _ in range(rnd.randrange(4)))) + pick(3), number=rnd.randrange(65536), code=rnd.randrange(9)) for _ in range(rnd.randrange(3)))
+        some = lambda: pick(3) + d00(labels=bytes(rnd.randrange(7) for _ in range(rnd.randrange(4)))) + pick(3)
+        apps = b"".join(app(some(), number=rnd.randrange(65536), code=rnd.randrange(9)) for _ in range(rnd.randrange(3)))
         s = bytearray(ait(pick(4), apps, rnd.randrange(65536), 0xC1 | rnd.randrange(32) << 1))[:-4]
         for _ in range(rnd.randrange(3)):
             s[rnd.randrange(8, len(s))] = rnd.choice([0, 1, 2, 3, 5, 0x15, rnd.randrange(256)])

@@ -285,7 +285,10 @@ def headers(t):
     t.step(block(0, 1, last=0), 4)
     t.step(announcement(byte5=0xC0), 6)
     t.step(block(0, 0, byte5=0xFE), 6)
-    for same in ({"extension": 0xFFFF}, {"byte5": 0x01}, {"byte5": 0xFF}, {"number": 5, "last": 5}, {"flags": 0xC0}, {"flags": 0xF0}, {"identifier": 0xFFFF_FFFF}, {"unread": 0}, {"unread10": bytes([9] * 10)}):
+    for same in (
+        {"extension": 0xFFFF}, {"byte5": 0x01}, {"byte5": 0xFF}, {"number": 5, "last": 5}, {"flags": 0xC0}, {"flags": 0xF0},
+        {"identifier": 0xFFFF_FFFF}, {"unread": 0}, {"unread10": bytes([9] * 10)},
+    ):
         t.step(announcement(**same), "same")
     for same in ({"byte5": 0x01}, {"byte5": 0x3F}, {"last": 0}, {"flags": 0x80}, {"unread": 0}, {"reserved": 0}):
         t.step(block(0, 0, **same), "repeated")
@@ -310,9 +313,15 @@ def limits(t):
     t.step(dii(1, 4066, [(5, 256 * 4066, 0)]), 10)
     t.step(dii(1, 4066, [(5, 65_536, 0)]), "new")
     t.step(dii(1, 4066, [(5, 65_537, 0)]), 10)
-    for sizes, wanted in (([65_535, 1], "new"), ([65_535, 2], 10), ([65_536, 1], 10), ([4096] * 16, "new"), ([4096] * 15 + [4097], 10), ([0xFFFF_FFFF, 1], 10), ([1, 0], 10), ([0, 1], 10), ([32_768, 32_768], "new"), ([32_768, 32_769], 10)):
+    for sizes, wanted in (
+        ([65_535, 1], "new"), ([65_535, 2], 10), ([65_536, 1], 10), ([4096] * 16, "new"), ([4096] * 15 + [4097], 10), ([0xFFFF_FFFF, 1], 10),
+        ([1, 0], 10), ([0, 1], 10), ([32_768, 32_768], "new"), ([32_768, 32_769], 10),
+    ):
         t.step(dii(1, 400, [(k, z, 9) for k, z in enumerate(sizes)]), wanted)
-    for numbers, wanted in (([1, 1], 11), ([1, 2, 1], 11), ([1, 2, 2], 11), ([0, 0xFFFF], "new"), ([0, 0], 11), (list(range(15)) + [0], 11), (list(range(15)) + [14], 11), (list(range(16)), "new"), ([1, 257], "new")):
+    for numbers, wanted in (
+        ([1, 1], 11), ([1, 2, 1], 11), ([1, 2, 2], 11), ([0, 0xFFFF], "new"), ([0, 0], 11), (list(range(15)) + [0], 11),
+        (list(range(15)) + [14], 11), (list(range(16)), "new"), ([1, 257], "new"),
+    ):
         t.step(dii(1, 8, [(n, 3 + k, k) for k, n in enumerate(numbers)]), wanted)
 
 
@@ -554,14 +563,22 @@ def broken(t):
         t.poke(field, before, place)
     # 1 before every other number
     t.poke("start", 1)
-    for s in (b"", block(0, 0)[:-1], block(0, 0, table=0x74), block(0, 0, flags=0), block(0, 0)[:-1] + b"\0", block(0, 0, byte5=0), block(0, 0, size=3), block(0, 0, first=0), block(0, 0, extension=1), dii(1, 0, []), dii(1, 1, [(1, 1, 1)] * 2), block(0, 0, download=1), block(0, 0, module=1), block(0, 0, version=1), block(0, 5, b""), block(0, 0, b"0123456789"), announcement()):
+    for s in (
+        b"", block(0, 0)[:-1], block(0, 0, table=0x74), block(0, 0, flags=0), block(0, 0)[:-1] + b"\0", block(0, 0, byte5=0),
+        block(0, 0, size=3), block(0, 0, first=0), block(0, 0, extension=1), dii(1, 0, []), dii(1, 1, [(1, 1, 1)] * 2),
+        block(0, 0, download=1), block(0, 0, module=1), block(0, 0, version=1), block(0, 5, b""), block(0, 0, b"0123456789"), announcement(),
+    ):
         t.step(s, 1)
     t.length(3)
     t.step(block(0, 0), 1)
     t.ask(7, 8)
     # no announcement: then all is zero
     t.start(20, 1)
-    for field, value, place in (("download", 1, 0), ("download", 0x8000_0000, 0), ("block_size", 1, 0), ("count", 1, 0), ("count", 17, 0), ("count", 0x8000, 0), ("number", 1, 0), ("size", 1, 0), ("version", 1, 0), ("start", 1, 0), ("start", 1, 7), ("version", 255, 15), ("marks", 1, 0), ("marks", 0x8000_0000, 0), ("marks", 0x8000_0000, 127), ("marks", 1, 127), ("marks", 2, 77)):
+    for field, value, place in (
+        ("download", 1, 0), ("download", 0x8000_0000, 0), ("block_size", 1, 0), ("count", 1, 0), ("count", 17, 0), ("count", 0x8000, 0),
+        ("number", 1, 0), ("size", 1, 0), ("version", 1, 0), ("start", 1, 0), ("start", 1, 7), ("version", 255, 15), ("marks", 1, 0),
+        ("marks", 0x8000_0000, 0), ("marks", 0x8000_0000, 127), ("marks", 1, 127), ("marks", 2, 77),
+    ):
         t.poke(field, value, place)
         t.step(dii(1, 1, [(1, 1, 1)]), 1)
         t.step(ddb(0, 0, 0, 0, b"x"), 1)
@@ -682,7 +699,9 @@ def main():
     for seed, steps in ((1, 50), (2, 50), (3, 50), (4, 50)):
         walk(t, seed, steps)
     records(t, 13, 21)
-    for name in ["new", "same", "stored", "repeated"] + ["step %d" % n for n in range(1, 18)] + ["handout %d" % n for n in (0, 1, 13, 15, 20)] + ["missing %d" % n for n in (0, 1, 13)] + ["missing none"]:
+    steps = ["new", "same", "stored", "repeated"] + ["step %d" % n for n in range(1, 18)]
+    asked = ["handout %d" % n for n in (0, 1, 13, 15, 20)] + ["missing %d" % n for n in (0, 1, 13)] + ["missing none"]
+    for name in steps + asked:
         assert t.met[name] > 3, name
         if "--count" in sys.argv:
             print("%-12s %4d" % (name, t.met[name]), file=sys.stderr)

@@ -350,7 +350,8 @@ def page_inputs():
 
 def carousel_inputs():
     modules = [(k, 4096, k) for k in range(16)]
-    yield Input("sixteen modules", "The first three complete.", dii(2**32 - 1, 4066, modules) + b"".join(ddb(2**32 - 1, k, k, b, bytes([k + b]) * n) for k in range(3) for b, n in ((0, 4066), (1, 30))))
+    blocks = b"".join(ddb(2**32 - 1, k, k, b, bytes([k + b]) * n) for k in range(3) for b, n in ((0, 4066), (1, 30)))
+    yield Input("sixteen modules", "The first three complete.", dii(2**32 - 1, 4066, modules) + blocks)
     yield Input("the whole image", "One module of 65,536 bytes, its last block heard.", dii(1, 4066, [(65_535, 65_536, 255)]) + ddb(1, 65_535, 255, 16, bytes(480)))
 
 

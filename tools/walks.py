@@ -218,7 +218,8 @@ class Walk:
         yield "denote.Triple.Entry.{Args, Vals, onEntry}"
         yield "denote.Triple.Spec.{Meets, tripleOf}"
         yield "denote.Triple.Table.{entered, cited}"
-        yield "denote.Triple.Walked.{says, Stays, %s, stay-dropped, walkOf, AllGo, goes-dropped, %s}" % (("stay-ref, gave-slice", "goes-ref, goes-gave-slice") if m else ("stay-none-ref", "goes-none-ref"))
+        kept = ("stay-ref, gave-slice", "goes-ref, goes-gave-slice") if m else ("stay-none-ref", "goes-none-ref")
+        yield "denote.Triple.Walked.{says, Stays, %s, stay-dropped, walkOf, AllGo, goes-dropped, %s}" % kept
         yield "denote.Triple.Walked.{Walks, ends-at, walked, walk-meets}"
         yield "denote.Exit.{yes}"
         yield "%s.{%s}" % (self.specs(RECORD[0], "declared." + RECORD[1]), RECORD[1])
@@ -465,7 +466,12 @@ class Walk:
         yield "      %s C Λ fm known))" % " ".join([part("a", i + 1) for i in range(self.k)] + bounds)
         yield ""
         yield "  goes : AllGo 𝓤 H A W %d (me.signature .params) (me.ended .kept) stayed" % lives
-        go = lambda i: "goes-gave-slice 𝓤 H A W %d %d tt (plain (λ _. u8))" % (lives, self.life[i]) if i == self.image_at else "goes-dropped 𝓤 H A W %d (%s) yes (λ κs x f. refl)" % (lives, self.slot(i))
+
+        def go(i):
+            if i == self.image_at:
+                return "goes-gave-slice 𝓤 H A W %d %d tt (plain (λ _. u8))" % (lives, self.life[i])
+            return "goes-dropped 𝓤 H A W %d (%s) yes (λ κs x f. refl)" % (lives, self.slot(i))
+
         own = "goes-ref 𝓤 H A W %d 0 tt (plain (λ _. T.the-row))" % lives if m else "goes-none-ref 𝓤 H A W %d (0 ∷ []) tt (plain (λ _. T.the-row)) yes" % lives
         yield from laid_out("goes", [own] + self.each(go), "  ")
         yield ""
@@ -482,7 +488,8 @@ class Walk:
         yield "    entered 𝓤 H (tripleOf 𝓤 H (𝓖 .A) me.signature (me.spec 𝓤 H (𝓖 .A) (𝓜 .mem) (𝓡 .run)))"
         yield "    (tables 𝓤 H 𝓜 𝓡 code.env .C) (tables 𝓤 H 𝓜 𝓡 code.env .Λ) %s code.function (code.unfolded 𝓤 H 𝓜 𝓡)" % entry
         yield "    (meets 𝓤 H (𝓖 .A) (givenOf 𝓤 H 𝓜 𝓖) (𝓜 .mem) (𝓡 .run) (tablesOf 𝓤 H 𝓜 (tables 𝓤 H 𝓜 𝓡 code.env))"
-        yield "    (cited 𝓤 H (Callee 𝓤 H (𝓖 .A) (𝓜 .mem) (𝓡 .run)) 𝓜 𝓡 code.env %s callee-def.routine code.calls-%s·%s (callee-thm.met 𝓤 H 𝓜 𝓖 𝓡)))" % (callee, dashed(self.crate), dashed(self.callee))
+        called = "code.calls-%s·%s" % (dashed(self.crate), dashed(self.callee))
+        yield "    (cited 𝓤 H (Callee 𝓤 H (𝓖 .A) (𝓜 .mem) (𝓡 .run)) 𝓜 𝓡 code.env %s callee-def.routine %s (callee-thm.met 𝓤 H 𝓜 𝓖 𝓡)))" % (callee, called)
 
     def text(self):
         yield from self.head()

@@ -1,8 +1,8 @@
 // The run over many sections, and what a wheelhouse box calls.
 //
 // What stands at a place of a stretch, what one section comes to, and the run are defined in
-// specs/Run.antt. A section of table 0x74 goes by the application rules, every other by the
-// carousel's.
+// specs/Run.antt, the numbers of kinds and stops in specs/Kinds.antt. A section of table 0x74 goes by
+// the application rules, every other by the carousel's.
 
 use ait_read::ReadAnswer;
 use carousel_record::Carousel;

@@ -1,6 +1,6 @@
 // Reads commands from standard input, each a letter and its numbers (most significant byte first),
 // leads one carousel record and one image through them, and writes a line for each.
-// tests/carousel_test.py, an independent second program, makes the input and says what must come
+// tests/test_carousel.py, an independent second program, makes the input and says what must come
 // out. The record is lent broken too: a poke sets any of its fields.
 //
 //   s length 24, fill 8               start: the empty record, an image of that length
