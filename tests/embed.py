@@ -3,7 +3,8 @@
 prints what the paper's program in Python prints, and of each module what the Python receiver says.
 
     embed.py          compare the declarations
-    embed.py run      the same, then compile and run examples/receive.c over target/staticlib/libnebosvar.a"""
+    embed.py run      the same, then `make install` into a folder of its own, compile examples/receive.c with what pkg-config says of it, and run it"""
+import os
 import platform
 import re
 import subprocess
@@ -121,7 +122,7 @@ def compare_limits():
 
 def compare_readme():
     """The examples that README shows are parts of those that the gate runs."""
-    readme = (ROOT / "README.md").read_text().split("## Embed it", 1)[1]
+    readme = (ROOT / "README.md").read_text()
     for language, path in (("c", "examples/receive.c"), ("rust", "rust/nebosvar/examples/receive.rs")):
         shown = re.search(r"```%s\n(.*?)```" % language, readme, re.S)[1]
         assert shown in (ROOT / path).read_text(), "README shows another example than %s" % path
@@ -162,13 +163,19 @@ def check_needs(archive):
     assert asked <= {"memcpy", "memset"} and defined == set(rattle()[0]), (asked, defined)
 
 
-def compile_strictly(source, archive, receive):
+def asked_of(prefix, what):
+    """What pkg-config says of the archive that is installed there."""
+    told = subprocess.run(["pkg-config", what, "nebosvar"], env={**os.environ, "PKG_CONFIG_PATH": str(prefix / "lib" / "pkgconfig")}, check=True, capture_output=True, text=True)
+    return told.stdout.split()
+
+
+def compile_strictly(source, prefix, receive):
     """Compiles the example with every warning an error, and gives the command that runs it. Where the machine is no x86-64, gcc
     looks at it, and the kit's own compiler makes it for the kit's emulator, with the machine's C headers."""
-    strict = ["-Wall", "-Wextra", "-Werror", "-I%s" % HEADER.parent]
-    subprocess.run(["g++", *strict, "-fsyntax-only", "-x", "c++", HEADER], check=True)
+    strict = ["-Wall", "-Wextra", "-Werror", *asked_of(prefix, "--cflags")]
+    subprocess.run(["g++", *strict, "-fsyntax-only", "-x", "c++", prefix / "include" / "nebosvar.h"], check=True)
     if platform.machine() == "x86_64":
-        subprocess.run(["gcc", *strict, source, archive, "-o", receive], check=True)
+        subprocess.run(["gcc", *strict, source, *asked_of(prefix, "--libs"), "-o", receive], check=True)
         return [receive]
     subprocess.run(["gcc", *strict, "-fsyntax-only", source], check=True)
     asked = [subprocess.run(["gcc", w], check=True, capture_output=True, text=True).stdout.strip() for w in ("-print-file-name=include", "-dumpmachine")]
@@ -180,15 +187,27 @@ def compile_strictly(source, archive, receive):
         [program.kit() / "lib" / f for f in files]
         for files in (("Scrt1.o", "crti.o", "crtbeginS.o"), ("libc.so.6", "libc_nonshared.a", "libgcc.a", "crtendS.o", "crtn.o"))
     )
-    subprocess.run([lld, "-pie", "--dynamic-linker", "/lib64/ld-linux-x86-64.so.2", *first, made, archive, *last, "-o", receive], check=True)
+    subprocess.run([lld, "-pie", "--dynamic-linker", "/lib64/ld-linux-x86-64.so.2", *first, made, *asked_of(prefix, "--libs"), *last, "-o", receive], check=True)
     return program.under_the_kit(receive)
 
 
+def install(prefix):
+    """What `make install` puts there, and that the programs among it run."""
+    subprocess.run(["make", "--silent", "-C", ROOT, "install", "PREFIX=%s" % prefix], check=True)
+    put = {str(p.relative_to(prefix)) for p in prefix.rglob("*") if p.is_file()}
+    wanted = {"bin/receive", "bin/inspect", "lib/libnebosvar.a", "lib/pkgconfig/nebosvar.pc", "include/nebosvar.h"}
+    assert put == wanted, put ^ wanted
+    printed = subprocess.run(program.under_the_kit(prefix / "bin" / "receive"), input=program.EXAMPLE.stdin, capture_output=True, check=True).stdout
+    assert printed == program.PRINTED, printed
+    print("embed.py: make install puts %s" % ", ".join(sorted(put)))
+
+
 def run_example():
-    archive = ROOT / "target" / "staticlib" / "libnebosvar.a"
-    check_needs(archive)
     with tempfile.TemporaryDirectory() as folder:
-        command = compile_strictly(ROOT / "examples" / "receive.c", archive, Path(folder) / "receive")
+        prefix = Path(folder) / "prefix"
+        install(prefix)
+        check_needs(prefix / "lib" / "libnebosvar.a")
+        command = compile_strictly(ROOT / "examples" / "receive.c", prefix, Path(folder) / "receive")
         print("embed.py: the C example over %d modules" % check_modules(command))
         subprocess.run([sys.executable, ROOT / "tests" / "program.py", "run", *command], check=True)
 

@@ -1,7 +1,8 @@
-// For a radio fitter: reads the first 65,536 bytes of standard input as `receive` does, and prints
-// all that was read of each section and, at the end, of the record: a comma-separated line each.
-// The lines are listed in tests/test_inspect.py, an independent second program, which makes an input
-// and says what must come out.
+// For a radio fitter: all that was read of each section and, at the end, of the record.
+//
+// It reads as `receive` does and prints comma-separated lines. They are listed in
+// tests/test_inspect.py, an independent second program, which makes an input and says what must come
+// out.
 mod items;
 mod page;
 mod record;

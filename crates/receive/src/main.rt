@@ -1,6 +1,7 @@
-// The paper's program: reads the first 65,536 bytes of standard input and nothing beyond, runs an
-// empty record over them, and prints what became of each section. A read that fails ends the input;
-// an output that is closed ends the program.
+// The paper's program: what became of each section, a line each, and why it stopped.
+//
+// It reads the first 65,536 bytes of standard input and nothing beyond, and runs an empty record over
+// them. A read that fails ends the input; an output that is closed ends the program.
 ghost use mathlib.Core.Path.{_≡_};
 ghost use lib.ListN.{length};
 

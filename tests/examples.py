@@ -1,0 +1,139 @@
+#!/usr/bin/env python3
+"""The captures of examples/, made by the second programs, and what README shows of them.
+
+    examples.py          compare the stored captures with what is made here, and README with what the second programs print of them
+    examples.py --write  the same, but first write the captures
+    examples.py built    the same, and run what README shows, `./run PROGRAM < CAPTURE`
+"""
+import re
+import subprocess
+import sys
+
+import program
+import test_inspect
+from receiver import ddb, dii
+from second import ROOT
+from test_ait import ait, app, d00, d02, desc
+
+SECOND = {"receive": program.program, "inspect": test_inspect.printed}
+
+# ---- the carousel of both captures: a drift list of 100 bytes and a chart of 60, in blocks of 40
+
+DOWNLOAD, BLOCK = 2026, 40
+DRIFT, CHART = (1, 100, 3), (2, 60, 0)  # number, size, version
+
+
+def contents(module):
+    number, size, _ = module
+    return bytes((37 * number + 11 * k) % 256 for k in range(size))
+
+
+def block(module, b, **given):
+    number, _, version = module
+    right = {"module": number, "version": version, "block": b, "data": contents(module)[BLOCK * b : BLOCK * b + BLOCK], "download": DOWNLOAD}
+    return ddb(**{**right, **given})
+
+
+def announcement():
+    return dii(DOWNLOAD, BLOCK, [DRIFT, CHART])
+
+
+# An application's name in English, the carousel's component 0x40 that carries it (label 7), and its first page
+REST = desc(1, b"eng\x0aDrift list") + d02(1, 7, b"\x7f\x40") + desc(0x15, b"drift.html")
+
+
+def table(own):
+    """One application, started by itself."""
+    return ait(apps=app(own, 0x17, 0x4001, 1), extension=0x10)
+
+
+# ---- the captures
+
+
+def whole():
+    """A table and a carousel heard whole: blocks out of order, one twice, the announcement again."""
+    yield table(d00(bytes([0, 1, 1, 1, 1]), flags=0xFF, priority=9, labels=b"\x07") + REST)
+    yield announcement()
+    for module, b in ((DRIFT, 2), (CHART, 0), (DRIFT, 0), (DRIFT, 0)):
+        yield block(module, b)
+    yield announcement()
+    yield block(CHART, 1)
+    yield block(DRIFT, 1)
+
+
+def damaged():
+    """The same carousel, badly heard: block 1 of the drift list never comes as announced. The table's application has no 0x00."""
+    flipped = bytearray(block(DRIFT, 1))
+    flipped[30] ^= 4
+    yield table(REST)
+    yield announcement()
+    yield block(DRIFT, 0)
+    yield bytes(flipped)
+    yield block(DRIFT, 1, version=2)
+    yield block(DRIFT, 1, download=2025)
+    yield block(DRIFT, 0, data=bytes(BLOCK))
+    yield block(DRIFT, 2)
+    yield block(CHART, 0)
+    yield block(CHART, 1)
+    yield block(DRIFT, 1)[:50]
+
+
+# What must come out by the paper's words: each section's kind, or its number if refused; then the stop.
+CAPTURES = {
+    "whole.sections": (whole(), "table new stored stored stored repeated same stored stored end"),
+    "damaged.sections": (damaged(), "18 new stored 5 14 12 17 stored stored stored short"),
+}
+
+
+def check_captures(write):
+    for name, (sections, wanted) in CAPTURES.items():
+        made, path = b"".join(sections), ROOT / "examples" / name
+        assert program.told(program.program(made)) == wanted.split(), (name, program.told(program.program(made)))
+        if write:
+            path.write_bytes(made)
+        if path.read_bytes() != made:
+            sys.exit("%s is not what tests/examples.py makes: run it with --write and look at the change" % path)
+
+
+# ---- README: each `./run PROGRAM < examples/CAPTURE` with what it prints below it
+
+
+def shown():
+    """Program, capture and text of each command that README shows with what it prints; `...` stands for lines left out."""
+    lines = (ROOT / "README.md").read_text().splitlines()
+    for n, line in enumerate(lines):
+        command = re.fullmatch(r"    \$ \./run (\w+) < (examples/\S+)", line)
+        if command:
+            text = []
+            while n + 1 < len(lines) and lines[n + 1].startswith("    ") and not lines[n + 1].startswith("    $"):
+                n += 1
+                text.append(lines[n][4:])
+            yield command[1], command[2], text
+
+
+def agree(text, printed):
+    """The text is what was printed, but for lines left out at `...`."""
+    pattern = "".join("(?:.*\n)+?" if line == "..." else re.escape(line) + "\n" for line in text)
+    return re.fullmatch(pattern, printed) is not None
+
+
+def check_readme(built):
+    commands = list(shown())
+    assert {c[0] for c in commands} == set(SECOND) and {c[1] for c in commands} == {"examples/" + n for n in CAPTURES}, commands
+    for name, capture, text in commands:
+        stdin = (ROOT / capture).read_bytes()
+        wanted = SECOND[name](stdin).decode()
+        assert agree(text, wanted), "README shows of ./run %s < %s what is not printed:\n%s" % (name, capture, wanted)
+        if built:
+            got = subprocess.run([ROOT / "run", name], input=stdin, stdout=subprocess.PIPE, check=True).stdout.decode()
+            assert got == wanted, "./run %s < %s prints\n%s" % (name, capture, got)
+    return len(commands)
+
+
+def main():
+    check_captures("--write" in sys.argv)
+    built = "built" in sys.argv
+    print("examples: %d captures; README shows %d commands with what %s prints" % (len(CAPTURES), check_readme(built), "./run" if built else "the second program"))
+
+
+main()
