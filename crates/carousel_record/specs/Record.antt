@@ -108,6 +108,6 @@ unfoldable pub allUnused : List Module → Bool
 allUnused [] = true
 allUnused (m ∷ ms) = isUnused m && allUnused ms
 
--- "at most 16 modules; .. unused entries .. are zero", and what the record says keeps the rule
+-- "at most 16 modules; .. unused entries .. are zero", and what the record says keeps the rule. 1: "record breaks its rule" is where this is false
 unfoldable pub ruledOf : Carousel → Bool
 ruledOf c = leb (c .count) mostModules && allUnused (drop (c .count) (c .modules)) && ruled (recordOf c)

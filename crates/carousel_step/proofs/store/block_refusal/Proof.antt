@@ -60,7 +60,7 @@ some c e = c .if1 .left (sym (count (from1 c)) ∙ e)
 
 differs : (c : tie.Then2) → let s = from1 (c .before .before .before) in a s .download ≡ d s .download → ⊥
 unfolding announcedBy arrivedIn
-differs c e = c .if2 .taken e
+differs c e = omega (arith, e, c .if2 .taken)
 
 its : (c : tie.Else2) → let s = from1 (from2 c) in a s .download ≡ d s .download
 unfolding announcedBy arrivedIn
