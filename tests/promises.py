@@ -1,30 +1,21 @@
 #!/usr/bin/env python3
-"""Every name that docs/PROMISES.md cites stands in the tree: a definition, a theorem, a function, a file, a folder or a must-fail edit."""
+"""Every name that docs/PROMISES.md and docs/NUMBERS.md cite stands in the crate that is named with it (how: tests/names.py), every edit of the gate and
+of the wrong answers is cited in docs/PROMISES.md, and no two edits have one name."""
 import re
 import sys
-from pathlib import Path
+from collections import Counter
 
-ROOT = Path(__file__).resolve().parent.parent
-text = (ROOT / "docs" / "PROMISES.md").read_text()
-trees = [p.read_text() for pattern in ("crates/*/specs/*.antt", "crates/*/proofs/**/*.antt", "crates/*/src/**/*.rt") for p in ROOT.glob(pattern)]
-words = set(re.findall(r"[^\s(){}.,;:`]+", "\n".join(trees)))
-edits = {p.stem for p in ROOT.glob("crates/*/must-fail/*.edit")}
-cited = set(re.findall(r"`([^`]+)`", text))
-missing = []
-for name in sorted(cited):
-    path = name.rstrip("/")
-    found = (
-        name in words
-        or name in edits
-        or (ROOT / path).exists()
-        or any(ROOT.glob("crates/*/specs/%s.antt" % path))
-        or any(ROOT.glob("crates/*/proofs/%s.antt" % path))
-        or all(part in words for part in re.findall(r"[\w\-]+", name))
-        or "/C/" in name  # a pattern for each crate C
-    )
-    if not found:
-        missing.append(name)
-uncited = sorted(edits - cited)
-if missing or uncited:
-    sys.exit("docs/PROMISES.md cites what is not there: %s; and does not cite the edits: %s" % (missing, uncited))
-print("promises: %d names of docs/PROMISES.md stand in the tree, %d edits among them" % (len(cited), len(edits)))
+import names
+
+edits = Counter(p.stem for room in ("must-fail", "wrong-answers") for p in names.ROOT.glob("crates/*/%s/*.edit" % room))
+faults = ["two edits are called %s" % e for e, n in edits.items() if n > 1]
+counts = []
+for document in ("PROMISES.md", "NUMBERS.md"):
+    text = (names.ROOT / "docs" / document).read_text()
+    wrong, count = names.faults(text)
+    faults += ["docs/%s cites what is not there: %s" % (document, w) for w in wrong]
+    counts.append("%d of docs/%s" % (count, document))
+    if document == "PROMISES.md":
+        faults += ["docs/PROMISES.md does not cite the edit %s" % e for e in sorted(set(edits) - set(re.findall(r"`([^`]+)`", text)))]
+print("\n".join(faults) or "promises: the names, %s, stand in the crates that are named; %d edits among them" % (" and ".join(counts), len(edits)))
+sys.exit(bool(faults))
