@@ -66,7 +66,7 @@ bodyTests b = (7, bodyMeets7 b) ∷ (18, meets18 b) ∷ []
 unfoldable pub bodyRefusal : List ℕ → ℕ
 bodyRefusal b = firstMet (bodyTests b)
 
--- A well-formed body as a reader would say it.
+-- A well-formed body, clause by clause.
 pub record WellFormed (b : List ℕ) : Type 0 where
   -- the two lengths and the two loops are all of the body: nothing is left over before the CRC
   pub ends : 4 + commonLength b + loopLength b ≡ length b

@@ -21,7 +21,7 @@ use Rattle.ait_body.specs.Body.{goodLoop, soleLoop, ownLoop, applicationLoop, W
 use Rattle.ait_descriptors.specs.Kinds.{application}
 use Rattle.ait_read.specs.declared.Class.the-variants.{Unsigned, Signed}
 use Rattle.ait_read.specs.declared.Control.the-variants.{Reserved}
-use Rattle.ait_read.specs.Acceptance.{tableJudged, GoodTable}
+use Rattle.ait_read.specs.Acceptance.{tableJudged, FormedTable}
 use Rattle.ait_read.specs.Records.{classOf, controlOf}
 use Rattle.ait_read.proofs.Laws.Exact.{accepted-exactly}
 

@@ -28,8 +28,8 @@ tableJudged s =
     onChecked (checkedOf Application s) (λ r. Refused r) (λ h.
     cond (eqb (bodyRefusal (bodyOf s)) 0) (Accepted h) (Refused (refused (bodyRefusal (bodyOf s)))))
 
--- An accepted application section as a reader would say it: every clause of the paper, none of them a test.
-pub record GoodTable (s : List ℕ) : Type 0 where
+-- An accepted application section by the clauses of its tests, one by one. In plain facts, none of them a test, it is `GoodTable` of ait_grammar.
+pub record FormedTable (s : List ℕ) : Type 0 where
   -- the section: header, length, CRC
   pub section : GoodSection Application s
   -- the body: both loops, each descriptor and its known contents

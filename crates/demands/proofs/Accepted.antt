@@ -19,7 +19,7 @@ use Rattle.section.proofs.Laws.Exact.{accepted-has}
 use Rattle.ait_read.specs.declared.Table.{Table}
 use Rattle.ait_read.specs.declared.ReadAnswer.{ReadAnswer}
 use Rattle.ait_read.specs.declared.ReadAnswer.the-variants as reading
-use Rattle.ait_read.specs.Acceptance.{tableJudged, GoodTable}
+use Rattle.ait_read.specs.Acceptance.{tableJudged, FormedTable}
 use Rattle.ait_read.specs.Answers.{readAnswer, readTable}
 use Rattle.ait_read.proofs.Laws.Acceptance.{judged-has}
 use Rattle.ait_read.proofs.Laws.Exact.{accepted-exactly, read-exactly}
@@ -45,11 +45,11 @@ use Rattle.receiver.specs.Run.{readFate, tableFate, carouselFate, givenOf}
 use Rattle.receiver.proofs.Laws.Fates.{fate-table, fate-other, fate-tells}
 
 -- AN APPLICATION SECTION: whatever table is read, the section is a good one
-pub read-good : (s : List ℕ) (t : Table) → readAnswer s ≡ reading.Accepted t → GoodTable s
+pub read-good : (s : List ℕ) (t : Table) → readAnswer s ≡ reading.Accepted t → FormedTable s
 unfolding readAnswer
 read-good s t e = go (tableJudged s) refl e
   where
-    go : (c : Checked) → tableJudged s ≡ c → onChecked c (λ r. reading.Refused r) (λ h. reading.Accepted (readTable h s)) ≡ reading.Accepted t → GoodTable s
+    go : (c : Checked) → tableJudged s ≡ c → onChecked c (λ r. reading.Refused r) (λ h. reading.Accepted (readTable h s)) ≡ reading.Accepted t → FormedTable s
     go (checked.Refused r) j e = let z : _≡_ {A = ℕ} 0 1 = cc in absurd (omega arith)
     go (checked.Accepted h) j e = accepted-exactly s .0 (j ∙ ap checked.Accepted (accepted-has Application s h (judged-has s h j .0) .0))
 
@@ -197,23 +197,23 @@ no-table answer.Stored e = let z : _≡_ {A = ℕ} 0 1 = cc in omega arith
 no-table answer.Repeated e = let z : _≡_ {A = ℕ} 0 1 = cc in omega arith
 no-table (answer.Refused r) e = let z : _≡_ {A = ℕ} 0 1 = cc in omega arith
 
-fate-good : (s : List ℕ) → tableFate s ≡ fate.Table → GoodTable s
+fate-good : (s : List ℕ) → tableFate s ≡ fate.Table → FormedTable s
 unfolding readFate
 fate-good s e = go (readAnswer s) refl e
   where
-    go : (a : ReadAnswer) → readAnswer s ≡ a → readFate a ≡ fate.Table → GoodTable s
+    go : (a : ReadAnswer) → readAnswer s ≡ a → readFate a ≡ fate.Table → FormedTable s
     go (reading.Refused r) f e = let z : _≡_ {A = ℕ} 0 1 = cc in absurd (omega arith)
     go (reading.Accepted t) f e = read-good s t f
 
 module _ (c : Carousel) (s image : List ℕ) where
-  pub table-good : givenOf c s image .fate ≡ fate.Table → GoodTable s
+  pub table-good : givenOf c s image .fate ≡ fate.Table → FormedTable s
   table-good e = go (eqb (byteAt s 0) applicationTable) refl
     where
-      go : (t : Bool) → eqb (byteAt s 0) applicationTable ≡ t → GoodTable s
+      go : (t : Bool) → eqb (byteAt s 0) applicationTable ≡ t → FormedTable s
       go true f = fate-good s (sym (fate-table c s image f) ∙ e)
       go false f = absurd (no-table (steppedOf c s image .answer) (sym (fate-other c s image f) ∙ e))
 
-  pub good-table : GoodTable s → givenOf c s image .fate ≡ fate.Table
+  pub good-table : FormedTable s → givenOf c s image .fate ≡ fate.Table
   unfolding readFate
   good-table g = fate-table c s image (g .section .table) ∙ ap readFate (read-exactly s g)
 

@@ -3,8 +3,9 @@
 --   "An application section is accepted exactly when it is well formed under ETSI TS 102 809, as narrowed in the paper, and each record read from it is what that text says.
 --   Announcements and blocks are judged the same way under ISO/IEC 13818-6, with the paper's narrowings."
 --
--- "Well formed" is said once for each kind of section, every clause of the paper as a plain fact: `GoodTable` (ait_read `Acceptance`, with ait_body `WellFormed` and
--- section `GoodSection`), `GoodAnnouncement` and `GoodBlock` (carousel_messages `Good`). What a section says is `saidAnnouncement` and `saidBlock`, field by field from its bytes; of a table it is
+-- "Well formed" is said for each kind of section in plain facts, none of them a test: `GoodTable` (ait_grammar `Good`: there are values that the body spells; with
+-- section `GoodSection`), `GoodAnnouncement` and `GoodBlock` (carousel_messages `Good`). `Bytes s` is what every `&[u8]` is: numbers below 256.
+-- What a section says is `saidAnnouncement` and `saidBlock`, field by field from its bytes; of a table it is
 -- the contracts of `read`, `application_at`, `descriptor_at`, `item_at`, `extension_at`, `resolve`, each an equation with the text's own bytes.
 -- A number is given exactly in its stated case: the tests of the paper's table stand in its order, with its exception, in `applicationTests` and `stepTests`, and `First n`
 -- says that the first of them that holds is of n; `None`, that none holds.
@@ -21,10 +22,13 @@ use Rattle.wire.proofs.Laws.Order.{First, None, first-exactly, none-exactly}
 use Rattle.section.specs.Header.{headerOf}
 use Rattle.ait_read.specs.declared.Table.{Table}
 use Rattle.ait_read.specs.declared.ReadAnswer.the-variants as reading
-use Rattle.ait_read.specs.Acceptance.{applicationTests, GoodTable}
+use Rattle.ait_read.specs.Acceptance.{applicationTests}
 use Rattle.ait_read.specs.Answers.{readAnswer, readTable, numberOfRead, readNumber}
 use Rattle.ait_read.proofs.Laws.Exact.{rising, read-exactly}
 use Rattle.ait_read.proofs.Laws.Numbers.{read-number}
+use Rattle.ait_grammar.specs.Bytes.{Bytes}
+use Rattle.ait_grammar.specs.Good.{GoodTable}
+use Rattle.ait_grammar.proofs.Exact.{good-exactly}
 use Rattle.carousel_messages.specs.Good.{GoodAnnouncement, GoodBlock, saidAnnouncement, saidBlock}
 use Rattle.carousel_record.specs.declared.Carousel.{Carousel}
 use Rattle.carousel_step.specs.declared.Answer.the-variants as answer
@@ -56,8 +60,12 @@ use Rattle.demands.proofs.Accepted.{
 -- AN APPLICATION SECTION
 module _ (s : List ℕ) where
   -- accepted exactly when well formed, and then with the header's fields and the counts of its loops
-  pub table-accepted : (t : Table) → (readAnswer s ≡ reading.Accepted t) ↔ (GoodTable s × (readTable (headerOf s) s ≡ t))
-  table-accepted t = (λ e. let g = read-good s t e in (g, same (sym (read-exactly s g) ∙ e)), λ w. read-exactly s (w .0) ∙ ap reading.Accepted (w .1))
+  pub table-accepted : Bytes s → (t : Table) → (readAnswer s ≡ reading.Accepted t) ↔ (GoodTable s × (readTable (headerOf s) s ≡ t))
+  table-accepted y t =
+      let same-said = good-exactly s y in (
+        λ e. let g = read-good s t e in (same-said .0 g, same (sym (read-exactly s g) ∙ e)),
+        λ w. read-exactly s (same-said .1 (w .0)) ∙ ap reading.Accepted (w .1),
+      )
     where
       same : reading.Accepted (readTable (headerOf s) s) ≡ reading.Accepted t → readTable (headerOf s) s ≡ t
       same e = cc
@@ -105,8 +113,8 @@ module _ (c : Carousel) (s image : List ℕ) where
   take-number = given-number c s image
 
   -- THE RECEIVER'S KINDS are these answers': a section is a "table", "new", "same", "stored" or "repeated" exactly where it is accepted as such
-  pub kind-table : (givenOf c s image .fate ≡ fate.Table) ↔ GoodTable s
-  kind-table = (table-good c s image, good-table c s image)
+  pub kind-table : Bytes s → (givenOf c s image .fate ≡ fate.Table) ↔ GoodTable s
+  kind-table y = let same-said = good-exactly s y in (λ e. same-said .0 (table-good c s image e), λ g. good-table c s image (same-said .1 g))
 
   pub kind-new : (givenOf c s image .fate ≡ fate.New) ↔ (steppedOf c s image .answer ≡ answer.New)
   unfolding carouselFate

@@ -28,7 +28,7 @@ use Rattle.ait_read.specs.declared.DescriptorAnswer.the-variants as desc
 use Rattle.ait_read.specs.declared.ItemAnswer.the-variants as item
 use Rattle.ait_read.specs.declared.ExtensionAnswer.the-variants as extension
 use Rattle.ait_read.specs.declared.Resolved.the-variants as resolved
-use Rattle.ait_read.specs.Acceptance.{applicationTests, tableJudged, GoodTable}
+use Rattle.ait_read.specs.Acceptance.{applicationTests, tableJudged, FormedTable}
 use Rattle.ait_read.specs.Answers.{locatedOf, readTable, readAnswer, applicationAnswer, descriptorAnswer, itemAnswer, extensionAnswer, resolveAnswer}
 use Rattle.ait_read.proofs.Laws.Acceptance.{judged-refused, judged-bad, judged-good, judged-has}
 
@@ -68,19 +68,19 @@ module _ (s : List ℕ) where
   refused-exactly n p = rw number-is (lowest-met (applicationTests s) rising n p)
 
   -- ACCEPTED EXACTLY WHEN WELL FORMED, and then with the header's fields
-  pub accepted-exactly : (tableJudged s ≡ Accepted (headerOf s)) ↔ GoodTable s
+  pub accepted-exactly : (tableJudged s ≡ Accepted (headerOf s)) ↔ FormedTable s
   accepted-exactly = (there, back)
     where
-      there : tableJudged s ≡ Accepted (headerOf s) → GoodTable s
+      there : tableJudged s ≡ Accepted (headerOf s) → FormedTable s
       there e =
           let g = judged-has s (headerOf s) e in
           let b = body.accepted-exactly (bodyOf s) .0 (g .1) in
           record { section = section.accepted-exactly Application s .0 (g .0); body = b .0; sole = b .1 }
 
-      back : GoodTable s → tableJudged s ≡ Accepted (headerOf s)
+      back : FormedTable s → tableJudged s ≡ Accepted (headerOf s)
       back g = sym (judged-good s (headerOf s) (section.accepted-exactly Application s .1 (g .section)) (body.accepted-exactly (bodyOf s) .1 (g .body, g .sole)))
 
-  pub read-exactly : GoodTable s → readAnswer s ≡ read.Accepted (readTable (headerOf s) s)
+  pub read-exactly : FormedTable s → readAnswer s ≡ read.Accepted (readTable (headerOf s) s)
   unfolding readAnswer
   read-exactly g = rw (accepted-exactly .1 g)
 

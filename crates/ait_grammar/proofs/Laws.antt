@@ -1,0 +1,16 @@
+pub mod Bytes
+pub mod Forms
+pub mod Followed
+pub mod Counted
+pub mod Repeated
+pub mod Framed
+pub mod Sized
+pub mod Tag00
+pub mod Tag01
+pub mod Bases
+pub mod Tag02
+pub mod Tag05
+pub mod Contents
+pub mod Sole
+pub mod Applications
+pub mod Loops
