@@ -128,19 +128,22 @@ pub own-are : (a : ApplicationValue) → FitsApplication a → items descriptor 
 own-are a f = rw (own-loop a f) (loop-items (a .descriptors) (f .descriptors))
 
 -- THE WHOLE SECTION
+-- what is well formed keeps the clauses of the tests
+pub good-formed : (s : List ℕ) → GoodTable s → FormedTable s
+good-formed s g = let a = body.accepted-exactly (bodyOf s) .0 (there (bodyOf s) (g .table, g .body)) in record { section = g .section; body = a .0; sole = a .1 }
+
 module _ (s : List ℕ) (y : Bytes s) where
   body-bytes : Bytes (bodyOf s)
   body-bytes = bytes-take (length s - 12) (drop 8 s) (bytes-drop 8 s y)
 
-  -- the clauses of the tests hold exactly where there are such values
+  -- and they hold exactly where there are such values
   pub good-exactly : FormedTable s ↔ GoodTable s
-  good-exactly = (forth, from)
+  good-exactly = (forth, good-formed s)
     where
       forth : FormedTable s → GoodTable s
-      forth g = let v = back (bodyOf s) body-bytes (body.accepted-exactly (bodyOf s) .1 (g .body, g .sole)) in record { section = g .section; table = v .0; body = v .1 }
-
-      from : GoodTable s → FormedTable s
-      from g = let a = body.accepted-exactly (bodyOf s) .0 (there (bodyOf s) (g .table, g .body)) in record { section = g .section; body = a .0; sole = a .1 }
+      forth g =
+          let v = back (bodyOf s) body-bytes (body.accepted-exactly (bodyOf s) .1 (g .body, g .sole)) in
+          record { section = g .section; table = v .0; body = v .1 }
 
   -- ACCEPTED EXACTLY WHEN WELL FORMED
   pub section-exactly : (tableJudged s ≡ Accepted (headerOf s)) ↔ GoodTable s

@@ -14,3 +14,4 @@ pub mod Contents
 pub mod Sole
 pub mod Applications
 pub mod Loops
+pub mod Placed

@@ -6,3 +6,4 @@ pub mod Tag05
 pub mod Contents
 pub mod Table
 pub mod Good
+pub mod Shown
