@@ -17,28 +17,32 @@ use Rattle.ait_descriptors.specs.declared.Kind.the-variants as kind
 use Rattle.ait_descriptors.specs.Kinds.{application, descriptor, sizeOf}
 use Rattle.ait_descriptors.proofs.Laws.Kinds.{application-kind, kind-of}
 use Rattle.ait_read.specs.declared.Application.{Application}
+use Rattle.ait_read.specs.declared.Scope.{Scope}
+use Rattle.ait_read.specs.declared.Scope.the-variants as scope
 use Rattle.ait_read.specs.declared.ApplicationAnswer.the-variants as application-answer
+use Rattle.ait_read.specs.declared.DescriptorAnswer.the-variants as descriptor-answer
 use Rattle.ait_read.specs.Acceptance.{tableJudged}
-use Rattle.ait_read.specs.Places.{commonAt, loopAt, applicationAt, ownAt, countAt}
+use Rattle.ait_read.specs.Places.{commonAt, loopAt, applicationAt, ownAt, scopeAt, descriptorAt, countAt}
 use Rattle.ait_read.specs.Records.{applicationOf, classOf, controlOf}
-use Rattle.ait_read.specs.Answers.{applicationAnswer, readTable}
+use Rattle.ait_read.specs.Answers.{applicationAnswer, descriptorAnswer, readTable}
 use Rattle.ait_read.proofs.Laws.Exact as reading
 use Rattle.ait_read.proofs.Laws.Acceptance.{located-at}
-use Rattle.ait_read.proofs.Laws.Places.{sound-loop}
-use Rattle.ait_read.proofs.Laws.Made.{common-part, loop-part}
+use Rattle.ait_read.proofs.Laws.Places.{sound-loop, sound-scope}
+use Rattle.ait_read.proofs.Laws.Made.{common-part, loop-part, own-part}
 use Rattle.ait_body.specs.Body.{WellFormed, ownLoop}
 use Rattle.ait_grammar.specs.Bytes.{Each, spellAll, sized12}
 use Rattle.wire.specs.Fields.{spelled}
 use Rattle.wire.proofs.Laws.Fields.{spelled-length}
-use Rattle.ait_grammar.specs.Contents.{DescriptorValue, spellDescriptor}
+use Rattle.ait_grammar.specs.Contents.{DescriptorValue, spellDescriptor, FitsDescriptor}
 use Rattle.ait_grammar.specs.Table.{ApplicationValue, TableValue, FitsApplication, Sole00, Spells, spellApplication}
 use Rattle.ait_grammar.specs.Good.{GoodTable}
-use Rattle.ait_grammar.specs.Shown.{ValueAt, applicationShown}
+use Rattle.ait_grammar.specs.Shown.{ValueAt, applicationShown, descriptorShown}
 use Rattle.ait_grammar.proofs.Laws.Placed.{value-found}
 use Rattle.ait_grammar.proofs.Laws.Contents.{loop-items}
 use Rattle.ait_grammar.proofs.Laws.Sole.{soleGood, sole-form}
 use Rattle.ait_grammar.proofs.Laws.Applications.{applications-items, both-each}
 use Rattle.ait_grammar.proofs.Laws.Loops.{common-loop, application-loop, own-loop, organisation-said, number-said, code-said}
+use Rattle.ait_grammar.proofs.Laws.Described.{descriptor-read}
 use Rattle.ait_grammar.proofs.Exact.{good-formed}
 
 -- the one at a place keeps what each keeps
@@ -128,3 +132,38 @@ module _ (s : List ℕ) (g : GoodTable s) where
         let f = found in
         rw (sym (located-at s (applicationAt i s) (headerOf s) accepted (f .0) (length (spellApplication v)) (f .1)), f .2)
         (ap application-answer.Found (application-read v its))
+
+    -- its own descriptors, spelled end to end
+    own-spelled : partAt (ownAt i s) s ≡ spellAll spellDescriptor (v .descriptors)
+    own-spelled =
+        let f = found in
+        own-part s sized formed i (f .0) (length (spellApplication v)) (f .1) ∙ ap ownLoop (f .2) ∙ own-loop v its
+
+  -- the descriptors of a scope: the common ones, or those of the application at a place
+  abbrev pub DescriptorsOf : Scope → List DescriptorValue → Type 0
+  DescriptorsOf scope.Common ds = t .common ≡ ds
+  DescriptorsOf (scope.Own i) ds = (v : ApplicationValue) × ValueAt i (t .applications) v × (v .descriptors ≡ ds)
+
+  scope-spelled : (o : Scope) (ds : List DescriptorValue) → DescriptorsOf o ds → (partAt (scopeAt o s) s ≡ spellAll spellDescriptor ds) × Each FitsDescriptor ds
+  unfolding scopeAt
+  scope-spelled scope.Common ds e = (common-spelled ∙ ap (spellAll spellDescriptor) e, rw (← e) (g .body .fits .common))
+  scope-spelled (scope.Own i) ds e = (own-spelled i (e .0) (e .1) ∙ ap (spellAll spellDescriptor) (e .2), rw (← e .2) (its i (e .0) (e .1) .descriptors))
+
+  module _ (o : Scope) (ds : List DescriptorValue) (of : DescriptorsOf o ds) (j : ℕ) (d : DescriptorValue) (e : ValueAt j ds d) where
+    fits-here : FitsDescriptor d
+    fits-here = each-at FitsDescriptor j ds d (scope-spelled o ds of .1) e
+
+    -- where the descriptor lies, and that its bytes are the value's
+    pub descriptor-found : (c : ℕ) × (descriptorAt o j s ≡ At c (length (spellDescriptor d))) × (take (length (spellDescriptor d)) (drop c s) ≡ spellDescriptor d)
+    unfolding descriptorAt sizeOf
+    descriptor-found =
+        let q = scope-spelled o ds of in
+        value-found spellDescriptor descriptor (kind-of kind.Descriptor) ds (loop-items ds (q .1)) j d e (scopeAt o s) s (sound-scope o s) (q .0)
+
+    -- `descriptor_at` SHOWS THE VALUE, its spans counted from where it lies
+    pub descriptor-shown : descriptorAnswer s o j ≡ descriptor-answer.Found (descriptorShown d (descriptor-found .0))
+    unfolding descriptorAnswer
+    descriptor-shown =
+        let f = descriptor-found in
+        rw (sym (located-at s (descriptorAt o j s) (headerOf s) accepted (f .0) (length (spellDescriptor d)) (f .1)), f .2)
+        (ap descriptor-answer.Found (descriptor-read d fits-here (f .0)))

@@ -15,3 +15,5 @@ pub mod Sole
 pub mod Applications
 pub mod Loops
 pub mod Placed
+pub mod Shown
+pub mod Described

@@ -104,7 +104,7 @@ base-form =
     (λ p f. record { text = f .0; count = f .1 .0; extensions = f .1 .1 })
     (λ v f. ((v .text, (tt, v .extensions)), refl, (f .text, (f .count, f .extensions))))
 
-base-kind : IsKind base
+pub base-kind : IsKind base
 unfolding sizeOf
 base-kind = kind-of kinds.Base
 
