@@ -17,3 +17,4 @@ pub mod Loops
 pub mod Placed
 pub mod Shown
 pub mod Described
+pub mod ItemsRead

@@ -3,25 +3,36 @@ use Prim.Native.Nat.{ℕ, zero, suc, _+_, _/_, _%_}
 use mathlib.Core.Path.{_≡_}
 use mathlib.Core.List.{List, [], _∷_}
 use lib.ListN.{length}
+use Rattle.ait_read.specs.declared.Scope.{Scope}
+use Rattle.ait_read.specs.declared.Scope.the-variants.{Common, Own}
 use Rattle.ait_read.specs.declared.Span.{Span}
 use Rattle.ait_read.specs.declared.Application.{Application}
 use Rattle.ait_read.specs.declared.Described.{Described}
 use Rattle.ait_read.specs.declared.Described.the-variants as described
 use Rattle.ait_read.specs.declared.Item.{Item}
 use Rattle.ait_read.specs.declared.Item.the-variants as item
+use Rattle.ait_read.specs.declared.Profile.{Profile}
+use Rattle.ait_read.specs.declared.Name.{Name}
+use Rattle.ait_read.specs.declared.Base.{Base}
+use Rattle.ait_read.specs.declared.Identifier.{Identifier}
 use Rattle.ait_read.specs.Records.{classOf, controlOf}
 use Rattle.ait_grammar.specs.Tag00.{ProfileValue}
 use Rattle.ait_grammar.specs.Tag01.{NameValue}
 use Rattle.ait_grammar.specs.Tag02.{SelectorValue, here, remote, bases, unread, BaseValue}
 use Rattle.ait_grammar.specs.Tag05.{IdentifierValue}
 use Rattle.ait_grammar.specs.Contents.{ContentsValue, of00, of01, of02, of05, of15, raw, DescriptorValue}
-use Rattle.ait_grammar.specs.Table.{ApplicationValue}
+use Rattle.ait_grammar.specs.Table.{ApplicationValue, TableValue}
 
 -- v stands at place k of a list, from 0
 abbrev pub ValueAt : {A : Type 0} → ℕ → List A → A → Type 0
 ValueAt k [] v = ⊥
 ValueAt zero (x ∷ xs) v = x ≡ v
 ValueAt (suc k) (x ∷ xs) v = ValueAt k xs v
+
+-- the descriptors of a scope: the common ones, or those of the application at a place
+abbrev pub DescriptorsOf : TableValue → Scope → List DescriptorValue → Type 0
+DescriptorsOf t Common ds = t .common ≡ ds
+DescriptorsOf t (Own i) ds = (v : ApplicationValue) × ValueAt i (t .applications) v × (v .descriptors ≡ ds)
 
 abbrev pub span : (start size : ℕ) → Span
 span a n = record { start = a; size = n }
@@ -54,3 +65,18 @@ contentsShown tag (raw xs) a = described.Raw tag (span (a + 2) (length xs))
 
 abbrev pub descriptorShown : DescriptorValue → (a : ℕ) → Described
 descriptorShown d a = contentsShown (d .tag) (d .contents) a
+
+-- the items of a descriptor; what lies in one that begins at byte a is counted from there
+abbrev pub profileShown : ProfileValue → Item
+profileShown p = item.Profile (record { number = p .profile; major = p .major; minor = p .minor; micro = p .micro })
+
+-- "language 3 bytes"
+abbrev pub nameShown : NameValue → (a : ℕ) → Item
+nameShown n a =
+    item.Name (record { first = n .language / 65536; second = n .language / 256 % 256; third = n .language % 256; text = span (a + 4) (length (n .text)) })
+
+abbrev pub baseShown : BaseValue → (a : ℕ) → Item
+baseShown b a = item.Base (record { text = span (a + 1) (length (b .text)); extensions = length (b .extensions) })
+
+abbrev pub identifierShown : IdentifierValue → Item
+identifierShown i = item.Identifier (record { organisation = i .organisation; number = i .number; priority = i .priority })

@@ -27,7 +27,8 @@ use Rattle.ait_read.proofs.Laws.Records.{is-00, is-01, is-02, is-05, is-15, is-
 use Rattle.ait_grammar.specs.Bytes.{Each, Bytes, spellAll, sized8}
 use Rattle.ait_grammar.specs.Tag00.{Value00, spellProfile, spell00, Fits00}
 use Rattle.ait_grammar.specs.Tag01.{NameValue, spellName, FitsName}
-use Rattle.ait_grammar.specs.Tag02.{Value02, SelectorValue, here, remote, bases, unread, LocalValue, RemoteValue, BaseValue, spellLocal, spellRemote, spellBase, spellSelector, spell02, FitsLocal, FitsRemote, FitsBase, FitsSelector, Fits02}
+use Rattle.ait_grammar.specs.Tag02.{Value02, SelectorValue, here, remote, bases, unread, LocalValue, RemoteValue, BaseValue, spellLocal}
+use Rattle.ait_grammar.specs.Tag02.{spellRemote, spellBase, spellSelector, spell02, FitsLocal, FitsRemote, FitsBase, FitsSelector, Fits02}
 use Rattle.ait_grammar.specs.Tag05.{IdentifierValue, spellIdentifier, FitsIdentifier}
 use Rattle.ait_grammar.specs.Contents.{ContentsValue, DescriptorValue, of00, of01, of02, of05, of15, raw, spellContents, spellDescriptor, FitsContents, FitsDescriptor}
 use Rattle.ait_grammar.specs.Shown.{span, selectorShown, contentsShown, descriptorShown}
@@ -43,16 +44,16 @@ use Rattle.ait_grammar.proofs.Laws.Shown.{first-said, byte-behind, tag-
 
 -- how many items a list within a descriptor has, where its part is known
 module _ (what : Repeated) (x : List ℕ) where
-  listed : (p : Place) (l : List ℕ) → p ≡ listIn what x → partAt p x ≡ l → repeatedCount what x ≡ count (sizeOf (kindOf what)) l
+  listed : (l : List ℕ) → partAt (listIn what x) x ≡ l → repeatedCount what x ≡ count (sizeOf (kindOf what)) l
   unfolding repeatedCount countAt
-  listed p l e f = ap (λ (q : Place). count (sizeOf (kindOf what)) (partAt q x)) (sym e) ∙ ap (count (sizeOf (kindOf what))) f
+  listed l f = ap (count (sizeOf (kindOf what))) f
 
 -- the rest of a descriptor after h bytes of its contents, of n bytes
 rest-span : (h : ℕ) (x : List ℕ) (a n : ℕ) → length x ≡ h + n → restOf h x a ≡ span (a + h) n
 rest-span h x a n e = let z : length x - h ≡ n = omega (arith, e) in λ i. record { start = a + h; size = z i }
 
 -- labels are bytes one after another
-abbrev alone : ℕ → List ℕ
+abbrev pub alone : ℕ → List ℕ
 alone v = v ∷ []
 
 bytes-spelled : (xs : List ℕ) → spellAll alone xs ≡ xs
@@ -60,14 +61,14 @@ unfolding spellAll
 bytes-spelled [] = refl
 bytes-spelled (v ∷ xs) = ap (λ (l : List ℕ). v ∷ l) (bytes-spelled xs)
 
-label-form : Form (λ y. length y ≡ 1) alone (λ v. v < 0x100)
+pub label-form : Form (λ y. length y ≡ 1) alone (λ v. v < 0x100)
 unfolding spelled
 label-form = seen (field 1) (λ v. v) alone (λ v. v < 0x100) (λ v l. ap alone (sym (byte v l))) (λ v l. l) (λ v l. (v, refl, l))
   where
     byte : (v : ℕ) → v < 256 ^ 1 → v / 256 ^ 0 % 256 ≡ v
     byte v l = omega arith
 
-module _ (d : DescriptorValue) (f : FitsDescriptor d) (a : ℕ) where
+module _ (d : DescriptorValue) (f : FitsDescriptor d) where
   abbrev x : List ℕ
   x = spellDescriptor d
 
@@ -78,38 +79,45 @@ module _ (d : DescriptorValue) (f : FitsDescriptor d) (a : ℕ) where
   all-said : partAt (after 2 x) x ≡ c
   all-said = after-said d f 0 (omega arith)
 
+  -- the names lie in it, spelled end to end; and so the identifiers
+  pub names-listed : d .tag ≡ 0x01 → (ns : List NameValue) → c ≡ spellAll spellName ns → partAt (listIn Names x) x ≡ spellAll spellName ns
+  unfolding listIn
+  names-listed e ns h = ap (λ (p : Place). partAt p x) (sym (tagged-is x 0x01 2 (tag-said d f ∙ e))) ∙ all-said ∙ h
+
+  pub identifiers-listed : d .tag ≡ 0x05 → (is : List IdentifierValue) → c ≡ spellAll spellIdentifier is → partAt (listIn Identifiers x) x ≡ spellAll spellIdentifier is
+  unfolding listIn
+  identifiers-listed e is h = ap (λ (p : Place). partAt p x) (sym (tagged-is x 0x05 2 (tag-said d f ∙ e))) ∙ all-said ∙ h
+
   names-said : d .tag ≡ 0x01 → (ns : List NameValue) → Each FitsName ns → c ≡ spellAll spellName ns → repeatedCount Names x ≡ length ns
   unfolding sizeOf kindOf count listIn
   names-said e ns g h =
-      listed Names x (after 2 x) c (tagged-is x 0x01 2 (tag-said d f ∙ e)) all-said
-      ∙ ap (λ (l : List ℕ). length (items name l)) h ∙ filled-count name (framed-kind 4 _) name-form ns g
+      listed Names x _ (names-listed e ns h) ∙ filled-count name (framed-kind 4 _) name-form ns g
 
   identifiers-said : d .tag ≡ 0x05 → (is : List IdentifierValue) → Each FitsIdentifier is → c ≡ spellAll spellIdentifier is → repeatedCount Identifiers x ≡ length is
   unfolding sizeOf kindOf count listIn
   identifiers-said e is g h =
-      listed Identifiers x (after 2 x) c (tagged-is x 0x05 2 (tag-said d f ∙ e)) all-said
-      ∙ ap (λ (l : List ℕ). length (items identifier l)) h ∙ filled-count identifier (framed-kind 7 _) (fixed-form 7 (omega arith) identifier-form) is g
+      listed Identifiers x _ (identifiers-listed e is h) ∙ filled-count identifier (framed-kind 7 _) (fixed-form 7 (omega arith) identifier-form) is g
 
   -- 0x01
-  shown-01 : (ns : List NameValue) → d .contents ≡ of01 ns → FitsContents (d .tag) (of01 ns) → describedOf x a ≡ described.Names (length ns)
+  shown-01 : (a : ℕ) → (ns : List NameValue) → d .contents ≡ of01 ns → FitsContents (d .tag) (of01 ns) → describedOf x a ≡ described.Names (length ns)
   unfolding spellContents
-  shown-01 ns h g = sym (is-01 x a (tag-said d f ∙ g .0)) ∙ ap described.Names (names-said (g .0) ns (g .1) (ap spellContents h))
+  shown-01 a ns h g = sym (is-01 x a (tag-said d f ∙ g .0)) ∙ ap described.Names (names-said (g .0) ns (g .1) (ap spellContents h))
 
   -- 0x05
-  shown-05 : (is : List IdentifierValue) → d .contents ≡ of05 is → FitsContents (d .tag) (of05 is) → describedOf x a ≡ described.Identifiers (length is)
+  shown-05 : (a : ℕ) → (is : List IdentifierValue) → d .contents ≡ of05 is → FitsContents (d .tag) (of05 is) → describedOf x a ≡ described.Identifiers (length is)
   unfolding spellContents
-  shown-05 is h g = sym (is-05 x a (tag-said d f ∙ g .0)) ∙ ap described.Identifiers (identifiers-said (g .0) is (g .1) (ap spellContents h))
+  shown-05 a is h g = sym (is-05 x a (tag-said d f ∙ g .0)) ∙ ap described.Identifiers (identifiers-said (g .0) is (g .1) (ap spellContents h))
 
   -- 0x15, and the other tags
-  shown-15 : (xs : List ℕ) → d .contents ≡ of15 xs → FitsContents (d .tag) (of15 xs) → describedOf x a ≡ described.Path (span (a + 2) (length xs))
+  shown-15 : (a : ℕ) → (xs : List ℕ) → d .contents ≡ of15 xs → FitsContents (d .tag) (of15 xs) → describedOf x a ≡ described.Path (span (a + 2) (length xs))
   unfolding spellContents
-  shown-15 xs h g =
+  shown-15 a xs h g =
       sym (is-15 x a (tag-said d f ∙ g .0))
       ∙ ap described.Path (rest-span 2 x a (length xs) (length-said d f ∙ ap (λ (l : List ℕ). 2 + length l) (ap spellContents h)))
 
-  shown-raw : (xs : List ℕ) → d .contents ≡ raw xs → FitsContents (d .tag) (raw xs) → describedOf x a ≡ described.Raw (d .tag) (span (a + 2) (length xs))
+  shown-raw : (a : ℕ) → (xs : List ℕ) → d .contents ≡ raw xs → FitsContents (d .tag) (raw xs) → describedOf x a ≡ described.Raw (d .tag) (span (a + 2) (length xs))
   unfolding spellContents
-  shown-raw xs h g =
+  shown-raw a xs h g =
       let t = tag-said d f in
       sym (is-raw x a (λ e. g .0 (sym t ∙ e)) (λ e. g .1 (sym t ∙ e)) (λ e. g .2 (sym t ∙ e)) (λ e. g .3 (sym t ∙ e)) (λ e. g .4 (sym t ∙ e)))
       ∙ ap₂ described.Raw t (rest-span 2 x a (length xs) (length-said d f ∙ ap (λ (l : List ℕ). 2 + length l) (ap spellContents h)))
@@ -151,27 +159,27 @@ module _ (d : DescriptorValue) (f : FitsDescriptor d) (a : ℕ) where
     selector-field : (n k : ℕ) → fieldAt n x (2 + (3 + k)) ≡ fieldAt n sel k
     selector-field n k = field-said d f n (3 + k) ∙ sym (field-drop n c 3 k) ∙ ap (λ (l : List ℕ). fieldAt n l k) selector-said
 
-    shown-02 : describedOf x a ≡ described02 x a
-    shown-02 = sym (is-02 x a (tag-said d f ∙ e))
+    shown-02 : (a : ℕ) → describedOf x a ≡ described02 x a
+    shown-02 a = sym (is-02 x a (tag-said d f ∙ e))
 
     -- protocol 1
-    shown-local : (l : LocalValue) → v .selector ≡ here l → v .protocol ≡ 1 → FitsLocal l → describedOf x a ≡ described.Local (v .label) (l .component)
+    shown-local : (a : ℕ) → (l : LocalValue) → v .selector ≡ here l → v .protocol ≡ 1 → FitsLocal l → describedOf x a ≡ described.Local (v .label) (l .component)
     unfolding spellSelector spellLocal
-    shown-local l j p k =
+    shown-local a l j p k =
         let s : sel ≡ spelled 1 (l .reserved) ++ spelled 1 (l .component) = ap spellSelector j in
         let r : byteAt x 5 ≡ l .reserved = selector-byte 0 ∙ ap (λ (y : List ℕ). byteAt y 0) s ∙ first-said (l .reserved) (spelled 1 (l .component)) (wide (l .reserved) (k .reserved)) in
         let z : bits 7 1 (byteAt x 5) ≡ 0 = omega (arith, r, k .reserved) in
         let b : byteAt x 6 ≡ l .component = selector-byte 1 ∙ ap (λ (y : List ℕ). byteAt y 1) (s ∙ ap (λ (y : List ℕ). spelled 1 (l .reserved) ++ y) (sym (append-nil (spelled 1 (l .component)))))
-            ∙ byte-behind (l .component) 1 (spelled 1 (l .reserved)) [] (k .component) (spelled-length 1 (l .reserved)) in
-        shown-02 ∙ sym (is-1 x a (protocol-said ∙ p)) ∙ sym (is-local x (λ o. omega (arith, z, o))) ∙ ap₂ described.Local label-said b
+        ∙ byte-behind (l .component) 1 (spelled 1 (l .reserved)) [] (k .component) (spelled-length 1 (l .reserved)) in
+        shown-02 a ∙ sym (is-1 x a (protocol-said ∙ p)) ∙ sym (is-local x (λ o. omega (arith, z, o))) ∙ ap₂ described.Local label-said b
       where
         wide : (n : ℕ) → n < 128 → n < 256
         wide n l = omega arith
 
-    shown-remote : (r : RemoteValue) → v .selector ≡ remote r → v .protocol ≡ 1 → FitsRemote r
+    shown-remote : (a : ℕ) → (r : RemoteValue) → v .selector ≡ remote r → v .protocol ≡ 1 → FitsRemote r
         → describedOf x a ≡ described.Remote (v .label) (r .network) (r .stream) (r .service) (r .component)
     unfolding spellSelector spellRemote
-    shown-remote r j p k =
+    shown-remote a r j p k =
         let q₁ : List ℕ = spelled 1 (128 + r .reserved) in
         let q₂ : List ℕ = spelled 2 (r .network) in
         let q₃ : List ℕ = spelled 2 (r .stream) in
@@ -185,7 +193,7 @@ module _ (d : DescriptorValue) (f : FitsDescriptor d) (a : ℕ) where
         let s₂ : sel ≡ (q₁ ++ q₂) ++ (q₃ ++ (q₄ ++ q₅)) = s ∙ sym (append-assoc q₁ q₂ (q₃ ++ (q₄ ++ q₅))) in
         let s₃ : sel ≡ ((q₁ ++ q₂) ++ q₃) ++ (q₄ ++ q₅) = s₂ ∙ sym (append-assoc (q₁ ++ q₂) q₃ (q₄ ++ q₅)) in
         let s₄ : sel ≡ (((q₁ ++ q₂) ++ q₃) ++ q₄) ++ (q₅ ++ []) =
-            s₃ ∙ sym (append-assoc ((q₁ ++ q₂) ++ q₃) q₄ q₅) ∙ ap (λ (y : List ℕ). (((q₁ ++ q₂) ++ q₃) ++ q₄) ++ y) (sym (append-nil q₅)) in
+        s₃ ∙ sym (append-assoc ((q₁ ++ q₂) ++ q₃) q₄ q₅) ∙ ap (λ (y : List ℕ). (((q₁ ++ q₂) ++ q₃) ++ q₄) ++ y) (sym (append-nil q₅)) in
         let n₂ : length (q₁ ++ q₂) ≡ 3 = rw length-append (omega (arith, l₁, l₂)) in
         let n₃ : length ((q₁ ++ q₂) ++ q₃) ≡ 5 = rw length-append (omega (arith, n₂, l₃)) in
         let n₄ : length (((q₁ ++ q₂) ++ q₃) ++ q₄) ≡ 7 = rw length-append (omega (arith, n₃, l₄)) in
@@ -195,33 +203,36 @@ module _ (d : DescriptorValue) (f : FitsDescriptor d) (a : ℕ) where
         let b₃ : sixteenAt x 8 ≡ r .stream = selector-field 2 3 ∙ ap (λ (y : List ℕ). fieldAt 2 y 3) s₂ ∙ behind 2 (r .stream) 3 (q₁ ++ q₂) (q₄ ++ q₅) (k .stream) n₂ in
         let b₄ : sixteenAt x 10 ≡ r .service = selector-field 2 5 ∙ ap (λ (y : List ℕ). fieldAt 2 y 5) s₃ ∙ behind 2 (r .service) 5 ((q₁ ++ q₂) ++ q₃) q₅ (k .service) n₃ in
         let b₅ : byteAt x 12 ≡ r .component = selector-byte 7 ∙ ap (λ (y : List ℕ). byteAt y 7) s₄ ∙ byte-behind (r .component) 7 (((q₁ ++ q₂) ++ q₃) ++ q₄) [] (k .component) n₄ in
-        shown-02 ∙ sym (is-1 x a (protocol-said ∙ p)) ∙ sym (is-remote x z) ∙ (λ i. described.Remote (label-said i) (b₂ i) (b₃ i) (b₄ i) (b₅ i))
+        shown-02 a ∙ sym (is-1 x a (protocol-said ∙ p)) ∙ sym (is-remote x z) ∙ (λ i. described.Remote (label-said i) (b₂ i) (b₃ i) (b₄ i) (b₅ i))
       where
         wide : (n : ℕ) → n < 128 → 128 + n < 256
         wide n l = omega arith
 
     -- protocol 3
-    bases-said : (bs : List BaseValue) → v .selector ≡ bases bs → v .protocol ≡ 3 → Each FitsBase bs → repeatedCount Bases x ≡ length bs
-    unfolding sizeOf kindOf count listIn spellSelector
-    bases-said bs j p k =
-        let o : after 5 x ≡ listIn Bases x = tagged-is x 0x02 5 (tag-said d f ∙ e) ∙ bases-is x (protocol-said ∙ p) in
+    pub bases-listed : (bs : List BaseValue) → v .selector ≡ bases bs → v .protocol ≡ 3 → partAt (listIn Bases x) x ≡ spellAll spellBase bs
+    unfolding listIn spellSelector
+    bases-listed bs j p =
         let l : 3 ≤ length c = rw selector-length (omega arith) in
-        listed Bases x (after 5 x) sel o (after-said d f 3 l ∙ selector-said)
-        ∙ ap (λ (y : List ℕ). length (items base y)) (ap spellSelector j) ∙ filled-count base base-kind base-form bs k
+        ap (λ (q : Place). partAt q x) (sym (tagged-is x 0x02 5 (tag-said d f ∙ e) ∙ bases-is x (protocol-said ∙ p)))
+        ∙ after-said d f 3 l ∙ selector-said ∙ ap spellSelector j
 
-    shown-bases : (bs : List BaseValue) → v .selector ≡ bases bs → v .protocol ≡ 3 → Each FitsBase bs → describedOf x a ≡ described.Bases (v .label) (length bs)
-    shown-bases bs j p k = shown-02 ∙ sym (is-3 x a (protocol-said ∙ p)) ∙ ap₂ described.Bases label-said (bases-said bs j p k)
+    bases-said : (bs : List BaseValue) → v .selector ≡ bases bs → v .protocol ≡ 3 → Each FitsBase bs → repeatedCount Bases x ≡ length bs
+    unfolding sizeOf kindOf count
+    bases-said bs j p k = listed Bases x _ (bases-listed bs j p) ∙ filled-count base base-kind base-form bs k
+
+    shown-bases : (a : ℕ) → (bs : List BaseValue) → v .selector ≡ bases bs → v .protocol ≡ 3 → Each FitsBase bs → describedOf x a ≡ described.Bases (v .label) (length bs)
+    shown-bases a bs j p k = shown-02 a ∙ sym (is-3 x a (protocol-said ∙ p)) ∙ ap₂ described.Bases label-said (bases-said bs j p k)
 
     -- any other
-    shown-unread : (xs : List ℕ) → v .selector ≡ unread xs → (v .protocol ≡ 1 → ⊥) → (v .protocol ≡ 3 → ⊥)
+    shown-unread : (a : ℕ) → (xs : List ℕ) → v .selector ≡ unread xs → (v .protocol ≡ 1 → ⊥) → (v .protocol ≡ 3 → ⊥)
         → describedOf x a ≡ described.Selector (v .protocol) (v .label) (span (a + 5) (length xs))
     unfolding spellSelector
-    shown-unread xs j n₁ n₃ =
+    shown-unread a xs j n₁ n₃ =
         let p = protocol-said in
         let s : length sel ≡ length xs = ap length (ap spellSelector j) in
         let l : length x ≡ 5 + length xs = length-said d f ∙ rw selector-length (omega (arith, s)) in
         let r = rest-span 5 x a (length xs) l in
-        shown-02 ∙ sym (is-other x a (λ o. n₁ (sym p ∙ o)) (λ o. n₃ (sym p ∙ o))) ∙ (λ i. described.Selector (p i) (label-said i) (r i))
+        shown-02 a ∙ sym (is-other x a (λ o. n₁ (sym p ∙ o)) (λ o. n₃ (sym p ∙ o))) ∙ (λ i. described.Selector (p i) (label-said i) (r i))
 
   -- 0x00
   module _ (v : Value00) (h : d .contents ≡ of00 v) (e : d .tag ≡ 0x00) (g : Fits00 v) where
@@ -284,14 +295,17 @@ module _ (d : DescriptorValue) (f : FitsDescriptor d) (a : ℕ) where
     profiles-part : partAt (bytes 3 (byteAt x 2) x) x ≡ profs
     profiles-part =
         let u : drop 1 c ≡ profs ++ (q₁ ++ (q₂ ++ v .labels)) =
-            ap (drop 1) (spelt-00 ∙ append-assoc (spelled 1 n) profs (q₁ ++ (q₂ ++ v .labels))) ∙ drop-at (spelled 1 n) (profs ++ (q₁ ++ (q₂ ++ v .labels))) 1 (spelled-length 1 n) in
+        ap (drop 1) (spelt-00 ∙ append-assoc (spelled 1 n) profs (q₁ ++ (q₂ ++ v .labels))) ∙ drop-at (spelled 1 n) (profs ++ (q₁ ++ (q₂ ++ v .labels))) 1 (spelled-length 1 n) in
         ap (λ (m : ℕ). partAt (bytes 3 m x) x) profiles-length ∙ part-said d f 1 n (rw len-all (omega arith))
         ∙ ap (take n) u ∙ take-at profs (q₁ ++ (q₂ ++ v .labels)) n refl
+
+    pub profiles-listed : partAt (listIn Profiles x) x ≡ profs
+    profiles-listed = ap (λ (p : Place). partAt p x) (sym (profiles-is x (tag-said d f ∙ e))) ∙ profiles-part
 
     profiles-said : repeatedCount Profiles x ≡ length (v .profiles)
     unfolding sizeOf kindOf count
     profiles-said =
-        listed Profiles x (bytes 3 (byteAt x 2) x) profs (profiles-is x (tag-said d f ∙ e)) profiles-part
+        listed Profiles x profs profiles-listed
         ∙ filled-count profile (framed-kind 5 _) (fixed-form 5 (omega arith) profile-form) (v .profiles) (g .profiles)
 
     labels-part : partAt (after (5 + byteAt x 2) x) x ≡ v .labels
@@ -300,34 +314,37 @@ module _ (d : DescriptorValue) (f : FitsDescriptor d) (a : ℕ) where
         ap (λ (m : ℕ). partAt (after m x) x) z ∙ after-said d f (3 + n) (rw len-all (omega arith))
         ∙ ap (drop (3 + n)) spelt₂ ∙ drop-at ((sized8 profs ++ q₁) ++ q₂) (v .labels) (3 + n) len₂
 
-    labels-said : repeatedCount Labels x ≡ length (v .labels)
-    unfolding sizeOf kindOf count listIn
-    labels-said =
-        listed Labels x (after (5 + byteAt x 2) x) (v .labels) (tagged-is x 0x00 (5 + byteAt x 2) (tag-said d f ∙ e)) labels-part
-        ∙ ap (λ (y : List ℕ). length (items label y)) (sym (bytes-spelled (v .labels))) ∙ filled-count label (framed-kind 1 _) (fixed-form 1 (omega arith) label-form) (v .labels) (g .labels)
+    pub labels-listed : partAt (listIn Labels x) x ≡ spellAll alone (v .labels)
+    unfolding listIn
+    labels-listed =
+        ap (λ (p : Place). partAt p x) (sym (tagged-is x 0x00 (5 + byteAt x 2) (tag-said d f ∙ e))) ∙ labels-part ∙ sym (bytes-spelled (v .labels))
 
-    shown-00 : describedOf x a ≡ described.Application (length (v .profiles)) (v .bound) (v .visibility) (v .priority) (length (v .labels))
+    labels-said : repeatedCount Labels x ≡ length (v .labels)
+    unfolding sizeOf kindOf count
+    labels-said = listed Labels x _ labels-listed ∙ filled-count label (framed-kind 1 _) (fixed-form 1 (omega arith) label-form) (v .labels) (g .labels)
+
+    shown-00 : (a : ℕ) → describedOf x a ≡ described.Application (length (v .profiles)) (v .bound) (v .visibility) (v .priority) (length (v .labels))
     unfolding described00
-    shown-00 =
+    shown-00 a =
         let b : bits 7 1 (byteAt x (3 + byteAt x 2)) ≡ v .bound = omega (arith, flags-said, g .bound, g .visibility, g .reserved) in
         let s : bits 5 2 (byteAt x (3 + byteAt x 2)) ≡ v .visibility = omega (arith, flags-said, g .bound, g .visibility, g .reserved) in
         sym (is-00 x a (tag-said d f ∙ e)) ∙ (λ i. described.Application (profiles-said i) (b i) (s i) (priority-said i) (labels-said i))
 
   -- ALL TAGS
-  pub descriptor-read : describedOf x a ≡ descriptorShown d a
-  descriptor-read = go (d .contents) refl (f .contents)
+  pub descriptor-read : (a : ℕ) → describedOf x a ≡ descriptorShown d a
+  descriptor-read a = go (d .contents) refl (f .contents)
     where
       of-02 : (v : Value02) → d .contents ≡ of02 v → d .tag ≡ 0x02 → Fits02 v → (s : SelectorValue) → v .selector ≡ s → FitsSelector (v .protocol) s
           → describedOf x a ≡ selectorShown (v .protocol) (v .label) s a
-      of-02 v h e g (here l) j k = shown-local v h e g l j (k .0) (k .1)
-      of-02 v h e g (remote r) j k = shown-remote v h e g r j (k .0) (k .1)
-      of-02 v h e g (bases bs) j k = shown-bases v h e g bs j (k .0) (k .1)
-      of-02 v h e g (unread xs) j k = shown-unread v h e g xs j (k .0) (k .1)
+      of-02 v h e g (here l) j k = shown-local v h e g a l j (k .0) (k .1)
+      of-02 v h e g (remote r) j k = shown-remote v h e g a r j (k .0) (k .1)
+      of-02 v h e g (bases bs) j k = shown-bases v h e g a bs j (k .0) (k .1)
+      of-02 v h e g (unread xs) j k = shown-unread v h e g a xs j (k .0) (k .1)
 
       go : (w : ContentsValue) → d .contents ≡ w → FitsContents (d .tag) w → describedOf x a ≡ contentsShown (d .tag) w a
-      go (of00 v) h g = shown-00 v h (g .0) (g .1)
-      go (of01 ns) h g = shown-01 ns h g
+      go (of00 v) h g = shown-00 v h (g .0) (g .1) a
+      go (of01 ns) h g = shown-01 a ns h g
       go (of02 v) h g = of-02 v h (g .0) (g .1) (v .selector) refl (g .1 .selector)
-      go (of05 is) h g = shown-05 is h g
-      go (of15 xs) h g = shown-15 xs h g
-      go (raw xs) h g = shown-raw xs h g
+      go (of05 is) h g = shown-05 a is h g
+      go (of15 xs) h g = shown-15 a xs h g
+      go (raw xs) h g = shown-raw a xs h g

@@ -25,11 +25,11 @@ module _ {A : Type 0} (spell : A → List ℕ) where
       (0, rw (e, z), rw e (take-at (spell v) (spellAll spell vs) (length (spell v)) refl))
   placed (x ∷ vs) (suc k) v e at =
       let r = placed vs k v e (at + length (spell x)) in
-      let n : at + length (spell x) + r .0 ≡ at + (length (spell x) + r .0) = omega arith in
-      (
+      let n : at + length (spell x) + r .0 ≡ at + (length (spell x) + r .0) = omega arith in (
         length (spell x) + r .0,
         r .1 ∙ ap (λ (m : ℕ). At m (length (spell v))) n,
-        ap (take (length (spell v))) (sym (drop-drop (r .0) (length (spell x)) (spell x ++ spellAll spell vs)) ∙ ap (drop (r .0)) (drop-at (spell x) (spellAll spell vs) (length (spell x)) refl)) ∙ r .2,
+        ap (take (length (spell v))) (sym (drop-drop (r .0) (length (spell x)) (spell x ++ spellAll spell vs))
+            ∙ ap (drop (r .0)) (drop-at (spell x) (spellAll spell vs) (length (spell x)) refl)) ∙ r .2,
       )
 
   -- AN ITEM OF A PART IS THE VALUE'S BYTES: the part is the values spelled end to end, and its items are the spelled values
@@ -55,5 +55,9 @@ module _ {A : Type 0} (spell : A → List ℕ) where
         let t : itemAt size k l ≡ At (r .0) (length (spell v)) = ap (itemAt size k) f ∙ r .1 in
         let j = item-is size kind k l (r .0) (length (spell v)) t in
         let h = i a n refl in
-        let w : r .0 + length (spell v) ≤ n = omega (arith, simp (length-take, length-drop) at (j .0)) in
-        (a + r .0, inPart-at (itemAt size k) s a n (r .0) (length (spell v)) t, sym (part-part s a n (r .0) (length (spell v)) h w) ∙ ap (λ (x : List ℕ). take (length (spell v)) (drop (r .0) x)) f ∙ r .2)
+        let w : r .0 + length (spell v) ≤ n = omega (arith, simp (length-take, length-drop) at (j .0)) in (
+          a + r .0,
+          inPart-at (itemAt size k) s a n (r .0) (length (spell v)) t,
+          sym (part-part s a n (r .0) (length (spell v)) h w)
+              ∙ ap (λ (x : List ℕ). take (length (spell v)) (drop (r .0) x)) f ∙ r .2,
+        )

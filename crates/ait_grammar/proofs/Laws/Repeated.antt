@@ -88,5 +88,8 @@ module _ {A : Type 0} (size : Size) (kind : IsKind size) {spell : A → List ℕ
   pub filled : Form (λ xs. fills size xs ≡ true) (spellAll spell) (Each Fits)
   filled = when (repeated size kind (λ x. true) any) (λ xs. fills size xs ≡ true) (λ xs g. g .0) (λ xs b g. (g, every-any (items size xs)))
 
+  pub filled-items : (vs : List A) → Each Fits vs → items size (spellAll spell vs) ≡ map spell vs
+  filled-items vs f = all-items size kind (λ x. true) any vs f
+
   pub filled-count : (vs : List A) → Each Fits vs → length (items size (spellAll spell vs)) ≡ length vs
-  filled-count vs f = ap length (all-items size kind (λ x. true) any vs f) ∙ length-map vs spell
+  filled-count vs f = ap length (filled-items vs f) ∙ length-map vs spell
