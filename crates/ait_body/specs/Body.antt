@@ -8,8 +8,9 @@ use lib.ListN.{length, take, drop}
 use Rattle.wire.specs.Fields.{twelveAt}
 use Rattle.wire.specs.Items.{items, fills, every, number}
 use Rattle.wire.specs.Tests.{Tests, firstMet}
-use Rattle.ait_descriptors.specs.Kinds.{application, descriptor}
-use Rattle.ait_descriptors.specs.Contents.{tagOf, wellMade}
+use Rattle.ait_descriptors.specs.Kinds.{application}
+use Rattle.ait_descriptors.specs.Descriptor.{descriptor, tagOf}
+use Rattle.ait_descriptors.specs.Contents.{wellMade}
 use Rattle.ait_body.specs.declared.Clause.{Clause}
 use Rattle.ait_body.specs.declared.Clause.the-variants.{WellMade, Sole}
 

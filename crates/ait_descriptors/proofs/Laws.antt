@@ -1,2 +1,4 @@
 pub mod Kinds
 pub mod Contents
+pub mod Lists
+pub mod Records

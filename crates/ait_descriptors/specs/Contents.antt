@@ -1,60 +1,30 @@
--- What stands in a descriptor: "Known contents must be well formed; other tags are kept raw." 01, "The application section"; 001, 5.3.5 and 5.3.6.
--- The contents are the bytes after the tag and the length.
-use Prim.Native.Nat.{ℕ, _+_, _%_}
-use mathlib.Core.Bool.{Bool, true, not, cond, _&&_}
+-- Descriptors by their tag, a line for each tag in each definition; what a tag's line says is in its own file, `Tag00` and so on.
+-- "Known contents must be well formed; other tags are kept raw." 01, "The application section".
+use Prim.Native.Nat.{ℕ}
+use mathlib.Core.Bool.{Bool, true, not, cond}
 use mathlib.Core.List.{List}
-use lib.Dec.{leb, eqb}
-use lib.ListN.{length, drop}
-use Rattle.wire.specs.Fields.{byteAt, sixteenAt, bits}
-use Rattle.wire.specs.Items.{fills}
-use Rattle.ait_descriptors.specs.Kinds.{name, base, identifier}
+use lib.Dec.{eqb}
+use Rattle.wire.specs.Fields.{byteAt}
+use Rattle.wire.specs.Places.{Finder}
+use Rattle.ait_descriptors.specs.declared.Kind.{Kind}
+use Rattle.ait_descriptors.specs.declared.Kind.the-variants as kind
 use Rattle.ait_descriptors.specs.declared.Test.{Test}
-use Rattle.ait_descriptors.specs.declared.Test.the-variants.{Any, Malformed, Tagged, Labelled}
+use Rattle.ait_descriptors.specs.declared.Test.the-variants.{Malformed, Tagged, Labelled}
+use Rattle.ait_descriptors.specs.declared.Repeated.{Repeated}
+use Rattle.ait_descriptors.specs.declared.Repeated.the-variants.{Profiles, Labels, Names, Bases, Identifiers}
+use Rattle.ait_descriptors.specs.declared.Described.{Described}
+use Rattle.ait_descriptors.specs.declared.Described.the-variants as described
+use Rattle.ait_descriptors.specs.declared.Item.{Item}
+use Rattle.ait_descriptors.specs.declared.Item.the-variants as item
+use Rattle.ait_descriptors.specs.Descriptor.{tagOf, contentsOf, restOf}
+use Rattle.ait_descriptors.specs.Tag00.{good00, profilesIn, labelsIn, profileOf, described00}
+use Rattle.ait_descriptors.specs.Tag01.{good01, namesIn, nameOf, described01}
+use Rattle.ait_descriptors.specs.Tag02.{good02, basesIn, baseOf, described02, labelled}
+use Rattle.ait_descriptors.specs.Tag05.{good05, identifiersIn, identifierOf, described05}
+use Rattle.ait_descriptors.specs.Tag15.{described15}
+use Rattle.ait_descriptors.specs.Kinds.{countAt}
 
-abbrev pub tagOf : List ℕ → ℕ
-tagOf d = byteAt d 0
-
-abbrev pub contentsOf : List ℕ → List ℕ
-contentsOf d = drop 2 d
-
--- 0x00: "profile length P, a multiple of 5; profiles ..; bound flag 1, visibility 2, reserved 5; priority 8; the rest are transport labels"
-abbrev pub profilesLength : List ℕ → ℕ
-profilesLength c = byteAt c 0
-
-unfoldable pub good00 : List ℕ → Bool
-good00 c = eqb (profilesLength c % 5) 0 && leb (3 + profilesLength c) (length c)
-
--- 0x01: "repeated: language 3 bytes, length, name"
-unfoldable pub good01 : List ℕ → Bool
-good01 c = fills name c
-
--- protocol 1: "remote flag 1, reserved 7; if set, three 16-bit numbers; component tag; nothing more"
-abbrev pub remoteOf : List ℕ → ℕ
-remoteOf c = bits 7 1 (byteAt c 0)
-
-unfoldable pub selector1 : List ℕ → Bool
-selector1 c = eqb (length c) (cond (eqb (remoteOf c) 1) 8 2)
-
--- protocol 3: "repeated: base length, base, extension count, each extension with its length"
-unfoldable pub selector3 : List ℕ → Bool
-selector3 c = fills base c
-
--- "Protocol 1: ..; Protocol 3: ..; Others raw."
-unfoldable pub selector : ℕ → List ℕ → Bool
-selector protocol c = cond (eqb protocol 1) (selector1 c) (cond (eqb protocol 3) (selector3 c) true)
-
--- 0x02: "protocol 16, label 8, selector"
-abbrev pub protocolOf : List ℕ → ℕ
-protocolOf c = sixteenAt c 0
-
-unfoldable pub good02 : List ℕ → Bool
-good02 c = leb 3 (length c) && selector (protocolOf c) (drop 3 c)
-
--- 0x05: "repeated 7 bytes: identifier 6, priority 1"
-unfoldable pub good05 : List ℕ → Bool
-good05 c = fills identifier c
-
--- 0x15, "path, any bytes", and other tags: nothing to be malformed
+-- whether the contents that go with a tag are well formed; of 0x15 and other tags there is nothing to be malformed
 unfoldable pub contentsGood : ℕ → List ℕ → Bool
 contentsGood tag c =
     cond (eqb tag 0x00) (good00 c)
@@ -63,17 +33,49 @@ contentsGood tag c =
     (cond (eqb tag 0x05) (good05 c)
     true)))
 
--- a descriptor whose contents are well formed
 abbrev pub wellMade : List ℕ → Bool
 wellMade d = contentsGood (tagOf d) (contentsOf d)
 
--- a 0x02 descriptor with a label: tag, length, protocol 16, label 8
-abbrev pub labelled : ℕ → List ℕ → Bool
-labelled l d = eqb (tagOf d) 0x02 && eqb (byteAt (contentsOf d) 2) l
+-- "A descriptor answer is an enum whose cases carry fields and places, one case for raw"
+unfoldable pub describedOf : List ℕ → ℕ → Described
+describedOf d a =
+    cond (eqb (tagOf d) 0x00) (described00 d)
+    (cond (eqb (tagOf d) 0x01) (described01 d)
+    (cond (eqb (tagOf d) 0x02) (described02 d a)
+    (cond (eqb (tagOf d) 0x05) (described05 d)
+    (cond (eqb (tagOf d) 0x15) (described15 d a)
+    (described.Raw (tagOf d) (restOf 2 d a))))))
 
--- what a descriptor may be asked
+-- "the items repeated within a descriptor (in 0x00 profiles and labels apart; ..)": where they lie in it; their kind; and what is read of one that
+-- begins at a. A descriptor of another tag has no such items.
+unfoldable pub listIn : Repeated → Finder
+listIn Profiles d = profilesIn d
+listIn Labels d = labelsIn d
+listIn Names d = namesIn d
+listIn Bases d = basesIn d
+listIn Identifiers d = identifiersIn d
+
+unfoldable pub kindOf : Repeated → Kind
+kindOf Profiles = kind.Profile
+kindOf Labels = kind.Label
+kindOf Names = kind.Name
+kindOf Bases = kind.Base
+kindOf Identifiers = kind.Identifier
+
+unfoldable pub itemOf : Repeated → List ℕ → ℕ → Item
+itemOf Profiles x a = item.Profile (profileOf x)
+-- "the rest are transport labels", a byte each
+itemOf Labels x a = item.Label (byteAt x 0)
+itemOf Names x a = item.Name (nameOf x a)
+itemOf Bases x a = item.Base (baseOf x a)
+itemOf Identifiers x a = item.Identifier (identifierOf x)
+
+-- how many items of a sort a descriptor has
+unfoldable pub repeatedCount : Repeated → List ℕ → ℕ
+repeatedCount what d = countAt (kindOf what) (listIn what d) d
+
+-- what a descriptor may be asked: whether known contents are malformed; whether it has a tag; whether it is a 0x02 with a label
 unfoldable pub testOf : Test → List ℕ → Bool
-testOf Any d = true
 testOf Malformed d = not (wellMade d)
 testOf (Tagged t) d = eqb (tagOf d) t
 testOf (Labelled l) d = labelled l d

@@ -1,2 +1,8 @@
+pub mod Descriptor
+pub mod Tag00
+pub mod Tag01
+pub mod Tag02
+pub mod Tag05
+pub mod Tag15
 pub mod Kinds
 pub mod Contents

@@ -1,13 +1,14 @@
-// The size of the item that a slice begins with, 0 where it begins with no whole one; and whether items fill a slice.
+// Items of every kind: the size of the one that a slice begins with, 0 where it begins with no whole
+// one; whether items fill a slice, and how many there are.
 use crate::Kind;
-use wire::eight_at;
+use crate::tag02_size::base_size;
 ghost use mathlib.Core.Path.{_≡_};
 ghost use mathlib.Core.Bool.{cond};
 ghost use Prim.Native.Nat.{_+_, _≤_};
 ghost use lib.Dec.{leb};
 ghost use lib.ListN.{length, drop};
-ghost use Rattle.wire.specs.Items.{fills};
-ghost use Rattle.ait_descriptors.specs.Kinds.{sizeOf, base};
+ghost use Rattle.wire.specs.Items.{fills, count};
+ghost use Rattle.ait_descriptors.specs.Kinds.{sizeOf};
 
 // One line for each kind: the bytes of its header, and how many more there are, or which byte of
 // the header says it.
@@ -49,6 +50,23 @@ pub fn fills(kind: Kind, s: &[u8]) -> bool
     true
 }
 
+// How many items a list begins with.
+pub fn count(kind: Kind, s: &[u8]) -> usize
+    ensures { λ r. ⌜ r ≡ count (sizeOf kind) (now (s .entry)) ⌝ }
+{
+    let mut m: usize = 0;
+    let mut i = 0;
+    while i < s.len() {
+        let n = size_at(kind, s, i);
+        if n == 0 {
+            return m;
+        }
+        m += 1;
+        i += n;
+    }
+    m
+}
+
 // A header of `h` bytes and `m` bytes more, where they are all there.
 fn framed_size(s: &[u8], h: usize, m: usize) -> usize
     ensures { λ r. ⌜ r ≡ cond (leb (h + m) (length (now (s .entry)))) (h + m) 0 ⌝ }
@@ -60,16 +78,4 @@ fn framed_size(s: &[u8], h: usize, m: usize) -> usize
         return 0;
     }
     h + m
-}
-
-// A base and its counted extensions.
-fn base_size(s: &[u8]) -> usize
-    ensures { λ r. ⌜ r ≡ base (now (s .entry)) ⌝ }
-{
-    let n = eight_at(s, 0);
-    let start = 2 + n;
-    if s.len() < start {
-        return 0;
-    }
-    wire::measured_end(s, start, eight_at(s, 1 + n), 1, 0)
 }

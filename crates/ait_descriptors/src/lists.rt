@@ -1,7 +1,7 @@
 // Lists of items of every kind, and a test: one loop for each question.
 use crate::Kind;
 use crate::Test;
-use crate::contents::meets_at;
+use crate::descriptor::meets_at;
 use crate::kinds::size_at;
 use wire::Hit;
 use wire::Place;
@@ -12,7 +12,7 @@ ghost use Rattle.ait_descriptors.specs.Kinds.{sizeOf};
 ghost use Rattle.ait_descriptors.specs.Contents.{testOf};
 
 // Where item k lies, from 0.
-pub fn item(kind: Kind, s: &[u8], k: usize) -> Place
+pub fn item_place(kind: Kind, s: &[u8], k: usize) -> Place
     ensures { λ r. ⌜ r ≡ itemAt (sizeOf kind) k (now (s .entry)) ⌝ }
 {
     let mut left = k;

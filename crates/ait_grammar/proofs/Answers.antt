@@ -15,26 +15,33 @@ use Rattle.wire.proofs.Laws.Frames.{framed-kind}
 use Rattle.section.specs.declared.Checked.the-variants.{Accepted}
 use Rattle.section.specs.Header.{headerOf, bodyOf}
 use Rattle.ait_descriptors.specs.declared.Kind.the-variants as kind
-use Rattle.ait_descriptors.specs.Kinds.{application, descriptor, profile, label, name, base, extension, identifier, sizeOf}
+use Rattle.ait_descriptors.specs.Kinds.{application, sizeOf, countAt}
+use Rattle.ait_descriptors.specs.Descriptor.{descriptor}
+use Rattle.ait_descriptors.specs.Tag00.{profile, label}
+use Rattle.ait_descriptors.specs.Tag01.{name}
+use Rattle.ait_descriptors.specs.Tag02.{base, extension, extensionsIn}
+use Rattle.ait_descriptors.specs.Tag05.{identifier}
 use Rattle.ait_descriptors.proofs.Laws.Kinds.{application-kind, extension-kind, kind-of}
 use Rattle.ait_read.specs.declared.Application.{Application}
 use Rattle.ait_read.specs.declared.Scope.{Scope}
 use Rattle.ait_read.specs.declared.Scope.the-variants as scope
 use Rattle.ait_read.specs.declared.ApplicationAnswer.the-variants as application-answer
 use Rattle.ait_read.specs.declared.DescriptorAnswer.the-variants as descriptor-answer
-use Rattle.ait_read.specs.declared.Repeated.{Repeated}
-use Rattle.ait_read.specs.declared.Repeated.the-variants.{Profiles, Labels, Names, Bases, Identifiers}
-use Rattle.ait_read.specs.declared.Item.the-variants as item
+use Rattle.ait_descriptors.specs.declared.Repeated.{Repeated}
+use Rattle.ait_descriptors.specs.declared.Repeated.the-variants.{Profiles, Labels, Names, Bases, Identifiers}
+use Rattle.ait_descriptors.specs.declared.Item.the-variants as item
 use Rattle.ait_read.specs.declared.ItemAnswer.the-variants as item-answer
 use Rattle.ait_read.specs.declared.ExtensionAnswer.the-variants as extension-answer
 use Rattle.ait_read.specs.declared.steps.Step.the-variants.{Extensions}
 use Rattle.ait_read.specs.Acceptance.{tableJudged}
-use Rattle.ait_read.specs.Places.{commonAt, loopAt, applicationAt, ownAt, scopeAt, descriptorAt, listIn, kindOf, listAt, repeatedAt, extensionsIn, extensionsAt, extensionAt, stepIn, countAt}
-use Rattle.ait_read.specs.Records.{applicationOf, classOf, controlOf, itemOf}
+use Rattle.ait_read.specs.Places.{commonAt, loopAt, applicationAt, ownAt, scopeAt, descriptorAt, listAt, repeatedAt, extensionsAt, extensionAt, stepIn}
+use Rattle.ait_descriptors.specs.Contents.{listIn, kindOf, itemOf}
+use Rattle.ait_read.specs.Records.{applicationOf, classOf, controlOf}
 use Rattle.ait_read.specs.Answers.{applicationAnswer, descriptorAnswer, itemAnswer, extensionAnswer, readTable}
 use Rattle.ait_read.proofs.Laws.Exact as reading
 use Rattle.ait_read.proofs.Laws.Acceptance.{located-at}
-use Rattle.ait_read.proofs.Laws.Places.{sound-loop, sound-scope, sound-descriptor, sound-list, sound-listAt, sound-repeated, sound-extensions, sound-step}
+use Rattle.ait_read.proofs.Laws.Places.{sound-loop, sound-scope, sound-descriptor, sound-listAt, sound-repeated, sound-extensions, sound-step}
+use Rattle.ait_descriptors.proofs.Laws.Lists.{sound-list}
 use Rattle.ait_read.proofs.Laws.Made.{common-part, loop-part, own-part}
 use Rattle.ait_body.specs.Body.{WellFormed, ownLoop}
 use Rattle.ait_grammar.specs.Bytes.{Each, spellAll, sized8, sized12}
@@ -209,7 +216,7 @@ module _ (s : List ℕ) (g : GoodTable s) where
     -- `item_at` SHOWS THE VALUE: profiles and labels of a 0x00
     module _ (v : Value00) (h : d .contents ≡ of00 v) where
       pub profile-shown : (k : ℕ) (p : ProfileValue) → ValueAt k (v .profiles) p → itemAnswer s o j Profiles k ≡ item-answer.Found (profileShown p)
-      unfolding sizeOf kindOf
+      unfolding sizeOf kindOf listIn
       profile-shown k p at =
           let g = its-contents (of00 v) h in
           item-told Profiles spellProfile (v .profiles) (filled-items profile (framed-kind 5 _) (fixed-form 5 (omega arith) profile-form) (v .profiles) (g .1 .profiles))
@@ -217,7 +224,7 @@ module _ (s : List ℕ) (g : GoodTable s) where
           ∙ ap item-answer.Found (profile-read p (each-at FitsProfile k (v .profiles) p (g .1 .profiles) at) _)
 
       pub label-shown : (k l : ℕ) → ValueAt k (v .labels) l → itemAnswer s o j Labels k ≡ item-answer.Found (item.Label l)
-      unfolding sizeOf kindOf
+      unfolding sizeOf kindOf listIn
       label-shown k l at =
           let g = its-contents (of00 v) h in
           item-told Labels alone (v .labels) (filled-items label (framed-kind 1 _) (fixed-form 1 (omega arith) label-form) (v .labels) (g .1 .labels))
@@ -230,13 +237,13 @@ module _ (s : List ℕ) (g : GoodTable s) where
       its-names = its-contents (of01 ns) h .1
 
       pub name-found : (c : ℕ) × (repeatedAt o j Names k s ≡ At c (length (spellName n))) × (take (length (spellName n)) (drop c s) ≡ spellName n)
-      unfolding sizeOf kindOf spellContents
+      unfolding sizeOf kindOf listIn spellContents
       name-found =
           item-found Names spellName ns (filled-items name (framed-kind 4 _) name-form ns its-names)
           (names-listed d fits-here (its-contents (of01 ns) h .0) ns (ap spellContents h)) k n at
 
       pub name-shown : itemAnswer s o j Names k ≡ item-answer.Found (nameShown n (name-found .0))
-      unfolding sizeOf kindOf spellContents name-found
+      unfolding sizeOf kindOf listIn spellContents name-found
       name-shown =
           item-told Names spellName ns (filled-items name (framed-kind 4 _) name-form ns its-names)
           (names-listed d fits-here (its-contents (of01 ns) h .0) ns (ap spellContents h)) k n at
@@ -248,13 +255,13 @@ module _ (s : List ℕ) (g : GoodTable s) where
       its-bases = subst (λ (u : SelectorValue). FitsSelector (v .protocol) u) i (its-contents (of02 v) h .1 .selector)
 
       pub base-found : (c : ℕ) × (repeatedAt o j Bases k s ≡ At c (length (spellBase b))) × (take (length (spellBase b)) (drop c s) ≡ spellBase b)
-      unfolding sizeOf kindOf
+      unfolding sizeOf kindOf listIn
       base-found =
           item-found Bases spellBase bs (filled-items base base-kind base-form bs (its-bases .1))
           (bases-listed d fits-here v h (its-contents (of02 v) h .0) (its-contents (of02 v) h .1) bs i (its-bases .0)) k b at
 
       pub base-shown : itemAnswer s o j Bases k ≡ item-answer.Found (baseShown b (base-found .0))
-      unfolding sizeOf kindOf base-found
+      unfolding sizeOf kindOf listIn base-found
       base-shown =
           item-told Bases spellBase bs (filled-items base base-kind base-form bs (its-bases .1))
           (bases-listed d fits-here v h (its-contents (of02 v) h .0) (its-contents (of02 v) h .1) bs i (its-bases .0)) k b at
@@ -290,7 +297,7 @@ module _ (s : List ℕ) (g : GoodTable s) where
       its-identifiers = its-contents (of05 is) h .1
 
       pub identifier-shown : itemAnswer s o j Identifiers k ≡ item-answer.Found (identifierShown w)
-      unfolding sizeOf kindOf spellContents
+      unfolding sizeOf kindOf listIn spellContents
       identifier-shown =
           item-told Identifiers spellIdentifier is (filled-items identifier (framed-kind 7 _) (fixed-form 7 (omega arith) identifier-form) is its-identifiers)
           (identifiers-listed d fits-here (its-contents (of05 is) h .0) is (ap spellContents h)) k w at

@@ -13,7 +13,8 @@ use Rattle.wire.proofs.Laws.Steps.{every-both}
 use Rattle.wire.proofs.Laws.Tests.{both}
 use Rattle.section.specs.declared.Checked.the-variants.{Accepted}
 use Rattle.section.specs.Header.{headerOf, bodyOf}
-use Rattle.ait_descriptors.specs.Kinds.{application, descriptor}
+use Rattle.ait_descriptors.specs.Kinds.{application}
+use Rattle.ait_descriptors.specs.Descriptor.{descriptor}
 use Rattle.ait_body.specs.Body.{commonLength, loopLength, commonLoop, applicationLoop, ownLoop, goodLoop, soleLoop, wellFormed, bodyRefusal, WellFormed}
 use Rattle.ait_body.proofs.Laws.Exact as body
 use Rattle.ait_read.specs.Acceptance.{tableJudged, FormedTable}

@@ -5,16 +5,16 @@ use mathlib.Core.List.{List, [], _∷_}
 use lib.ListN.{length}
 use Rattle.ait_read.specs.declared.Scope.{Scope}
 use Rattle.ait_read.specs.declared.Scope.the-variants.{Common, Own}
-use Rattle.ait_read.specs.declared.Span.{Span}
+use Rattle.ait_descriptors.specs.declared.Span.{Span}
 use Rattle.ait_read.specs.declared.Application.{Application}
-use Rattle.ait_read.specs.declared.Described.{Described}
-use Rattle.ait_read.specs.declared.Described.the-variants as described
-use Rattle.ait_read.specs.declared.Item.{Item}
-use Rattle.ait_read.specs.declared.Item.the-variants as item
-use Rattle.ait_read.specs.declared.Profile.{Profile}
-use Rattle.ait_read.specs.declared.Name.{Name}
-use Rattle.ait_read.specs.declared.Base.{Base}
-use Rattle.ait_read.specs.declared.Identifier.{Identifier}
+use Rattle.ait_descriptors.specs.declared.Described.{Described}
+use Rattle.ait_descriptors.specs.declared.Described.the-variants as described
+use Rattle.ait_descriptors.specs.declared.Item.{Item}
+use Rattle.ait_descriptors.specs.declared.Item.the-variants as item
+use Rattle.ait_descriptors.specs.declared.Profile.{Profile}
+use Rattle.ait_descriptors.specs.declared.Name.{Name}
+use Rattle.ait_descriptors.specs.declared.Base.{Base}
+use Rattle.ait_descriptors.specs.declared.Identifier.{Identifier}
 use Rattle.ait_read.specs.Records.{classOf, controlOf}
 use Rattle.ait_grammar.specs.Tag00.{ProfileValue}
 use Rattle.ait_grammar.specs.Tag01.{NameValue}

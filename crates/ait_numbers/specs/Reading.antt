@@ -10,12 +10,12 @@ use Rattle.ait_read.specs.declared.Control.{Control}
 use Rattle.ait_read.specs.declared.Control.the-variants as control
 use Rattle.ait_read.specs.declared.Scope.{Scope}
 use Rattle.ait_read.specs.declared.Scope.the-variants as scope
-use Rattle.ait_read.specs.declared.Repeated.the-variants as repeated
-use Rattle.ait_read.specs.declared.Span.{Span}
-use Rattle.ait_read.specs.declared.Described.{Described}
-use Rattle.ait_read.specs.declared.Described.the-variants as described
-use Rattle.ait_read.specs.declared.Item.{Item}
-use Rattle.ait_read.specs.declared.Item.the-variants as item
+use Rattle.ait_descriptors.specs.declared.Repeated.the-variants as repeated
+use Rattle.ait_descriptors.specs.declared.Span.{Span}
+use Rattle.ait_descriptors.specs.declared.Described.{Described}
+use Rattle.ait_descriptors.specs.declared.Described.the-variants as described
+use Rattle.ait_descriptors.specs.declared.Item.{Item}
+use Rattle.ait_descriptors.specs.declared.Item.the-variants as item
 use Rattle.ait_read.specs.declared.ReadAnswer.{ReadAnswer}
 use Rattle.ait_read.specs.declared.ReadAnswer.the-variants as reading
 use Rattle.ait_read.specs.declared.ApplicationAnswer.{ApplicationAnswer}

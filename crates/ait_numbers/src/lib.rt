@@ -1,30 +1,48 @@
 // What is read of an application section, as structs of numbers: what `nebosvar` hands to programs in C and Rust.
 //
 // Nothing is decided here. Each call is one of `ait_read`, its answer laid out; specs/Reading.antt says how.
+use ait_descriptors::Base;
+use ait_descriptors::Described;
+use ait_descriptors::Identifier;
+use ait_descriptors::Item;
+use ait_descriptors::Name;
+use ait_descriptors::Profile;
+use ait_descriptors::Repeated;
+use ait_descriptors::Span;
 use ait_read::ApplicationAnswer;
-use ait_read::Base;
 use ait_read::Class;
 use ait_read::Control;
-use ait_read::Described;
 use ait_read::DescriptorAnswer;
 use ait_read::ExtensionAnswer;
-use ait_read::Identifier;
-use ait_read::Item;
 use ait_read::ItemAnswer;
-use ait_read::Name;
-use ait_read::Profile;
 use ait_read::ReadAnswer;
-use ait_read::Repeated;
 use ait_read::Resolved;
 use ait_read::Scope;
-use ait_read::Span;
 use section::Refusal;
 ghost use mathlib.Core.Path.{_≡_};
-ghost use Rattle.ait_read.specs.declared.Item.the-variants as item;
+ghost use Rattle.ait_descriptors.specs.declared.Item.the-variants as item;
 ghost use Rattle.ait_read.specs.Answers.{readAnswer, applicationAnswer, descriptorAnswer, extensionAnswer, resolveAnswer};
-ghost use Rattle.ait_numbers.specs.Reading.{tableOut, applicationOut, classNumber, controlNumber, descriptorOut, describedOut, itemAsked};
-ghost use Rattle.ait_numbers.specs.Reading.{itemOut, foundOut, extensionOut, labelOut, scopeOf, noDescriptor, describedBy, countedBy};
-ghost use Rattle.ait_numbers.specs.Reading.{carriedBy, placedBy, noPlace, noItem};
+ghost use Rattle.ait_numbers.specs.Reading.{
+  tableOut,
+  applicationOut,
+  classNumber,
+  controlNumber,
+  descriptorOut,
+  describedOut,
+  itemAsked,
+  itemOut,
+  foundOut,
+  extensionOut,
+  labelOut,
+  scopeOf,
+  noDescriptor,
+  describedBy,
+  countedBy,
+  carriedBy,
+  placedBy,
+  noPlace,
+  noItem,
+};
 
 // Stands for the common loop where an application's place is asked for.
 const COMMON: usize = 0xFFFF_FFFF_FFFF_FFFF;

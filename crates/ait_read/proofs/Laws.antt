@@ -1,5 +1,4 @@
 pub mod Places
-pub mod Records
 pub mod Acceptance
 pub mod Labels
 pub mod Counts

@@ -16,7 +16,8 @@ use Rattle.section.specs.Crc.{crcOf}
 use Rattle.section.specs.Header.{tableOf, syntaxOf, lengthOf, currentOf, sectionOf, lastOf, isTable, headerOf, bodyOf}
 use Rattle.section.specs.Refusals.{GoodSection}
 use Rattle.section.proofs.Laws.Crc.{own-crc}
-use Rattle.ait_descriptors.specs.Contents.{contentsGood, good00}
+use Rattle.ait_descriptors.specs.Contents.{contentsGood}
+use Rattle.ait_descriptors.specs.Tag00.{good00}
 use Rattle.ait_body.specs.Body.{goodLoop, soleLoop, ownLoop, applicationLoop, WellFormed}
 use Rattle.ait_descriptors.specs.Kinds.{application}
 use Rattle.ait_read.specs.declared.Class.the-variants.{Unsigned, Signed}

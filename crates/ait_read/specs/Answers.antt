@@ -13,7 +13,7 @@ use Rattle.section.specs.declared.Header.{Header}
 use Rattle.section.specs.Answer.{refused, onChecked}
 use Rattle.ait_descriptors.specs.declared.Kind.the-variants as kind
 use Rattle.ait_read.specs.declared.Scope.{Scope}
-use Rattle.ait_read.specs.declared.Repeated.{Repeated}
+use Rattle.ait_descriptors.specs.declared.Repeated.{Repeated}
 use Rattle.ait_read.specs.declared.Table.{Table}
 use Rattle.ait_read.specs.declared.Located.{Located}
 use Rattle.ait_read.specs.declared.Located.the-variants as located
@@ -30,8 +30,11 @@ use Rattle.ait_read.specs.declared.ExtensionAnswer.the-variants as exten
 use Rattle.ait_read.specs.declared.Resolved.{Resolved}
 use Rattle.ait_read.specs.declared.Resolved.the-variants as resolved
 use Rattle.ait_read.specs.Acceptance.{applicationTests, tableJudged}
-use Rattle.ait_read.specs.Places.{commonAt, loopAt, ownAt, applicationAt, descriptorAt, repeatedAt, extensionAt, countAt}
-use Rattle.ait_read.specs.Records.{applicationOf, describedOf, itemOf, extensionRead}
+use Rattle.ait_read.specs.Places.{commonAt, loopAt, ownAt, applicationAt, descriptorAt, repeatedAt, extensionAt}
+use Rattle.ait_descriptors.specs.Kinds.{countAt}
+use Rattle.ait_read.specs.Records.{applicationOf}
+use Rattle.ait_descriptors.specs.Contents.{describedOf, itemOf}
+use Rattle.ait_descriptors.specs.Tag02.{extensionRead}
 use Rattle.ait_read.specs.Labels.{labelAt, resolvedIn}
 
 -- the section's own refusal; else 19 where there is no such place; else the place

@@ -11,7 +11,7 @@ use Rattle.ait_descriptors.specs.declared.Test.the-variants.{Tagged, Labelled}
 use Rattle.ait_descriptors.specs.Kinds.{sizeOf}
 use Rattle.ait_descriptors.specs.Contents.{testOf}
 use Rattle.ait_read.specs.declared.Scope.the-variants as scope
-use Rattle.ait_read.specs.declared.Repeated.the-variants.{Labels}
+use Rattle.ait_descriptors.specs.declared.Repeated.the-variants.{Labels}
 use Rattle.ait_read.specs.declared.Resolved.{Resolved}
 use Rattle.ait_read.specs.declared.Resolved.the-variants.{Own, Common, Unresolved}
 use Rattle.ait_read.specs.Places.{ownAt, repeatedAt}

@@ -12,14 +12,16 @@ use Rattle.wire.specs.Places.{Finder, onPlace, itemAt, after, bytes, inner, inP
 use Rattle.ait_descriptors.specs.declared.Kind.{Kind}
 use Rattle.ait_descriptors.specs.declared.Kind.the-variants.{Application, Descriptor, Profile, Label, Name, Base, Extension, Identifier}
 use Rattle.ait_descriptors.specs.Kinds.{sizeOf}
-use Rattle.ait_descriptors.specs.Contents.{tagOf}
+use Rattle.ait_descriptors.specs.Descriptor.{tagOf}
+use Rattle.ait_descriptors.specs.Contents.{listIn, kindOf}
+use Rattle.ait_descriptors.specs.Tag02.{extensionsIn}
 use Rattle.ait_body.specs.Body.{commonLength}
 use Rattle.ait_read.specs.declared.Scope.{Scope}
 use Rattle.ait_read.specs.declared.Scope.the-variants as scope
 use Rattle.ait_read.specs.declared.steps.Step.{Step}
 use Rattle.ait_read.specs.declared.steps.Step.the-variants.{CommonLoop, ApplicationLoop, OwnLoop, List, Extensions, Item}
-use Rattle.ait_read.specs.declared.Repeated.{Repeated}
-use Rattle.ait_read.specs.declared.Repeated.the-variants.{Profiles, Labels, Names, Bases, Identifiers}
+use Rattle.ait_descriptors.specs.declared.Repeated.{Repeated}
+use Rattle.ait_descriptors.specs.declared.Repeated.the-variants.{Profiles, Labels, Names, Bases, Identifiers}
 
 -- in a body: the common descriptors, and the applications
 unfoldable pub commonIn : Finder
@@ -53,55 +55,17 @@ scopeAt (scope.Own i) s = ownAt i s
 unfoldable pub descriptorAt : Scope → ℕ → Finder
 descriptorAt o j s = within (scopeAt o) (itemAt (sizeOf Descriptor) j) s
 
--- what follows the first a bytes of a descriptor with the tag t
-unfoldable pub taggedRest : (t a : ℕ) → Finder
-taggedRest t a d = cond (eqb (tagOf d) t) (after a d) Nothing
-
--- 0x02: tag, length, protocol 3, label; the rest
-unfoldable pub basesIn : Finder
-basesIn d = cond (eqb (sixteenAt d 2) 3) (taggedRest 0x02 5 d) Nothing
-
--- "the items repeated within a descriptor (in 0x00 profiles and labels apart; ..)": where they lie in it.
--- A descriptor of another kind has no such items.
-unfoldable pub listIn : Repeated → Finder
--- tag, length, P; P bytes of profiles
-listIn Profiles d = cond (eqb (tagOf d) 0x00) (bytes 3 (byteAt d 2) d) Nothing
--- then a byte of flags and the priority; the rest
-listIn Labels d = taggedRest 0x00 (5 + byteAt d 2) d
-listIn Names d = taggedRest 0x01 2 d
-listIn Bases d = basesIn d
-listIn Identifiers d = taggedRest 0x05 2 d
-
-unfoldable pub kindOf : Repeated → Kind
-kindOf Profiles = Profile
-kindOf Labels = Label
-kindOf Names = Name
-kindOf Bases = Base
-kindOf Identifiers = Identifier
-
 unfoldable pub listAt : Scope → ℕ → Repeated → Finder
 listAt o j what s = within (descriptorAt o j) (listIn what) s
 
 unfoldable pub repeatedAt : Scope → ℕ → Repeated → ℕ → Finder
 repeatedAt o j what k s = within (listAt o j what) (itemAt (sizeOf (kindOf what)) k) s
 
--- "extensions within their base": after base length, base and extension count
-unfoldable pub extensionsIn : Finder
-extensionsIn x = after (2 + byteAt x 0) x
-
 unfoldable pub extensionsAt : Scope → ℕ → ℕ → Finder
 extensionsAt o j k s = within (repeatedAt o j Bases k) extensionsIn s
 
 unfoldable pub extensionAt : Scope → ℕ → ℕ → ℕ → Finder
 extensionAt o j k m s = within (extensionsAt o j k) (itemAt (sizeOf Extension) m) s
-
--- how many items of a kind lie at a place
-unfoldable pub countAt : Kind → Place → L.List ℕ → ℕ
-countAt kind p s = count (sizeOf kind) (partAt p s)
-
--- how many items of a sort a descriptor has
-unfoldable pub repeatedCount : Repeated → L.List ℕ → ℕ
-repeatedCount what d = countAt (kindOf what) (listIn what d) d
 
 -- one step inwards, as the code takes it
 unfoldable pub stepIn : Step → Finder

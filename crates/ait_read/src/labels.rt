@@ -1,6 +1,5 @@
 // The look-up of a label.
 use crate::Located;
-use crate::Repeated;
 use crate::Resolved;
 use crate::Scope;
 use crate::acceptance::locate;
@@ -9,6 +8,7 @@ use crate::places::common_place;
 use crate::places::own_place;
 use crate::places::repeated_place;
 use ait_descriptors::Kind;
+use ait_descriptors::Repeated;
 use ait_descriptors::Test;
 use wire::Hit;
 use wire::Place;

@@ -13,7 +13,15 @@ mod steps;
 
 use acceptance::judge;
 use acceptance::locate;
+use ait_descriptors::Described;
+use ait_descriptors::Item;
 use ait_descriptors::Kind;
+use ait_descriptors::Repeated;
+use ait_descriptors::Span;
+use ait_descriptors::count_within;
+use ait_descriptors::describe;
+use ait_descriptors::extension_of;
+use ait_descriptors::item_of;
 use places::application_place;
 use places::common_place;
 use places::descriptor_place;
@@ -21,29 +29,13 @@ use places::extension_place;
 use places::loop_place;
 use places::repeated_place;
 use records::application_of;
-use records::describe;
-use records::extension_of;
-use records::item_of;
 use section::Checked;
 use section::Refusal;
-use steps::count_within;
 ghost use mathlib.Core.Path.{_≡_};
 ghost use Rattle.ait_read.specs.Places.{applicationAt, descriptorAt, repeatedAt, extensionAt};
-ghost use Rattle.ait_read.specs.Answers.{
-  readAnswer,
-  applicationAnswer,
-  descriptorAnswer,
-  itemAnswer,
-  extensionAnswer,
-  numberOfRead,
-  numberOfApplication,
-  numberOfDescriptor,
-  numberOfItem,
-  numberOfExtension,
-  readNumber,
-  placeNumber,
-  spanPart,
-};
+ghost use Rattle.ait_read.specs.Answers.{readAnswer, applicationAnswer, descriptorAnswer, itemAnswer, extensionAnswer, numberOfRead};
+ghost use Rattle.ait_read.specs.Answers.{numberOfApplication, numberOfDescriptor, numberOfItem, numberOfExtension, readNumber, placeNumber};
+ghost use Rattle.ait_read.specs.Answers.{spanPart};
 pub use classes::class_of;
 pub use classes::control_of;
 pub use labels::resolve;
@@ -72,21 +64,6 @@ pub enum Scope {
     Own(usize),
 }
 
-// What is repeated within a descriptor.
-pub enum Repeated {
-    Profiles,
-    Labels,
-    Names,
-    Bases,
-    Identifiers,
-}
-
-// A part of the section: `part` hands it out.
-pub struct Span {
-    pub start: usize,
-    pub size: usize,
-}
-
 // The section's header, and how much it has.
 pub struct Table {
     pub test: u16,
@@ -107,77 +84,6 @@ pub struct Application {
     pub descriptors: usize,
 }
 
-pub struct Profile {
-    pub number: u16,
-    pub major: u8,
-    pub minor: u8,
-    pub micro: u8,
-}
-
-// A name, and the three bytes of its language.
-pub struct Name {
-    pub first: u8,
-    pub second: u8,
-    pub third: u8,
-    pub text: Span,
-}
-
-pub struct Base {
-    pub text: Span,
-    pub extensions: usize,
-}
-
-pub struct Identifier {
-    pub organisation: u32,
-    pub number: u16,
-    pub priority: u8,
-}
-
-// A descriptor, by its tag. A 0x02 is Local or Remote (protocol 1), Bases (protocol 3) or Selector
-// (any other, its selector raw); Raw is every other tag.
-pub enum Described {
-    Application {
-        profiles: usize,
-        bound: u8,
-        visibility: u8,
-        priority: u8,
-        labels: usize,
-    },
-    Names {
-        names: usize,
-    },
-    Local {
-        label: u8,
-        component: u8,
-    },
-    Remote {
-        label: u8,
-        network: u16,
-        transport: u16,
-        service: u16,
-        component: u8,
-    },
-    Bases {
-        label: u8,
-        bases: usize,
-    },
-    Selector {
-        protocol: u16,
-        label: u8,
-        selector: Span,
-    },
-    Identifiers {
-        identifiers: usize,
-    },
-    Path {
-        path: Span,
-    },
-    Raw {
-        tag: u8,
-        contents: Span,
-    },
-}
-
 pub enum ReadAnswer {
     Refused(Refusal),
     Accepted(Table),
@@ -191,15 +97,6 @@ pub enum ApplicationAnswer {
 pub enum DescriptorAnswer {
     Refused(Refusal),
     Found(Described),
-}
-
-// What repeats within a descriptor: one case for each of `Repeated`.
-pub enum Item {
-    Profile(Profile),
-    Label(u8),
-    Name(Name),
-    Base(Base),
-    Identifier(Identifier),
 }
 
 pub enum ItemAnswer {
@@ -268,7 +165,7 @@ pub fn descriptor_at(s: &[u8], scope: Scope, j: usize) -> DescriptorAnswer
         Located::Refused(r) => DescriptorAnswer::Refused(r),
         Located::At { start, size } => {
             let x = part(s, start, size);
-            DescriptorAnswer::Found(describe(x, start))
+            DescriptorAnswer::Found(describe(x, start as u16))
         }
     }
 }
@@ -282,7 +179,7 @@ pub fn item_at(s: &[u8], scope: Scope, j: usize, what: Repeated, k: usize) -> It
         Located::Refused(r) => ItemAnswer::Refused(r),
         Located::At { start, size } => {
             let x = part(s, start, size);
-            ItemAnswer::Found(item_of(x, start, what))
+            ItemAnswer::Found(item_of(x, start as u16, what))
         }
     }
 }
@@ -296,7 +193,7 @@ pub fn extension_at(s: &[u8], scope: Scope, j: usize, k: usize, m: usize) -> Ext
         Located::Refused(r) => ExtensionAnswer::Refused(r),
         Located::At { start, size } => {
             let x = part(s, start, size);
-            ExtensionAnswer::Found(extension_of(x, start))
+            ExtensionAnswer::Found(extension_of(x, start as u16))
         }
     }
 }

@@ -1,25 +1,13 @@
 // Where things lie: each finder is one step within the one before.
-use crate::Repeated;
 use crate::Scope;
 use crate::steps::Step;
-use crate::steps::kind_of;
 use crate::steps::within;
 use ait_descriptors::Kind;
+use ait_descriptors::Repeated;
+use ait_descriptors::kind_of;
 use wire::Place;
 ghost use mathlib.Core.Path.{_≡_};
-ghost use Rattle.ait_read.specs.Places.{
-  bodyAt,
-  commonAt,
-  loopAt,
-  applicationAt,
-  ownAt,
-  scopeAt,
-  descriptorAt,
-  listAt,
-  repeatedAt,
-  extensionsAt,
-  extensionAt,
-};
+ghost use Rattle.ait_read.specs.Places.{bodyAt, commonAt, loopAt, applicationAt, ownAt, scopeAt, descriptorAt, listAt, repeatedAt, extensionsAt, extensionAt};
 
 // Between the header's 8 bytes and the CRC's 4.
 fn body_place(s: &[u8]) -> Place

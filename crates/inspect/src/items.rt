@@ -2,12 +2,12 @@
 use crate::Buffer;
 use crate::page::put_line;
 use crate::words::*;
-use ait_read::Described;
+use ait_descriptors::Described;
+use ait_descriptors::Item;
+use ait_descriptors::Name;
+use ait_descriptors::Repeated;
 use ait_read::ExtensionAnswer;
-use ait_read::Item;
 use ait_read::ItemAnswer;
-use ait_read::Name;
-use ait_read::Repeated;
 use ait_read::Resolved;
 use ait_read::Scope;
 

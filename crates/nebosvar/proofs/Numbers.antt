@@ -25,23 +25,23 @@ use Rattle.carousel_handout.specs.Calls.{handoutNumber, handoutPlace, missingNu
 use Rattle.carousel_step.proofs.Exact.{step-number}
 use Rattle.carousel_handout.proofs.Laws.Calls.{report-number}
 use Rattle.ait_read.specs.declared.Scope.{Scope}
-use Rattle.ait_read.specs.declared.Repeated.the-variants as repeated
+use Rattle.ait_descriptors.specs.declared.Repeated.the-variants as repeated
 use Rattle.ait_read.specs.declared.ReadAnswer.{ReadAnswer}
 use Rattle.ait_read.specs.declared.ReadAnswer.the-variants as reading
 use Rattle.ait_read.specs.declared.ApplicationAnswer.{ApplicationAnswer}
 use Rattle.ait_read.specs.declared.ApplicationAnswer.the-variants as application
 use Rattle.ait_read.specs.declared.DescriptorAnswer.{DescriptorAnswer}
 use Rattle.ait_read.specs.declared.DescriptorAnswer.the-variants as descriptor
-use Rattle.ait_read.specs.declared.Described.{Described}
-use Rattle.ait_read.specs.declared.Described.the-variants as described
+use Rattle.ait_descriptors.specs.declared.Described.{Described}
+use Rattle.ait_descriptors.specs.declared.Described.the-variants as described
 use Rattle.ait_read.specs.declared.ExtensionAnswer.{ExtensionAnswer}
 use Rattle.ait_read.specs.declared.ExtensionAnswer.the-variants as extension
 use Rattle.ait_read.specs.declared.Resolved.{Resolved}
 use Rattle.ait_read.specs.declared.Resolved.the-variants as resolved
 use Rattle.ait_read.specs.declared.ItemAnswer.{ItemAnswer}
 use Rattle.ait_read.specs.declared.ItemAnswer.the-variants as items
-use Rattle.ait_read.specs.declared.Item.{Item}
-use Rattle.ait_read.specs.declared.Item.the-variants as item
+use Rattle.ait_descriptors.specs.declared.Item.{Item}
+use Rattle.ait_descriptors.specs.declared.Item.the-variants as item
 use Rattle.ait_read.specs.Places.{applicationAt, descriptorAt, repeatedAt, extensionAt}
 use Rattle.ait_read.specs.Labels.{labelAt}
 use Rattle.ait_read.specs.Acceptance.{applicationTests}

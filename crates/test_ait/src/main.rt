@@ -3,20 +3,20 @@
 // tests/test_ait.py, an independent second program, makes the input and says what must
 // come out.
 
+use ait_descriptors::Described;
+use ait_descriptors::Item;
+use ait_descriptors::Repeated;
+use ait_descriptors::Span;
 use ait_read::Application;
 use ait_read::ApplicationAnswer;
 use ait_read::Class;
 use ait_read::Control;
-use ait_read::Described;
 use ait_read::DescriptorAnswer;
 use ait_read::ExtensionAnswer;
-use ait_read::Item;
 use ait_read::ItemAnswer;
 use ait_read::ReadAnswer;
-use ait_read::Repeated;
 use ait_read::Resolved;
 use ait_read::Scope;
-use ait_read::Span;
 use section::Refusal;
 
 fn main() {

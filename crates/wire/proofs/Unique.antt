@@ -15,6 +15,10 @@ use Rattle.wire.proofs.measured_size.Kinds as size-kinds
 use Rattle.wire.proofs.measured_size.Reads as size-reads
 use Rattle.wire.proofs.measured_end.Kinds as end-kinds
 use Rattle.wire.proofs.measured_end.Reads as end-reads
+use Rattle.wire.proofs.rest.Kinds as rest-kinds
+use Rattle.wire.proofs.rest.Reads as rest-reads
+use Rattle.wire.proofs.bytes_at.Kinds as bytes-at-kinds
+use Rattle.wire.proofs.bytes_at.Reads as bytes-at-reads
 
 eight-at : OneAnswer 1 eight-kinds.ps eight-kinds.r eight-reads.Post
 eight-at κs a x y s t p q = p .0 ∙ sym (q .0)
@@ -36,3 +40,9 @@ measured-size κs a x y s t p q = p ∙ sym q
 
 measured-end : OneAnswer 1 end-kinds.ps end-kinds.r end-reads.Post
 measured-end κs a x y s t p q = p ∙ sym q
+
+rest : OneAnswer 1 rest-kinds.ps rest-kinds.r rest-reads.Post
+rest κs a x y s t p q = p ∙ sym q
+
+bytes-at : OneAnswer 1 bytes-at-kinds.ps bytes-at-kinds.r bytes-at-reads.Post
+bytes-at κs a x y s t p q = p ∙ sym q

@@ -7,6 +7,7 @@
 ghost use mathlib.Core.Path.{_≡_};
 ghost use Prim.Native.Nat.{_<_};
 ghost use lib.ListN.{take, drop};
+ghost use Rattle.wire.specs.Places.{after, bytes};
 ghost use Rattle.wire.specs.Items.{measured, items, endOf};
 ghost use Rattle.wire.specs.Fields.{byteAt, twelveAt, sixteenAt, thirtyTwoAt};
 
@@ -110,4 +111,30 @@ pub fn measured_end(s: &[u8], start: usize, count: usize, h: usize, at: usize) -
         left -= 1;
     }
     i
+}
+
+// What follows the first `at` bytes.
+pub fn rest(x: &[u8], at: usize) -> Place
+    ensures { λ r. ⌜ r ≡ after at (now (x .entry)) ⌝ }
+{
+    if x.len() < at {
+        return Place::Nothing;
+    }
+    Place::At {
+        start: at,
+        size: x.len() - at,
+    }
+}
+
+// The `n` bytes from `at` on.
+pub fn bytes_at(x: &[u8], at: usize, n: usize) -> Place
+    ensures { λ r. ⌜ r ≡ bytes at n (now (x .entry)) ⌝ }
+{
+    if x.len() < at {
+        return Place::Nothing;
+    }
+    if x.len() - at < n {
+        return Place::Nothing;
+    }
+    Place::At { start: at, size: n }
 }

@@ -13,7 +13,8 @@ use Rattle.wire.proofs.Laws.Steps.{every-none}
 use Rattle.ait_descriptors.specs.declared.Test.the-variants.{Malformed, Tagged}
 use Rattle.ait_body.specs.declared.Clause.{Clause}
 use Rattle.ait_body.specs.declared.Clause.the-variants.{WellMade, Sole}
-use Rattle.ait_descriptors.specs.Kinds.{application, descriptor}
+use Rattle.ait_descriptors.specs.Kinds.{application}
+use Rattle.ait_descriptors.specs.Descriptor.{descriptor}
 use Rattle.ait_descriptors.specs.Contents.{wellMade, testOf}
 use Rattle.ait_body.specs.Body.{commonLength, loopLength, commonLoop, applicationLoop, ownLoop, goodLoop, soleLoop, clauseOf, wellFormed, bodyMeets7, meets18, bodyRefusal}
 

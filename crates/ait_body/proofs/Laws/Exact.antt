@@ -12,7 +12,8 @@ use Rattle.wire.specs.Tests.{holds, RisingFrom}
 use Rattle.wire.proofs.Laws.Steps.{every-both}
 use Rattle.wire.proofs.Laws.Tests.{lowest-met, none-met, both}
 use Rattle.ait_body.proofs.Laws.Body.{is0}
-use Rattle.ait_descriptors.specs.Kinds.{application, descriptor}
+use Rattle.ait_descriptors.specs.Kinds.{application}
+use Rattle.ait_descriptors.specs.Descriptor.{descriptor}
 use Rattle.ait_descriptors.specs.Contents.{wellMade}
 use Rattle.ait_body.specs.Body.{commonLength, loopLength, commonLoop, applicationLoop, ownLoop, goodLoop, soleLoop, clauseOf, wellFormed, bodyMeets7, meets18, bodyTests, bodyRefusal, WellFormed}
 

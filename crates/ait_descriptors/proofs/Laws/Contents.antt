@@ -10,11 +10,14 @@ use lib.Seq.{getD-drop}
 use Rattle.wire.specs.Fields.{byteAt}
 use borrow.Author.Tests.{eq-eqb, ne-eqb, le-leb, lt-leb, leb-true}
 use Rattle.wire.specs.Items.{fills}
-use Rattle.ait_descriptors.specs.Kinds.{name, base, identifier}
+use Rattle.ait_descriptors.specs.Tag01.{name, good01}
+use Rattle.ait_descriptors.specs.Tag02.{base, good02, selector1, selector3, selector, remoteOf, protocolOf}
+use Rattle.ait_descriptors.specs.Tag05.{identifier, good05}
 use Rattle.ait_descriptors.specs.declared.Test.{Test}
-use Rattle.ait_descriptors.specs.declared.Test.the-variants.{Any, Malformed, Tagged, Labelled}
-use Rattle.ait_descriptors.specs.Contents.{tagOf, wellMade, testOf, contentsOf, profilesLength, good00, good01, good02, good05, selector1}
-use Rattle.ait_descriptors.specs.Contents.{selector3, selector, remoteOf, protocolOf, contentsGood}
+use Rattle.ait_descriptors.specs.declared.Test.the-variants.{Malformed, Tagged, Labelled}
+use Rattle.ait_descriptors.specs.Descriptor.{tagOf, contentsOf}
+use Rattle.ait_descriptors.specs.Contents.{wellMade, testOf, contentsGood}
+use Rattle.ait_descriptors.specs.Tag00.{profilesLength, good00}
 
 -- contents of a descriptor too short to have any
 pub no-contents : (d : List ℕ) → length d < 2 → drop (length d) d ≡ contentsOf d
@@ -74,16 +77,16 @@ module _ (t : ℕ) (c : List ℕ) where
   unfolding contentsGood
   good-00 e = rw (eq-eqb t 0 e)
 
-  pub good-01 : t ≡ 0x01 → fills name c ≡ contentsGood t c
-  unfolding contentsGood good01
+  pub good-01 : t ≡ 0x01 → good01 c ≡ contentsGood t c
+  unfolding contentsGood
   good-01 e = rw (ne-eqb t 0 (omega arith), eq-eqb t 1 e)
 
   pub good-02 : t ≡ 0x02 → good02 c ≡ contentsGood t c
   unfolding contentsGood
   good-02 e = rw (ne-eqb t 0 (omega arith), ne-eqb t 1 (omega arith), eq-eqb t 2 e)
 
-  pub good-05 : t ≡ 0x05 → fills identifier c ≡ contentsGood t c
-  unfolding contentsGood good05
+  pub good-05 : t ≡ 0x05 → good05 c ≡ contentsGood t c
+  unfolding contentsGood
   good-05 e = rw (ne-eqb t 0 (omega arith), ne-eqb t 1 (omega arith), ne-eqb t 2 (omega arith), eq-eqb t 5 e)
 
   pub known-raw : (t ≡ 0x00 → ⊥) → (t ≡ 0x01 → ⊥) → (t ≡ 0x02 → ⊥) → (t ≡ 0x05 → ⊥) → true ≡ contentsGood t c
@@ -94,10 +97,6 @@ module _ (t : ℕ) (c : List ℕ) where
 module _ (d : List ℕ) where
   pub test-is : (t test : Test) → test ≡ t → testOf t d ≡ testOf test d
   test-is t test e = ap (λ (x : Test). testOf x d) (sym e)
-
-  pub any-is : true ≡ testOf Any d
-  unfolding testOf
-  any-is = refl
 
   pub malformed-is : (w : Bool) → w ≡ wellMade d → not w ≡ testOf Malformed d
   unfolding testOf

@@ -2,19 +2,20 @@
 use Prim.Native.Nat.{ℕ, zero, suc, _+_, _≤_, _<_}
 use mathlib.Core.Path.{_≡_, refl, sym, ap, _∙_}
 use mathlib.Core.Bool.{Bool, true, false, cond}
-use mathlib.Core.List.{List}
+use mathlib.Core.List.{List, [], _∷_}
 use native.Mathlib.Omega.{arith}
 use lib.Dec.{leb}
 use lib.ListN.{length, take, drop}
 use borrow.Author.Tests.{le-leb, lt-leb, leb-true}
 use Rattle.wire.specs.Fields.{byteAt, twelveAt, bits}
 use Rattle.wire.proofs.Laws.Fields.{field-take}
-use Rattle.wire.specs.Items.{IsKind, items, count, endOf}
+use Rattle.wire.specs.Items.{Size, IsKind, items, count, number, endOf}
 use Rattle.wire.proofs.Laws.Frames.{framed-kind, framed-least, same-byte, same-length}
 use Rattle.wire.proofs.Laws.Counted.{counted-fits, counted-own, counted-all, ends-after}
 use Rattle.ait_descriptors.specs.declared.Kind.{Kind}
 use Rattle.ait_descriptors.specs.declared.Kind.the-variants.{Application, Descriptor, Profile, Label, Name, Base, Extension, Identifier}
-use Rattle.ait_descriptors.specs.Kinds.{application, extension, extensionsStart, extensionCount, base, sizeOf}
+use Rattle.ait_descriptors.specs.Kinds.{application, sizeOf}
+use Rattle.ait_descriptors.specs.Tag02.{extension, extensionsStart, extensionCount, base}
 
 -- a base with its extensions: what the first bytes say, then a counted list
 module _ (xs : List ℕ) where
@@ -99,3 +100,13 @@ module _ (x : List ℕ) (w : base x ≡ length x) (p : 0 < length x) where
   base-count =
       let q = base-has x (λ z. omega (arith, z)) in
       counted-all extension extension-kind (extensionCount x) (extensionsStart x) x (q .0) p (sym (q .1) ∙ w)
+
+-- how many there are is how many meet a test that all meet
+all-met : (is : List (List ℕ)) → number (λ (x : List ℕ). true) is ≡ length is
+unfolding number
+all-met [] = refl
+all-met (x ∷ is) = ap suc (all-met is)
+
+pub count-all : (size : Size) (s : List ℕ) → number (λ (x : List ℕ). true) (items size s) ≡ count size s
+unfolding count
+count-all size s = all-met (items size s)

@@ -11,7 +11,8 @@ use Rattle.wire.specs.Items.{Whole, fills, IsKind, items, joined, endOf}
 use Rattle.wire.proofs.Laws.Fields.{field-one}
 use Rattle.wire.proofs.Laws.Frames.{framed-kind}
 use Rattle.wire.proofs.Laws.Meaning.{fills-means, unique, append-nil, end-means, end-has}
-use Rattle.ait_descriptors.specs.Kinds.{extension, base, extensionsStart, extensionCount, sizeOf}
+use Rattle.ait_descriptors.specs.Tag02.{extension, base, extensionsStart, extensionCount}
+use Rattle.ait_descriptors.specs.Kinds.{sizeOf}
 use Rattle.ait_descriptors.specs.declared.Kind.the-variants as kinds
 use Rattle.ait_descriptors.proofs.Laws.Kinds.{base-is, base-text, extension-kind, kind-of}
 use Rattle.ait_grammar.specs.Bytes.{Bytes, Each, Short, sized8, spellAll}

@@ -13,8 +13,10 @@ use Rattle.wire.specs.Items.{Whole, items, fills, every}
 use Rattle.wire.proofs.Laws.Fields.{field-one}
 use Rattle.wire.proofs.Laws.Frames.{framed-kind}
 use Rattle.wire.proofs.Laws.Tests.{both}
-use Rattle.ait_descriptors.specs.Kinds.{descriptor}
-use Rattle.ait_descriptors.specs.Contents.{contentsGood, tagOf, wellMade}
+use Rattle.ait_descriptors.specs.Descriptor.{descriptor, tagOf}
+use Rattle.ait_descriptors.specs.Tag01.{good01}
+use Rattle.ait_descriptors.specs.Tag05.{good05}
+use Rattle.ait_descriptors.specs.Contents.{contentsGood, wellMade}
 use Rattle.ait_descriptors.proofs.Laws.Contents.{good-00, good-01, good-02, good-05, known-raw}
 use Rattle.ait_body.specs.Body.{goodLoop}
 use Rattle.ait_grammar.specs.Bytes.{Bytes, Each, spellAll}
@@ -52,7 +54,7 @@ module _ (t : ℕ) where
       whence (raw v) f = absurd (f .0 e)
 
   is-01 : t ≡ 0x01 → Known
-  unfolding spellContents
+  unfolding spellContents good01
   is-01 e =
       seen (when names-form (λ c. contentsGood t c ≡ true) (λ c g. sym (good-01 t c e) ∙ g) (λ c b g. good-01 t c e ∙ g))
       (λ v. of01 v) spellContents (FitsContents t) (λ v f. refl) (λ v f. (e, f)) whence
@@ -80,7 +82,7 @@ module _ (t : ℕ) where
       whence (raw v) f = absurd (f .2 e)
 
   is-05 : t ≡ 0x05 → Known
-  unfolding spellContents
+  unfolding spellContents good05
   is-05 e =
       seen (when identifiers-form (λ c. contentsGood t c ≡ true) (λ c g. sym (good-05 t c e) ∙ g) (λ c b g. good-05 t c e ∙ g))
       (λ v. of05 v) spellContents (FitsContents t) (λ v f. refl) (λ v f. (e, f)) whence

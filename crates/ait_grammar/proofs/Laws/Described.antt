@@ -13,17 +13,21 @@ use Rattle.wire.specs.Places.{after, bytes, partAt}
 use Rattle.wire.proofs.Laws.Fields.{field-one, field-drop, spelled-length, spelled-reads}
 use Rattle.wire.proofs.Laws.Frames.{framed-kind}
 use Rattle.wire.proofs.Laws.Meaning.{append-nil}
-use Rattle.ait_descriptors.specs.Kinds.{profile, label, name, base, identifier, sizeOf}
-use Rattle.ait_descriptors.specs.Contents.{tagOf}
-use Rattle.ait_read.specs.declared.Span.{Span}
-use Rattle.ait_read.specs.declared.Described.{Described}
-use Rattle.ait_read.specs.declared.Described.the-variants as described
-use Rattle.ait_read.specs.declared.Repeated.{Repeated}
-use Rattle.ait_read.specs.declared.Repeated.the-variants.{Profiles, Labels, Names, Bases, Identifiers}
-use Rattle.ait_read.specs.Places.{listIn, kindOf, countAt, repeatedCount, taggedRest}
-use Rattle.ait_read.specs.Records.{restOf, describedOf, described00, described1, described02}
-use Rattle.ait_read.proofs.Laws.Places.{tagged-is, bases-is, profiles-is}
-use Rattle.ait_read.proofs.Laws.Records.{is-00, is-01, is-02, is-05, is-15, is-raw, is-1, is-3, is-other, is-remote, is-local}
+use Rattle.ait_descriptors.specs.Tag00.{profile, label, described00, profilesIn, labelsIn}
+use Rattle.ait_descriptors.specs.Tag01.{name, namesIn, described01}
+use Rattle.ait_descriptors.specs.Tag02.{base, described1, described02, basesIn}
+use Rattle.ait_descriptors.specs.Tag05.{identifier, identifiersIn, described05}
+use Rattle.ait_descriptors.specs.Kinds.{sizeOf, countAt}
+use Rattle.ait_descriptors.specs.Descriptor.{tagOf, taggedRest, restOf}
+use Rattle.ait_descriptors.specs.declared.Span.{Span}
+use Rattle.ait_descriptors.specs.declared.Described.{Described}
+use Rattle.ait_descriptors.specs.declared.Described.the-variants as described
+use Rattle.ait_descriptors.specs.declared.Repeated.{Repeated}
+use Rattle.ait_descriptors.specs.declared.Repeated.the-variants.{Profiles, Labels, Names, Bases, Identifiers}
+use Rattle.ait_descriptors.specs.Tag15.{described15}
+use Rattle.ait_descriptors.specs.Contents.{listIn, kindOf, repeatedCount, describedOf}
+use Rattle.ait_descriptors.proofs.Laws.Lists.{tagged-is, bases-is, profiles-is}
+use Rattle.ait_descriptors.proofs.Laws.Records.{is-00, is-01, is-02, is-05, is-15, is-raw, is-1, is-3, is-other, is-remote, is-local}
 use Rattle.ait_grammar.specs.Bytes.{Each, Bytes, spellAll, sized8}
 use Rattle.ait_grammar.specs.Tag00.{Value00, spellProfile, spell00, Fits00}
 use Rattle.ait_grammar.specs.Tag01.{NameValue, spellName, FitsName}
@@ -41,12 +45,6 @@ use Rattle.ait_grammar.proofs.Laws.Bases.{base-kind, base-form}
 use Rattle.ait_grammar.proofs.Laws.Tag05.{identifier-form}
 use Rattle.ait_grammar.proofs.Laws.Loops.{behind}
 use Rattle.ait_grammar.proofs.Laws.Shown.{first-said, byte-behind, tag-said, rest-said, length-said, byte-said, field-said, drop-said, after-said, part-said}
-
--- how many items a list within a descriptor has, where its part is known
-module _ (what : Repeated) (x : List ℕ) where
-  listed : (l : List ℕ) → partAt (listIn what x) x ≡ l → repeatedCount what x ≡ count (sizeOf (kindOf what)) l
-  unfolding repeatedCount countAt
-  listed l f = ap (count (sizeOf (kindOf what))) f
 
 -- the rest of a descriptor after h bytes of its contents, of n bytes
 rest-span : (h : ℕ) (x : List ℕ) (a n : ℕ) → length x ≡ h + n → restOf h x a ≡ span (a + h) n
@@ -80,37 +78,37 @@ module _ (d : DescriptorValue) (f : FitsDescriptor d) where
   all-said = after-said d f 0 (omega arith)
 
   -- the names lie in it, spelled end to end; and so the identifiers
-  pub names-listed : d .tag ≡ 0x01 → (ns : List NameValue) → c ≡ spellAll spellName ns → partAt (listIn Names x) x ≡ spellAll spellName ns
-  unfolding listIn
+  pub names-listed : d .tag ≡ 0x01 → (ns : List NameValue) → c ≡ spellAll spellName ns → partAt (namesIn x) x ≡ spellAll spellName ns
+  unfolding namesIn
   names-listed e ns h = ap (λ (p : Place). partAt p x) (sym (tagged-is x 0x01 2 (tag-said d f ∙ e))) ∙ all-said ∙ h
 
-  pub identifiers-listed : d .tag ≡ 0x05 → (is : List IdentifierValue) → c ≡ spellAll spellIdentifier is → partAt (listIn Identifiers x) x ≡ spellAll spellIdentifier is
-  unfolding listIn
+  pub identifiers-listed : d .tag ≡ 0x05 → (is : List IdentifierValue) → c ≡ spellAll spellIdentifier is → partAt (identifiersIn x) x ≡ spellAll spellIdentifier is
+  unfolding identifiersIn
   identifiers-listed e is h = ap (λ (p : Place). partAt p x) (sym (tagged-is x 0x05 2 (tag-said d f ∙ e))) ∙ all-said ∙ h
 
-  names-said : d .tag ≡ 0x01 → (ns : List NameValue) → Each FitsName ns → c ≡ spellAll spellName ns → repeatedCount Names x ≡ length ns
-  unfolding sizeOf kindOf count listIn
+  names-said : d .tag ≡ 0x01 → (ns : List NameValue) → Each FitsName ns → c ≡ spellAll spellName ns → count name (partAt (namesIn x) x) ≡ length ns
+  unfolding count
   names-said e ns g h =
-      listed Names x _ (names-listed e ns h) ∙ filled-count name (framed-kind 4 _) name-form ns g
+      ap (λ (y : List ℕ). length (items name y)) (names-listed e ns h) ∙ filled-count name (framed-kind 4 _) name-form ns g
 
-  identifiers-said : d .tag ≡ 0x05 → (is : List IdentifierValue) → Each FitsIdentifier is → c ≡ spellAll spellIdentifier is → repeatedCount Identifiers x ≡ length is
-  unfolding sizeOf kindOf count listIn
+  identifiers-said : d .tag ≡ 0x05 → (is : List IdentifierValue) → Each FitsIdentifier is → c ≡ spellAll spellIdentifier is → count identifier (partAt (identifiersIn x) x) ≡ length is
+  unfolding count
   identifiers-said e is g h =
-      listed Identifiers x _ (identifiers-listed e is h) ∙ filled-count identifier (framed-kind 7 _) (fixed-form 7 (omega arith) identifier-form) is g
+      ap (λ (y : List ℕ). length (items identifier y)) (identifiers-listed e is h) ∙ filled-count identifier (framed-kind 7 _) (fixed-form 7 (omega arith) identifier-form) is g
 
   -- 0x01
   shown-01 : (a : ℕ) → (ns : List NameValue) → d .contents ≡ of01 ns → FitsContents (d .tag) (of01 ns) → describedOf x a ≡ described.Names (length ns)
-  unfolding spellContents
+  unfolding spellContents described01
   shown-01 a ns h g = sym (is-01 x a (tag-said d f ∙ g .0)) ∙ ap described.Names (names-said (g .0) ns (g .1) (ap spellContents h))
 
   -- 0x05
   shown-05 : (a : ℕ) → (is : List IdentifierValue) → d .contents ≡ of05 is → FitsContents (d .tag) (of05 is) → describedOf x a ≡ described.Identifiers (length is)
-  unfolding spellContents
+  unfolding spellContents described05
   shown-05 a is h g = sym (is-05 x a (tag-said d f ∙ g .0)) ∙ ap described.Identifiers (identifiers-said (g .0) is (g .1) (ap spellContents h))
 
   -- 0x15, and the other tags
   shown-15 : (a : ℕ) → (xs : List ℕ) → d .contents ≡ of15 xs → FitsContents (d .tag) (of15 xs) → describedOf x a ≡ described.Path (span (a + 2) (length xs))
-  unfolding spellContents
+  unfolding spellContents described15
   shown-15 a xs h g =
       sym (is-15 x a (tag-said d f ∙ g .0))
       ∙ ap described.Path (rest-span 2 x a (length xs) (length-said d f ∙ ap (λ (l : List ℕ). 2 + length l) (ap spellContents h)))
@@ -209,16 +207,16 @@ module _ (d : DescriptorValue) (f : FitsDescriptor d) where
         wide n l = omega arith
 
     -- protocol 3
-    pub bases-listed : (bs : List BaseValue) → v .selector ≡ bases bs → v .protocol ≡ 3 → partAt (listIn Bases x) x ≡ spellAll spellBase bs
-    unfolding listIn spellSelector
+    pub bases-listed : (bs : List BaseValue) → v .selector ≡ bases bs → v .protocol ≡ 3 → partAt (basesIn x) x ≡ spellAll spellBase bs
+    unfolding spellSelector
     bases-listed bs j p =
         let l : 3 ≤ length c = rw selector-length (omega arith) in
         ap (λ (q : Place). partAt q x) (sym (tagged-is x 0x02 5 (tag-said d f ∙ e) ∙ bases-is x (protocol-said ∙ p)))
         ∙ after-said d f 3 l ∙ selector-said ∙ ap spellSelector j
 
-    bases-said : (bs : List BaseValue) → v .selector ≡ bases bs → v .protocol ≡ 3 → Each FitsBase bs → repeatedCount Bases x ≡ length bs
-    unfolding sizeOf kindOf count
-    bases-said bs j p k = listed Bases x _ (bases-listed bs j p) ∙ filled-count base base-kind base-form bs k
+    bases-said : (bs : List BaseValue) → v .selector ≡ bases bs → v .protocol ≡ 3 → Each FitsBase bs → count base (partAt (basesIn x) x) ≡ length bs
+    unfolding count
+    bases-said bs j p k = ap (λ (y : List ℕ). length (items base y)) (bases-listed bs j p) ∙ filled-count base base-kind base-form bs k
 
     shown-bases : (a : ℕ) → (bs : List BaseValue) → v .selector ≡ bases bs → v .protocol ≡ 3 → Each FitsBase bs → describedOf x a ≡ described.Bases (v .label) (length bs)
     shown-bases a bs j p k = shown-02 a ∙ sym (is-3 x a (protocol-said ∙ p)) ∙ ap₂ described.Bases label-said (bases-said bs j p k)
@@ -299,14 +297,13 @@ module _ (d : DescriptorValue) (f : FitsDescriptor d) where
         ap (λ (m : ℕ). partAt (bytes 3 m x) x) profiles-length ∙ part-said d f 1 n (rw len-all (omega arith))
         ∙ ap (take n) u ∙ take-at profs (q₁ ++ (q₂ ++ v .labels)) n refl
 
-    pub profiles-listed : partAt (listIn Profiles x) x ≡ profs
+    pub profiles-listed : partAt (profilesIn x) x ≡ profs
     profiles-listed = ap (λ (p : Place). partAt p x) (sym (profiles-is x (tag-said d f ∙ e))) ∙ profiles-part
 
-    profiles-said : repeatedCount Profiles x ≡ length (v .profiles)
-    unfolding sizeOf kindOf count
+    profiles-said : count profile (partAt (profilesIn x) x) ≡ length (v .profiles)
+    unfolding count
     profiles-said =
-        listed Profiles x profs profiles-listed
-        ∙ filled-count profile (framed-kind 5 _) (fixed-form 5 (omega arith) profile-form) (v .profiles) (g .profiles)
+        ap (λ (y : List ℕ). length (items profile y)) profiles-listed ∙ filled-count profile (framed-kind 5 _) (fixed-form 5 (omega arith) profile-form) (v .profiles) (g .profiles)
 
     labels-part : partAt (after (5 + byteAt x 2) x) x ≡ v .labels
     labels-part =
@@ -314,14 +311,14 @@ module _ (d : DescriptorValue) (f : FitsDescriptor d) where
         ap (λ (m : ℕ). partAt (after m x) x) z ∙ after-said d f (3 + n) (rw len-all (omega arith))
         ∙ ap (drop (3 + n)) spelt₂ ∙ drop-at ((sized8 profs ++ q₁) ++ q₂) (v .labels) (3 + n) len₂
 
-    pub labels-listed : partAt (listIn Labels x) x ≡ spellAll alone (v .labels)
-    unfolding listIn
+    pub labels-listed : partAt (labelsIn x) x ≡ spellAll alone (v .labels)
+    unfolding labelsIn
     labels-listed =
         ap (λ (p : Place). partAt p x) (sym (tagged-is x 0x00 (5 + byteAt x 2) (tag-said d f ∙ e))) ∙ labels-part ∙ sym (bytes-spelled (v .labels))
 
-    labels-said : repeatedCount Labels x ≡ length (v .labels)
-    unfolding sizeOf kindOf count
-    labels-said = listed Labels x _ labels-listed ∙ filled-count label (framed-kind 1 _) (fixed-form 1 (omega arith) label-form) (v .labels) (g .labels)
+    labels-said : count label (partAt (labelsIn x) x) ≡ length (v .labels)
+    unfolding count
+    labels-said = ap (λ (y : List ℕ). length (items label y)) labels-listed ∙ filled-count label (framed-kind 1 _) (fixed-form 1 (omega arith) label-form) (v .labels) (g .labels)
 
     shown-00 : (a : ℕ) → describedOf x a ≡ described.Application (length (v .profiles)) (v .bound) (v .visibility) (v .priority) (length (v .labels))
     unfolding described00

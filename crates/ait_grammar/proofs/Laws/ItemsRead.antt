@@ -11,14 +11,17 @@ use Rattle.wire.specs.Places.{after, partAt}
 use Rattle.wire.proofs.Laws.Finders.{after-at}
 use Rattle.wire.proofs.Laws.Loops.{tail}
 use Rattle.wire.proofs.Laws.Parts.{part-at}
-use Rattle.ait_read.specs.Places.{extensionsIn}
+use Rattle.ait_descriptors.specs.Tag02.{extensionsIn, extensionCount, baseOf, extensionRead}
 use Rattle.wire.specs.Fields.{byteAt, fieldAt, sixteenAt, thirtyTwoAt, spelled}
 use Rattle.wire.proofs.Laws.Fields.{spelled-length, spelled-reads}
 use Rattle.wire.proofs.Laws.Meaning.{append-nil}
-use Rattle.ait_descriptors.specs.Kinds.{extensionCount}
-use Rattle.ait_read.specs.declared.Item.the-variants as item
-use Rattle.ait_read.specs.declared.Repeated.the-variants.{Profiles, Labels, Names, Bases, Identifiers}
-use Rattle.ait_read.specs.Records.{restOf, profileOf, nameOf, baseOf, extensionRead, identifierOf, itemOf}
+use Rattle.ait_descriptors.specs.declared.Item.the-variants as item
+use Rattle.ait_descriptors.specs.declared.Repeated.the-variants.{Profiles, Labels, Names, Bases, Identifiers}
+use Rattle.ait_descriptors.specs.Descriptor.{restOf}
+use Rattle.ait_descriptors.specs.Tag00.{profileOf}
+use Rattle.ait_descriptors.specs.Tag01.{nameOf}
+use Rattle.ait_descriptors.specs.Tag05.{identifierOf}
+use Rattle.ait_descriptors.specs.Contents.{itemOf}
 use Rattle.ait_grammar.specs.Bytes.{Short, spellAll, sized8}
 use Rattle.ait_grammar.specs.Tag00.{ProfileValue, spellProfile, FitsProfile}
 use Rattle.ait_grammar.specs.Tag01.{NameValue, spellName, FitsName}

@@ -15,7 +15,7 @@ use Rattle.wire.proofs.Laws.Fields.{field-one, field-drop, spelled-length, spel
 use Rattle.wire.proofs.Laws.Finders.{after-at, bytes-at}
 use Rattle.wire.proofs.Laws.Loops.{tail}
 use Rattle.wire.proofs.Laws.Parts.{part-at}
-use Rattle.ait_descriptors.specs.Contents.{tagOf}
+use Rattle.ait_descriptors.specs.Descriptor.{tagOf}
 use Rattle.ait_grammar.specs.Bytes.{sized8}
 use Rattle.ait_grammar.specs.Contents.{DescriptorValue, spellContents, spellDescriptor, FitsDescriptor}
 use Rattle.ait_grammar.proofs.Laws.Loops.{behind}

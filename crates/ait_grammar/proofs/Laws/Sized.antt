@@ -1,14 +1,13 @@
 -- A length and what it counts: of 8 bits, and of 12 bits after 4 reserved ones. And where such a part ends, told from the bytes.
 use Prim.Native.Nat.{ℕ, _+_, _*_, _/_, _%_, _^_, _≤_, _<_}
 use mathlib.Core.Path.{_≡_, refl, sym, ap, _∙_}
-use mathlib.Core.List.{List, _++_}
+use mathlib.Core.List.{List, _++_, append-assoc}
 use native.Mathlib.Omega.{arith}
 use lib.ListN.{length, take, drop, length-append}
 use lib.Seq.{getD-take}
 use Rattle.wire.specs.Fields.{byteAt, fieldAt, twelveAt, spelled}
 use Rattle.wire.proofs.Laws.Fields.{field-one, field-take, spelled-length, spelled-reads}
 use native.Mathlib.Nat.{mod-eq-of-lt}
-use mathlib.Core.List.{append-assoc}
 use Rattle.ait_grammar.specs.Bytes.{sized12, sized8}
 use Rattle.ait_grammar.proofs.Laws.Forms.{Form, when, seen, field}
 use Rattle.ait_grammar.proofs.Laws.Counted.{counted}

@@ -9,8 +9,7 @@ use lib.Dec.{eqb}
 use borrow.Author.Tests.{eq-eqb, eqb-true, eqb-false}
 use Rattle.wire.specs.Items.{items, number}
 use Rattle.wire.proofs.Laws.Tests.{both}
-use Rattle.ait_descriptors.specs.Kinds.{descriptor}
-use Rattle.ait_descriptors.specs.Contents.{tagOf}
+use Rattle.ait_descriptors.specs.Descriptor.{descriptor, tagOf}
 use Rattle.ait_body.specs.Body.{goodLoop, soleLoop}
 use Rattle.ait_grammar.specs.Bytes.{Bytes, Each, spellAll}
 use Rattle.ait_grammar.specs.Contents.{DescriptorValue, FitsDescriptor, spellDescriptor}

@@ -12,8 +12,7 @@ use Rattle.wire.specs.Fields.{byteAt, spelled}
 use Rattle.wire.specs.Items.{fills}
 use Rattle.wire.proofs.Laws.Frames.{framed-kind}
 use Rattle.wire.proofs.Laws.Tests.{both}
-use Rattle.ait_descriptors.specs.Kinds.{profile}
-use Rattle.ait_descriptors.specs.Contents.{good00}
+use Rattle.ait_descriptors.specs.Tag00.{profile, good00}
 use Rattle.ait_grammar.specs.Bytes.{Bytes, Each, sized8, spellAll}
 use Rattle.ait_grammar.specs.Tag00.{FitsProfile, spellProfile, Fits00, spell00}
 use Rattle.ait_grammar.proofs.Laws.Forms.{Form, when, seen, field, plain}

@@ -10,7 +10,7 @@ use Rattle.wire.specs.Fields.{byteAt, fieldAt, spelled}
 use Rattle.wire.specs.Items.{Whole, fills}
 use Rattle.wire.proofs.Laws.Fields.{field-one}
 use Rattle.wire.proofs.Laws.Frames.{framed-kind}
-use Rattle.ait_descriptors.specs.Kinds.{name}
+use Rattle.ait_descriptors.specs.Tag01.{name}
 use Rattle.ait_grammar.specs.Bytes.{Bytes, Each, spellAll}
 use Rattle.ait_grammar.specs.Tag01.{FitsName, spellName}
 use Rattle.ait_grammar.proofs.Laws.Forms.{Form, when, seen, field, plain}

@@ -11,7 +11,7 @@ use lib.Seq.{length-take-le}
 use borrow.Author.Tests.{eq-eqb, ne-eqb, eqb-true, eqb-false}
 use Rattle.wire.specs.Fields.{fieldAt, sixteenAt, spelled}
 use Rattle.wire.proofs.Laws.Fields.{field-take}
-use Rattle.ait_descriptors.specs.Contents.{remoteOf, selector, good02}
+use Rattle.ait_descriptors.specs.Tag02.{remoteOf, selector, good02}
 use Rattle.ait_descriptors.proofs.Laws.Contents.{remote-is, local-is, selector-1, selector-3, selector-raw, good02-is, good02-long}
 use Rattle.ait_grammar.specs.Bytes.{Bytes, Each}
 use Rattle.ait_grammar.specs.Tag02.{BaseValue, Fits02, FitsBase, FitsLocal, FitsRemote, FitsSelector, LocalValue, RemoteValue, SelectorValue}

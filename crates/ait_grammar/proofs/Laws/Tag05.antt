@@ -5,7 +5,7 @@ use native.Mathlib.Omega.{arith}
 use lib.ListN.{length}
 use Rattle.wire.specs.Items.{fills}
 use Rattle.wire.proofs.Laws.Frames.{framed-kind}
-use Rattle.ait_descriptors.specs.Kinds.{identifier}
+use Rattle.ait_descriptors.specs.Tag05.{identifier}
 use Rattle.ait_grammar.specs.Bytes.{Each, spellAll}
 use Rattle.ait_grammar.specs.Tag05.{FitsIdentifier, spellIdentifier}
 use Rattle.ait_grammar.proofs.Laws.Forms.{Form, seen, field}

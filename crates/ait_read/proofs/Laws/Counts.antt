@@ -18,27 +18,29 @@ use Rattle.section.specs.declared.Checked.the-variants.{Accepted}
 use Rattle.section.specs.Answer.{refused}
 use Rattle.ait_descriptors.specs.declared.Kind.{Kind}
 use Rattle.ait_descriptors.specs.declared.Kind.the-variants as kind
-use Rattle.ait_descriptors.specs.Kinds.{sizeOf, base, extension, extensionsStart}
+use Rattle.ait_descriptors.specs.Kinds.{sizeOf, countAt}
+use Rattle.ait_descriptors.specs.Tag02.{base, extension, extensionsStart, extensionsIn, baseOf, extensionRead}
 use Rattle.ait_descriptors.proofs.Laws.Kinds as kinds
 use Rattle.ait_read.specs.declared.Scope.{Scope}
-use Rattle.ait_read.specs.declared.Repeated.{Repeated}
-use Rattle.ait_read.specs.declared.Repeated.the-variants.{Bases}
+use Rattle.ait_descriptors.specs.declared.Repeated.{Repeated}
+use Rattle.ait_descriptors.specs.declared.Repeated.the-variants.{Bases}
 use Rattle.ait_read.specs.declared.steps.Step.the-variants.{Extensions}
 use Rattle.ait_read.specs.declared.Application.{Application}
-use Rattle.ait_read.specs.declared.Described.{Described}
-use Rattle.ait_read.specs.declared.Item.{Item}
-use Rattle.ait_read.specs.declared.Span.{Span}
+use Rattle.ait_descriptors.specs.declared.Described.{Described}
+use Rattle.ait_descriptors.specs.declared.Item.{Item}
+use Rattle.ait_descriptors.specs.declared.Span.{Span}
 use Rattle.ait_read.specs.declared.Located.the-variants as located
 use Rattle.ait_read.specs.declared.ApplicationAnswer.the-variants as application
 use Rattle.ait_read.specs.declared.DescriptorAnswer.the-variants as descriptor
 use Rattle.ait_read.specs.declared.ItemAnswer.the-variants as item
 use Rattle.ait_read.specs.declared.ExtensionAnswer.the-variants as extension
 use Rattle.ait_read.specs.Acceptance.{tableJudged}
-use Rattle.ait_read.specs.Places.{loopAt, applicationAt, ownAt, scopeAt, descriptorAt, listIn, kindOf, listAt, repeatedAt, extensionsIn}
-use Rattle.ait_read.specs.Places.{extensionsAt, extensionAt, stepIn, countAt, repeatedCount}
-use Rattle.ait_read.specs.Records.{applicationOf, describedOf, itemOf, baseOf, extensionRead}
+use Rattle.ait_read.specs.Places.{loopAt, applicationAt, ownAt, scopeAt, descriptorAt, listAt, repeatedAt, extensionsAt, extensionAt, stepIn}
+use Rattle.ait_descriptors.specs.Contents.{listIn, kindOf, repeatedCount, describedOf, itemOf}
+use Rattle.ait_read.specs.Records.{applicationOf}
 use Rattle.ait_read.specs.Answers.{locatedOf, applicationAnswer, descriptorAnswer, itemAnswer, extensionAnswer}
-use Rattle.ait_read.proofs.Laws.Places.{sound-application, sound-descriptor, sound-list, sound-listAt, sound-repeated, sound-step}
+use Rattle.ait_read.proofs.Laws.Places.{sound-application, sound-descriptor, sound-listAt, sound-repeated, sound-step}
+use Rattle.ait_descriptors.proofs.Laws.Lists.{sound-list}
 use Rattle.ait_read.proofs.Laws.Acceptance.{located-none, located-at}
 
 -- an item below the count is located, and no other is

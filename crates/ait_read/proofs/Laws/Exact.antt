@@ -21,7 +21,7 @@ use Rattle.section.proofs.Laws.Exact as section
 use Rattle.ait_body.specs.Body.{bodyTests, bodyRefusal}
 use Rattle.ait_body.proofs.Laws.Exact as body
 use Rattle.ait_read.specs.declared.Scope.{Scope}
-use Rattle.ait_read.specs.declared.Repeated.{Repeated}
+use Rattle.ait_descriptors.specs.declared.Repeated.{Repeated}
 use Rattle.ait_read.specs.declared.ReadAnswer.the-variants as read
 use Rattle.ait_read.specs.declared.ApplicationAnswer.the-variants as application
 use Rattle.ait_read.specs.declared.DescriptorAnswer.the-variants as descriptor

@@ -14,7 +14,7 @@ use Rattle.wire.proofs.Laws.Finders.{Sound}
 use Rattle.ait_descriptors.specs.declared.Test.{Test}
 use Rattle.ait_descriptors.specs.declared.Test.the-variants.{Tagged, Labelled}
 use Rattle.ait_read.specs.declared.Scope.the-variants as scope
-use Rattle.ait_read.specs.declared.Repeated.the-variants.{Labels}
+use Rattle.ait_descriptors.specs.declared.Repeated.the-variants.{Labels}
 use Rattle.ait_read.specs.declared.Resolved.the-variants.{Own, Common, Unresolved}
 use Rattle.ait_read.specs.Places.{ownAt, repeatedAt}
 use Rattle.ait_read.specs.Labels.{firstTo, hitAmong, resolvedIn, labelAt}

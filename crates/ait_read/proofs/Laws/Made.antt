@@ -17,7 +17,8 @@ use Rattle.wire.proofs.Laws.Parts.{part-at, part-within, found-item, found-met}
 use Rattle.section.specs.declared.Header.{Header}
 use Rattle.section.specs.declared.Checked.the-variants.{Accepted}
 use Rattle.ait_descriptors.specs.declared.Kind.the-variants as kind
-use Rattle.ait_descriptors.specs.Kinds.{application, descriptor, sizeOf}
+use Rattle.ait_descriptors.specs.Kinds.{application, sizeOf}
+use Rattle.ait_descriptors.specs.Descriptor.{descriptor}
 use Rattle.ait_descriptors.specs.Contents.{wellMade}
 use Rattle.ait_body.specs.Body.{commonLength, loopLength, commonLoop, applicationLoop, ownLoop, WellFormed}
 use Rattle.ait_descriptors.proofs.Laws.Kinds as kinds

@@ -18,7 +18,7 @@ use Rattle.section.specs.declared.Checked.the-variants.{Refused, Accepted}
 use Rattle.section.specs.Answer.{numberOfChecked, refused, onChecked}
 use Rattle.ait_descriptors.specs.declared.Test.the-variants.{Labelled}
 use Rattle.ait_read.specs.declared.Scope.{Scope}
-use Rattle.ait_read.specs.declared.Repeated.{Repeated}
+use Rattle.ait_descriptors.specs.declared.Repeated.{Repeated}
 use Rattle.ait_read.specs.declared.Located.{Located}
 use Rattle.ait_read.specs.declared.Located.the-variants as located
 use Rattle.ait_read.specs.declared.ReadAnswer.the-variants as read
@@ -26,25 +26,9 @@ use Rattle.ait_read.specs.declared.Resolved.{Resolved}
 use Rattle.ait_read.specs.Acceptance.{applicationTests, tableJudged}
 use Rattle.ait_read.specs.Places.{applicationAt, descriptorAt, repeatedAt, extensionAt}
 use Rattle.ait_read.specs.Labels.{firstTo, hitAmong, resolvedIn, labelAt}
-use Rattle.ait_read.specs.Answers.{
-  locatedOf,
-  onLocated,
-  readTable,
-  readAnswer,
-  applicationAnswer,
-  descriptorAnswer,
-  itemAnswer,
-  extensionAnswer,
-  resolveAnswer,
-  numberOfRead,
-  numberOfApplication,
-  numberOfDescriptor,
-  numberOfItem,
-  numberOfExtension,
-  numberOfResolved,
-  readNumber,
-  placeNumber,
-}
+use Rattle.ait_read.specs.Answers.{locatedOf, onLocated, readTable, readAnswer, applicationAnswer, descriptorAnswer, itemAnswer}
+use Rattle.ait_read.specs.Answers.{extensionAnswer, resolveAnswer, numberOfRead, numberOfApplication, numberOfDescriptor, numberOfItem}
+use Rattle.ait_read.specs.Answers.{numberOfExtension, numberOfResolved, readNumber, placeNumber}
 use Rattle.ait_read.proofs.Laws.Exact.{rising, number-is, none-applies}
 
 pub read-number : (s : List ℕ) → numberOfRead (readAnswer s) ≡ readNumber s

@@ -17,23 +17,31 @@ use Rattle.wire.proofs.Laws.Frames.{framed-least}
 use Rattle.section.specs.declared.Header.{Header}
 use Rattle.section.specs.declared.Checked.the-variants.{Accepted}
 use Rattle.ait_descriptors.specs.declared.Kind.the-variants as kind
-use Rattle.ait_descriptors.specs.Kinds.{sizeOf, descriptor, name, base, extension, extensionsStart}
-use Rattle.ait_descriptors.specs.Contents.{tagOf, contentsOf}
+use Rattle.ait_descriptors.specs.Kinds.{sizeOf}
+use Rattle.ait_descriptors.specs.Descriptor.{descriptor, tagOf, contentsOf, restOf}
+use Rattle.ait_descriptors.specs.Tag01.{name, nameOf, described01}
+use Rattle.ait_descriptors.specs.Tag05.{described05}
+use Rattle.ait_descriptors.specs.Tag15.{described15}
+use Rattle.wire.specs.Items.{count}
+use Rattle.wire.specs.Places.{partAt}
+use Rattle.ait_descriptors.specs.Tag02.{base, extension, extensionsStart, basesIn, extensionsIn, baseOf, extensionRead, described1, described02}
 use Rattle.ait_descriptors.proofs.Laws.Contents as contents
 use Rattle.ait_descriptors.proofs.Laws.Kinds as kinds
 use Rattle.ait_read.specs.declared.Scope.{Scope}
-use Rattle.ait_read.specs.declared.Repeated.{Repeated}
-use Rattle.ait_read.specs.declared.Repeated.the-variants.{Names, Bases, Identifiers}
-use Rattle.ait_read.specs.declared.Span.{Span}
-use Rattle.ait_read.specs.declared.Described.{Described}
-use Rattle.ait_read.specs.declared.Described.the-variants as described
+use Rattle.ait_descriptors.specs.declared.Repeated.{Repeated}
+use Rattle.ait_descriptors.specs.declared.Repeated.the-variants.{Names, Bases, Identifiers}
+use Rattle.ait_descriptors.specs.declared.Span.{Span}
+use Rattle.ait_descriptors.specs.declared.Described.{Described}
+use Rattle.ait_descriptors.specs.declared.Described.the-variants as described
 use Rattle.ait_read.specs.declared.steps.Step.the-variants.{Extensions, Item}
 use Rattle.ait_read.specs.Acceptance.{tableJudged}
-use Rattle.ait_read.specs.Places.{scopeAt, descriptorAt, listIn, kindOf, listAt, repeatedAt, extensionsIn, extensionsAt, extensionAt, stepIn, repeatedCount}
-use Rattle.ait_read.specs.Records.{restOf, nameOf, baseOf, extensionRead, described00, described1, described02, describedOf}
+use Rattle.ait_read.specs.Places.{scopeAt, descriptorAt, listAt, repeatedAt, extensionsAt, extensionAt, stepIn}
+use Rattle.ait_descriptors.specs.Contents.{listIn, kindOf, repeatedCount, describedOf}
+use Rattle.ait_descriptors.specs.Tag00.{described00}
 use Rattle.ait_read.specs.Answers.{spanPart}
 use Rattle.ait_read.proofs.Laws.Made.{descriptor-made}
-use Rattle.ait_read.proofs.Laws.Places.{sound-scope, sound-descriptor, sound-list, sound-listAt, sound-repeated, sound-extensions, sound-extension, sound-step}
+use Rattle.ait_read.proofs.Laws.Places.{sound-scope, sound-descriptor, sound-listAt, sound-repeated, sound-extensions, sound-extension, sound-step}
+use Rattle.ait_descriptors.proofs.Laws.Lists.{sound-list}
 
 -- a span within the n bytes from a on
 abbrev pub Lies : Span → ℕ → ℕ → Type 0
@@ -148,21 +156,21 @@ module _ (s : L.List ℕ) (o : Scope) (j a n : ℕ) (e : descriptorAt o j s ≡ 
       where
         go : (p q r : Bool) → SpansLie (cond p
             (cond r (described.Remote (byteAt d 4) (sixteenAt d 6) (sixteenAt d 8) (sixteenAt d 10) (byteAt d 12)) (described.Local (byteAt d 4) (byteAt d 6)))
-            (cond q (described.Bases (byteAt d 4) (repeatedCount Bases d)) (described.Selector (sixteenAt d 2) (byteAt d 4) (restOf 5 d a)))) a n
+            (cond q (described.Bases (byteAt d 4) (count base (partAt (basesIn d) d))) (described.Selector (sixteenAt d 2) (byteAt d 4) (restOf 5 d a)))) a n
         go true q true = tt
         go true q false = tt
         go false true r = tt
         go false false r = rest-lies 5 s a n fits f
 
     pub described-lies : SpansLie (describedOf d a) a n
-    unfolding describedOf described00
+    unfolding describedOf described00 described01 described05 described15
     described-lies = go (eqb (tagOf d) 0x00) (eqb (tagOf d) 0x01) (eqb (tagOf d) 0x02) (eqb (tagOf d) 0x05) (eqb (tagOf d) 0x15) refl
       where
         go : (t₀ t₁ t₂ t₅ t₁₅ : Bool) → eqb (tagOf d) 0x02 ≡ t₂ → SpansLie (cond t₀ (described00 d)
-            (cond t₁ (described.Names (repeatedCount Names d))
+            (cond t₁ (described01 d)
             (cond t₂ (described02 d a)
-            (cond t₅ (described.Identifiers (repeatedCount Identifiers d))
-            (cond t₁₅ (described.Path (restOf 2 d a)) (described.Raw (tagOf d) (restOf 2 d a))))))) a n
+            (cond t₅ (described05 d)
+            (cond t₁₅ (described15 d a) (described.Raw (tagOf d) (restOf 2 d a))))))) a n
         go true t₁ t₂ t₅ t₁₅ e = tt
         go false true t₂ t₅ t₁₅ e = tt
         go false false true t₅ t₁₅ e = transport (five (eqb-true _ _ e))

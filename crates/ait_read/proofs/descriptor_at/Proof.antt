@@ -1,5 +1,6 @@
 -- `ait_read::descriptor_at` meets its contract.
 use mathlib.Core.Path.{_≡_, sym, ap, _∙_}
+use native.Mathlib.Omega.{arith}
 use Prim.Native.Nat.{ℕ, _<_}
 use mathlib.Core.List.{List}
 use lib.ListN.{take, drop}
@@ -8,7 +9,7 @@ use Rattle.ait_read.specs.declared.DescriptorAnswer.{DescriptorAnswer}
 use Rattle.ait_read.specs.declared.Located.the-variants as located
 use Rattle.ait_read.specs.declared.DescriptorAnswer.the-variants as descriptor
 use Rattle.ait_read.specs.Places.{descriptorAt}
-use Rattle.ait_read.specs.Records.{describedOf}
+use Rattle.ait_descriptors.specs.Contents.{describedOf}
 use Rattle.ait_read.specs.Answers.{locatedOf, spanPart, descriptorAnswer, numberOfDescriptor, placeNumber}
 use Rattle.ait_read.proofs.Laws.Acceptance.{told, cut}
 use Rattle.ait_read.proofs.Laws.Places.{sound-descriptor}
@@ -55,8 +56,11 @@ there c =
 part-requires : tie.Need-part-requires
 part-requires c κs = search needs
 
+cast-describe : tie.Need-cast-describe
+cast-describe c = omega (arith, there (c .before) .1)
+
 describe-requires : tie.Need-describe-requires
-describe-requires c κs = there (c .before) .1
+describe-requires c κs = search needs
 
 -- an answer, with its number
 numbered : (s : List ℕ) (o : Scope) (j : ℕ) (r : DescriptorAnswer) → r ≡ descriptorAnswer s o j → (r ≡ descriptorAnswer s o j) × (numberOfDescriptor r ≡ placeNumber s (descriptorAt o j s))
@@ -89,6 +93,7 @@ descriptor-at-spec =
     enum-known-r
     enum-known-start
     part-requires
+    cast-describe
     describe-requires
     returns
     returns-2)

@@ -1,5 +1,6 @@
 -- `ait_read::extension_at` meets its contract.
 use mathlib.Core.Path.{_≡_, sym, ap, _∙_}
+use native.Mathlib.Omega.{arith}
 use Prim.Native.Nat.{ℕ, _<_}
 use mathlib.Core.List.{List}
 use lib.ListN.{take, drop}
@@ -8,7 +9,7 @@ use Rattle.ait_read.specs.declared.ExtensionAnswer.{ExtensionAnswer}
 use Rattle.ait_read.specs.declared.Located.the-variants as located
 use Rattle.ait_read.specs.declared.ExtensionAnswer.the-variants as extension
 use Rattle.ait_read.specs.Places.{extensionAt}
-use Rattle.ait_read.specs.Records.{extensionRead}
+use Rattle.ait_descriptors.specs.Tag02.{extensionRead}
 use Rattle.ait_read.specs.Answers.{locatedOf, spanPart, extensionAnswer, numberOfExtension, placeNumber}
 use Rattle.ait_read.proofs.Laws.Acceptance.{told, cut}
 use Rattle.ait_read.proofs.Laws.Places.{sound-extension}
@@ -56,8 +57,11 @@ there c =
 part-requires : tie.Need-part-requires
 part-requires c κs = search needs
 
+cast-extension-of : tie.Need-cast-extension-of
+cast-extension-of c = omega (arith, there (c .before) .1)
+
 extension-of-requires : tie.Need-extension-of-requires
-extension-of-requires c κs = there (c .before) .1
+extension-of-requires c κs = search needs
 
 -- an answer, with its number
 numbered : (s : List ℕ) (o : Scope) (j k m : ℕ) (r : ExtensionAnswer) → r ≡ extensionAnswer s o j k m → (r ≡ extensionAnswer s o j k m) × (numberOfExtension r ≡ placeNumber s (extensionAt o j k m s))
@@ -90,6 +94,7 @@ extension-at-spec =
     enum-known-r
     enum-known-start
     part-requires
+    cast-extension-of
     extension-of-requires
     returns
     returns-2)

@@ -1,15 +1,16 @@
 -- `ait_read::item_at` meets its contract.
 use mathlib.Core.Path.{_≡_, sym, ap, _∙_}
+use native.Mathlib.Omega.{arith}
 use Prim.Native.Nat.{ℕ, _<_}
 use mathlib.Core.List.{List}
 use lib.ListN.{take, drop}
 use Rattle.ait_read.specs.declared.Scope.{Scope}
-use Rattle.ait_read.specs.declared.Repeated.{Repeated}
+use Rattle.ait_descriptors.specs.declared.Repeated.{Repeated}
 use Rattle.ait_read.specs.declared.ItemAnswer.{ItemAnswer}
 use Rattle.ait_read.specs.declared.Located.the-variants as located
 use Rattle.ait_read.specs.declared.ItemAnswer.the-variants as item
 use Rattle.ait_read.specs.Places.{repeatedAt}
-use Rattle.ait_read.specs.Records.{itemOf}
+use Rattle.ait_descriptors.specs.Contents.{itemOf}
 use Rattle.ait_read.specs.Answers.{locatedOf, spanPart, itemAnswer, numberOfItem, placeNumber}
 use Rattle.ait_read.proofs.Laws.Acceptance.{told, cut}
 use Rattle.ait_read.proofs.Laws.Places.{sound-repeated}
@@ -57,8 +58,11 @@ there c =
 part-requires : tie.Need-part-requires
 part-requires c κs = search needs
 
+cast-item-of : tie.Need-cast-item-of
+cast-item-of c = omega (arith, there (c .before) .1)
+
 item-of-requires : tie.Need-item-of-requires
-item-of-requires c κs = there (c .before) .1
+item-of-requires c κs = search needs
 
 -- an answer, with its number
 numbered : (s : List ℕ) (o : Scope) (j : ℕ) (what : Repeated) (k : ℕ) (r : ItemAnswer) → r ≡ itemAnswer s o j what k → (r ≡ itemAnswer s o j what k)
@@ -92,6 +96,7 @@ item-at-spec =
     enum-known-r
     enum-known-start
     part-requires
+    cast-item-of
     item-of-requires
     returns
     returns-2)

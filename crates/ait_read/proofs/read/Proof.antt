@@ -14,9 +14,11 @@ use Rattle.ait_read.specs.declared.Table.{Table}
 use Rattle.ait_read.specs.declared.ReadAnswer.{ReadAnswer}
 use Rattle.ait_read.specs.declared.ReadAnswer.the-variants as read
 use Rattle.ait_read.specs.Acceptance.{tableJudged}
-use Rattle.ait_read.specs.Places.{commonAt, loopAt, countAt}
+use Rattle.ait_read.specs.Places.{commonAt, loopAt}
+use Rattle.ait_descriptors.specs.Kinds.{countAt}
 use Rattle.ait_read.specs.Answers.{readAnswer, readTable, numberOfRead, readNumber}
-use Rattle.ait_read.proofs.Laws.Places.{inside-of, sound-common, sound-loop}
+use Rattle.ait_descriptors.proofs.Laws.Lists.{inside-of}
+use Rattle.ait_read.proofs.Laws.Places.{sound-common, sound-loop}
 use Rattle.ait_read.proofs.Laws.Numbers.{read-number}
 use borrow.Author.Needs.{needs}
 use Rattle.ait_read.proofs.read.Statement.{statement}
@@ -48,13 +50,13 @@ common-place-requires : tie.Need-common-place-requires
 common-place-requires c κs = search needs
 
 count-within-requires : tie.Need-count-within-requires
-count-within-requires c κs = inside-of commonAt sound-common _ (start-of-after-struct-known (c .before .before) .args .s .now) (c .common-place .ensures)
+count-within-requires c κs = search needs
 
 loop-place-requires : tie.Need-loop-place-requires
 loop-place-requires c κs = search needs
 
 count-within-requires-2 : tie.Need-count-within-requires-2
-count-within-requires-2 c κs = inside-of loopAt sound-loop _ (start-of-after-loop-place c .args .s .now) (c .loop-place .ensures)
+count-within-requires-2 c κs = search needs
 
 -- an answer, with its number
 numbered : (s : List ℕ) (r : ReadAnswer) → r ≡ readAnswer s → (r ≡ readAnswer s) × (numberOfRead r ≡ readNumber s)

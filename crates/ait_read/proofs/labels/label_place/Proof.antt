@@ -6,7 +6,8 @@ use Rattle.wire.specs.Places.{partAt}
 use Rattle.ait_descriptors.specs.declared.Test.the-variants.{Tagged}
 use Rattle.ait_read.specs.Places.{ownAt}
 use Rattle.ait_read.specs.Labels.{firstTo}
-use Rattle.ait_read.proofs.Laws.Places.{inside-of, sound-own}
+use Rattle.ait_descriptors.proofs.Laws.Lists.{inside-of}
+use Rattle.ait_read.proofs.Laws.Places.{sound-own}
 use Rattle.ait_read.proofs.Laws.Labels.{label-none, label-is}
 use borrow.Author.Needs.{needs}
 use Rattle.ait_read.proofs.labels.label_place.Statement.{statement}

@@ -10,7 +10,8 @@ use Rattle.ait_read.specs.Places.{commonAt, ownAt}
 use Rattle.ait_read.specs.Labels.{labelAt}
 use Rattle.ait_read.specs.Answers.{locatedOf, resolveAnswer, numberOfResolved, placeNumber}
 use Rattle.ait_read.proofs.Laws.Acceptance.{told, cut}
-use Rattle.ait_read.proofs.Laws.Places.{inside-of, sound-common, sound-own}
+use Rattle.ait_descriptors.proofs.Laws.Lists.{inside-of}
+use Rattle.ait_read.proofs.Laws.Places.{sound-common, sound-own}
 use Rattle.ait_read.proofs.Laws.Labels.{sound-label}
 use Rattle.ait_read.proofs.Laws.Numbers.{resolve-number}
 use borrow.Author.Needs.{needs}

@@ -4,7 +4,8 @@ use native.Mathlib.Omega.{arith}
 use Rattle.ait_read.specs.declared.steps.Step.the-variants.{Item}
 use Rattle.ait_descriptors.specs.declared.Kind.the-variants.{Application}
 use Rattle.ait_read.specs.Places.{applicationAt, loopAt, stepIn}
-use Rattle.ait_read.proofs.Laws.Places.{step-from, inside-of, sound-loop}
+use Rattle.ait_read.proofs.Laws.Places.{step-from, sound-loop}
+use Rattle.ait_descriptors.proofs.Laws.Lists.{inside-of}
 use borrow.Author.Needs.{needs}
 use Rattle.ait_read.proofs.places.application_place.Statement.{statement}
 use Rattle.ait_read.proofs.places.application_place.Tie as tie

@@ -3,7 +3,8 @@ use mathlib.Core.Path.{_≡_, refl, sym, ap, ap₂, _∙_}
 use native.Mathlib.Omega.{arith}
 use Rattle.ait_read.specs.declared.steps.Step.the-variants.{Extensions}
 use Rattle.ait_read.specs.Places.{extensionsAt, repeatedAt, stepIn}
-use Rattle.ait_read.proofs.Laws.Places.{step-from, inside-of, sound-repeated}
+use Rattle.ait_read.proofs.Laws.Places.{step-from, sound-repeated}
+use Rattle.ait_descriptors.proofs.Laws.Lists.{inside-of}
 use borrow.Author.Needs.{needs}
 use Rattle.ait_read.proofs.places.extensions_place.Statement.{statement}
 use Rattle.ait_read.proofs.places.extensions_place.Tie as tie

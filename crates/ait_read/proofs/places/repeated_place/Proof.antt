@@ -6,7 +6,8 @@ use Rattle.wire.specs.Places.{itemAt, inPart}
 use Rattle.ait_descriptors.specs.declared.Kind.{Kind}
 use Rattle.ait_descriptors.specs.Kinds.{sizeOf}
 use Rattle.ait_read.specs.Places.{listAt, repeatedAt, stepIn}
-use Rattle.ait_read.proofs.Laws.Places.{inside-of, sound-listAt}
+use Rattle.ait_descriptors.proofs.Laws.Lists.{inside-of}
+use Rattle.ait_read.proofs.Laws.Places.{sound-listAt}
 use borrow.Author.Needs.{needs}
 use Rattle.ait_read.proofs.places.repeated_place.Statement.{statement}
 use Rattle.ait_read.proofs.places.repeated_place.Tie as tie

@@ -5,8 +5,8 @@ use Rattle.wire.specs.declared.Place.{Place}
 use Rattle.wire.specs.Places.{after}
 use Rattle.wire.proofs.Laws.Finders.{sound-after}
 use Rattle.ait_descriptors.specs.declared.Kind.the-variants.{Descriptor}
-use Rattle.ait_read.specs.Places.{countAt}
-use Rattle.ait_read.proofs.Laws.Places.{inside-of}
+use Rattle.ait_descriptors.specs.Kinds.{countAt}
+use Rattle.ait_descriptors.proofs.Laws.Lists.{inside-of}
 use borrow.Author.Needs.{needs}
 use Rattle.ait_read.proofs.records.own_count.Statement.{statement}
 use Rattle.ait_read.proofs.records.own_count.Tie as tie
@@ -15,7 +15,7 @@ rest-requires : tie.Need-rest-requires
 rest-requires c κs = search needs
 
 count-within-requires : tie.Need-count-within-requires
-count-within-requires c κs = inside-of (after 9) (sound-after 9) _ (c .before .before .args .x .now) (c .rest .ensures)
+count-within-requires c κs = search needs
 
 returns : tie.Need-returns
 returns c = c .count-within .ensures ∙ ap (λ (q : Place). countAt Descriptor q (c .before .before .before .args .x .now)) (c .before .rest .ensures)

@@ -4,7 +4,8 @@ use native.Mathlib.Omega.{arith}
 use Prim.Native.Nat.{ℕ, _+_}
 use Rattle.wire.specs.Places.{after}
 use Rattle.ait_read.specs.declared.steps.Step.the-variants.{CommonLoop, ApplicationLoop, OwnLoop, List, Extensions, Item}
-use Rattle.ait_read.specs.Places.{loopIn, extensionsIn, stepIn}
+use Rattle.ait_read.specs.Places.{loopIn, stepIn}
+use Rattle.ait_descriptors.specs.Tag02.{extensionsIn}
 use Rattle.ait_read.proofs.Laws.Places.{step-is}
 use borrow.Author.Needs.{needs}
 use Rattle.ait_read.proofs.steps.step_in.Statement.{statement}
@@ -13,9 +14,6 @@ use Rattle.ait_read.proofs.steps.step_in.Tie as tie
 -- the places that stand before a place, by name
 abbrev start-of-at-match-keys2 : tie.At-match-keys2 → tie.Start
 start-of-at-match-keys2 c = c .before .before
-
-abbrev start-of-at-match-keys5 : tie.At-match-keys5 → tie.Start
-start-of-at-match-keys5 c = c .before .before
 
 enum-told : tie.Need-enum-told
 enum-told c = search needs
@@ -50,20 +48,14 @@ list-in-requires c κs = search needs
 enum-told-4 : tie.Need-enum-told-4
 enum-told-4 c = search needs
 
-eight-at-requires : tie.Need-eight-at-requires
-eight-at-requires c κs = search needs
-
-add-rest-2 : tie.Need-add-rest-2
-add-rest-2 c = search needs
-
-rest-requires-3 : tie.Need-rest-requires-3
-rest-requires-3 c κs = search needs
+extensions-in-requires : tie.Need-extensions-in-requires
+extensions-in-requires c κs = search needs
 
 enum-known-step-2 : tie.Need-enum-known-step-2
 enum-known-step-2 c = search needs
 
-item-requires : tie.Need-item-requires
-item-requires c κs = search needs
+item-place-requires : tie.Need-item-place-requires
+item-place-requires c κs = search needs
 
 returns : tie.Need-returns
 unfolding stepIn
@@ -84,14 +76,12 @@ unfolding stepIn
 returns-4 c = c .list-in .ensures ∙ step-is _ (List _) _ (c .before .before .step .given .1)
 
 returns-5 : tie.Need-returns-5
-unfolding stepIn extensionsIn
-returns-5 c =
-    let x = start-of-at-match-keys5 (c .before .before .before) .args .x .now in
-    c .rest3 .ensures ∙ ap (λ (n : ℕ). after (2 + n) x) (c .before .eight-at .ensures .0) ∙ step-is x Extensions _ (c .before .before .enum-told4 .given .1)
+unfolding stepIn
+returns-5 c = c .extensions-in .ensures ∙ step-is _ Extensions _ (c .before .enum-told4 .given .1)
 
 returns-6 : tie.Need-returns-6
 unfolding stepIn
-returns-6 c = c .item .ensures ∙ step-is _ (Item _ _) _ (c .before .before .step2 .given .1)
+returns-6 c = c .item-place .ensures ∙ step-is _ (Item _ _) _ (c .before .before .step2 .given .1)
 
 pub step-in-spec : {M : Type 1} → statement M
 step-in-spec =
@@ -108,11 +98,9 @@ step-in-spec =
     enum-known-step
     list-in-requires
     enum-told-4
-    eight-at-requires
-    add-rest-2
-    rest-requires-3
+    extensions-in-requires
     enum-known-step-2
-    item-requires
+    item-place-requires
     returns
     returns-2
     returns-3

@@ -1,0 +1,67 @@
+-- `ait_descriptors::descriptor::describe` meets its contract.
+use mathlib.Core.Path.{sym, ap₂, _∙_}
+use Rattle.ait_descriptors.specs.declared.Described.the-variants as described
+use Rattle.ait_descriptors.proofs.Laws.Records.{is-00, is-01, is-02, is-05, is-15, is-raw}
+use borrow.Author.Needs.{needs}
+use Rattle.ait_descriptors.proofs.descriptor.describe.Statement.{statement}
+use Rattle.ait_descriptors.proofs.descriptor.describe.Tie as tie
+
+byte-at-requires : tie.Need-byte-at-requires
+byte-at-requires c κs = search needs
+
+described-00-requires : tie.Need-described-00-requires
+described-00-requires c κs = search needs
+
+described-01-requires : tie.Need-described-01-requires
+described-01-requires c κs = search needs
+
+described-02-requires : tie.Need-described-02-requires
+described-02-requires c κs = search needs
+
+described-05-requires : tie.Need-described-05-requires
+described-05-requires c κs = search needs
+
+described-15-requires : tie.Need-described-15-requires
+described-15-requires c κs = search needs
+
+rest-of-requires : tie.Need-rest-of-requires
+rest-of-requires c κs = search needs
+
+returns : tie.Need-returns
+returns c = c .described-00 .ensures ∙ is-00 _ _ (sym (c .before .before .byte-at .ensures .0) ∙ c .before .match .keys1)
+
+returns-2 : tie.Need-returns-2
+returns-2 c = c .described-01 .ensures ∙ is-01 _ _ (sym (c .before .before .byte-at .ensures .0) ∙ c .before .match .keys2)
+
+returns-3 : tie.Need-returns-3
+returns-3 c = c .described-02 .ensures ∙ is-02 _ _ (sym (c .before .before .byte-at .ensures .0) ∙ c .before .match .keys3)
+
+returns-4 : tie.Need-returns-4
+returns-4 c = c .described-05 .ensures ∙ is-05 _ _ (sym (c .before .before .byte-at .ensures .0) ∙ c .before .match .keys4)
+
+returns-5 : tie.Need-returns-5
+returns-5 c = c .described-15 .ensures ∙ is-15 _ _ (sym (c .before .before .byte-at .ensures .0) ∙ c .before .match .keys5)
+
+returns-6 : tie.Need-returns-6
+returns-6 c =
+    let t = c .before .before .byte-at .ensures .0 in
+    let n = c .before .match .rest in
+    ap₂ described.Raw t (c .rest-of .ensures) ∙ is-raw _ _ (λ e. n .0 .0 .0 .0 .1 (t ∙ e)) (λ e. n .0 .0 .0 .1 (t ∙ e)) (λ e. n .0 .0 .1 (t ∙ e)) (λ e. n .0 .1 (t ∙ e)) (λ e. n .1 (t ∙ e))
+
+pub describe-spec : {M : Type 1} → statement M
+describe-spec =
+    tie.close
+    (tie.spec
+    byte-at-requires
+    described-00-requires
+    described-01-requires
+    described-02-requires
+    described-05-requires
+    described-15-requires
+    rest-of-requires
+    returns
+    returns-2
+    returns-3
+    returns-4
+    returns-5
+    returns-6)
