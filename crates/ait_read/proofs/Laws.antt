@@ -7,3 +7,6 @@ pub mod Made
 pub mod Spans
 pub mod Exact
 pub mod Numbers
+pub mod Nth
+pub mod Located
+pub mod Sole

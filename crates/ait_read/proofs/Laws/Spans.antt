@@ -108,7 +108,7 @@ module _ (s : L.List ℕ) (o : Scope) (j a n : ℕ) (e : descriptorAt o j s ≡ 
       let g = framed-least 4 (λ h. byteAt h 3) (take m (drop b s)) (λ z. omega (arith, z, q .5, q .6)) in
       wider _ b m a n (item-in Names k b m f) (rest-lies 4 s b m (sound-repeated o j Names k s b m f) (omega (arith, g, q .6)))
 
-  whole-base : (k b m : ℕ) → repeatedAt o j Bases k s ≡ At b m → extensionsStart (take m (drop b s)) ≤ m
+  pub whole-base : (k b m : ℕ) → repeatedAt o j Bases k s ≡ At b m → extensionsStart (take m (drop b s)) ≤ m
   unfolding repeatedAt kindOf sizeOf
   whole-base k b m f =
       let x : L.List ℕ = take m (drop b s) in

@@ -1,0 +1,229 @@
+-- WHAT `resolve` ANSWERS, SAID BY THE OTHER CALLS. 01: "A label is looked up among the application's own 0x02 descriptors, then the section's common ones; the first hit counts,
+-- no hit is marked unresolved"; "Asking by place answers the section's own refusals (2 to 7, 18), then 19."
+use Prim.Native.Nat.{ℕ, _+_, _≤_, _<_}
+use mathlib.Core.Path.{_≡_, refl, sym, ap, _∙_}
+use mathlib.Core.Logic.{_↔_, _⊎_, inl, inr}
+use mathlib.Core.Bool.{Bool, true, false, cond, _&&_}
+use mathlib.Core.List as L
+use native.Mathlib.Decide.{decLt}
+use native.Mathlib.Omega.{arith}
+use lib.Dec.{eqb}
+use lib.ListN.{length, take, drop}
+use lib.Seq.{getD-drop}
+use borrow.Author.Tests.{eq-eqb, eqb-true, eqb-false}
+use Rattle.wire.specs.declared.Place.{Place}
+use Rattle.wire.specs.declared.Place.the-variants.{At, Nothing}
+use Rattle.wire.specs.declared.Hit.{Hit}
+use Rattle.wire.specs.declared.Hit.the-variants.{Item, Missing}
+use Rattle.wire.specs.Fields.{byteAt, sixteenAt, bits}
+use Rattle.wire.specs.Items.{items, itemsIn}
+use Rattle.wire.specs.Places.{first, firstFrom, onHit, partAt}
+use Rattle.wire.proofs.Laws.Parts.{item-in, item-past}
+use Rattle.wire.proofs.Laws.Tests.{clash, both}
+use Rattle.section.specs.declared.Refusal.{Refusal}
+use Rattle.section.specs.Header.{headerOf}
+use Rattle.ait_descriptors.specs.declared.Kind.the-variants as kind
+use Rattle.ait_descriptors.specs.declared.Test.the-variants.{Tagged, Labelled}
+use Rattle.ait_descriptors.specs.Kinds.{sizeOf}
+use Rattle.ait_descriptors.specs.Contents.{tagOf, contentsOf, testOf, labelled}
+use Rattle.ait_descriptors.proofs.Laws.Kinds as kinds
+use Rattle.ait_read.specs.declared.Scope.{Scope}
+use Rattle.ait_read.specs.declared.Scope.the-variants as scope
+use Rattle.ait_read.specs.declared.Repeated.the-variants.{Labels, Names, Bases, Identifiers}
+use Rattle.ait_read.specs.declared.Described.{Described}
+use Rattle.ait_read.specs.declared.Described.the-variants as described
+use Rattle.ait_read.specs.declared.DescriptorAnswer.the-variants as descriptor
+use Rattle.ait_read.specs.declared.Item.the-variants as item
+use Rattle.ait_read.specs.declared.ItemAnswer.the-variants as items
+use Rattle.ait_read.specs.declared.Resolved.{Resolved}
+use Rattle.ait_read.specs.declared.Resolved.the-variants as resolved
+use Rattle.ait_read.specs.Acceptance.{GoodTable}
+use Rattle.ait_read.specs.Places.{loopAt, applicationAt, ownAt, commonAt, scopeAt, descriptorAt, listAt, kindOf, repeatedAt, countAt, repeatedCount}
+use Rattle.ait_read.specs.Records.{describedOf, described00, described1, described02, restOf, itemOf}
+use Rattle.ait_read.specs.Labels.{firstTo, hitAmong, resolvedIn, labelAt}
+use Rattle.ait_read.specs.Answers.{locatedOf, onLocated, descriptorAnswer, itemAnswer, resolveAnswer, numberOfResolved, placeNumber}
+use Rattle.ait_read.proofs.Laws.Records.{is-02}
+use Rattle.ait_read.proofs.Laws.Labels.{label-none, label-is}
+use Rattle.ait_read.proofs.Laws.Counts.{list-count}
+use Rattle.ait_read.proofs.Laws.Made.{own-none}
+use Rattle.ait_read.proofs.Laws.Acceptance.{located-at}
+use Rattle.ait_read.proofs.Laws.Exact.{accepted-exactly}
+use Rattle.ait_read.proofs.Laws.Numbers.{resolve-number}
+use Rattle.ait_read.proofs.Laws.Located.{accepted-good, located-cases, nineteen-exactly, found-at}
+use Rattle.ait_read.proofs.Laws.Sole.{twelve, sole-found, sole-place, first-descriptor, no-descriptor}
+
+-- what `descriptor_at` shows is a 0x02 descriptor with the label l
+abbrev pub Bears : ℕ → Described → Type 0
+Bears l (described.Application p b v r n) = ⊥
+Bears l (described.Names n) = ⊥
+Bears l (described.Local m c) = m ≡ l
+Bears l (described.Remote m w t v c) = m ≡ l
+Bears l (described.Bases m b) = m ≡ l
+Bears l (described.Selector p m x) = m ≡ l
+Bears l (described.Identifiers n) = ⊥
+Bears l (described.Path x) = ⊥
+Bears l (described.Raw t x) = ⊥
+
+-- `descriptor_at` shows one at place j of a scope; the first of the scope is at place j; the scope has none
+abbrev pub Shows : L.List ℕ → Scope → ℕ → ℕ → Type 0
+Shows s o l j = (x : Described) × (descriptorAnswer s o j ≡ descriptor.Found x) × Bears l x
+
+abbrev pub First : L.List ℕ → Scope → ℕ → ℕ → Type 0
+First s o l j = Shows s o l j × ((m : ℕ) → m < j → Shows s o l m → ⊥)
+
+abbrev pub None : L.List ℕ → Scope → ℕ → Type 0
+None s o l = (m : ℕ) → Shows s o l m → ⊥
+
+-- the label at place k of application i is l: `item_at` shows it in one of the application's own descriptors (only a 0x00 has labels, and there is one: `sole-place`)
+abbrev pub IsLabel : L.List ℕ → ℕ → ℕ → ℕ → Type 0
+IsLabel s i k l = (j : ℕ) × (itemAnswer s (scope.Own i) j Labels k ≡ items.Found (item.Label l))
+
+-- what an answer of `resolve` says; when it is a refusal, is said below, and in `Laws/Exact`
+abbrev pub Says : L.List ℕ → ℕ → ℕ → Resolved → Type 0
+Says s i k (resolved.Refused r) = Unit {0}
+Says s i k (resolved.Own j) = (l : ℕ) × IsLabel s i k l × First s (scope.Own i) l j
+Says s i k (resolved.Common n j) = (l : ℕ) × IsLabel s i k l × (n ≡ 0) × None s (scope.Own i) l × First s scope.Common l j
+Says s i k resolved.Unresolved = (l : ℕ) × IsLabel s i k l × None s (scope.Own i) l × None s scope.Common l
+
+-- a descriptor is shown as a 0x02 with the label l exactly where the look-up's test is met
+module _ (l : ℕ) (d : L.List ℕ) (a : ℕ) where
+  bears-02 : Bears l (described02 d a) ↔ (byteAt d 4 ≡ l)
+  unfolding described02 described1
+  bears-02 = go (eqb (sixteenAt d 2) 1) (eqb (sixteenAt d 2) 3) (eqb (bits 7 1 (byteAt d 5)) 1)
+    where
+      go : (p q r : Bool) → Bears l (cond p
+          (cond r (described.Remote (byteAt d 4) (sixteenAt d 6) (sixteenAt d 8) (sixteenAt d 10) (byteAt d 12)) (described.Local (byteAt d 4) (byteAt d 6)))
+          (cond q (described.Bases (byteAt d 4) (repeatedCount Bases d)) (described.Selector (sixteenAt d 2) (byteAt d 4) (restOf 5 d a)))) ↔ (byteAt d 4 ≡ l)
+      go true q true = (λ e. e, λ e. e)
+      go true q false = (λ e. e, λ e. e)
+      go false true r = (λ e. e, λ e. e)
+      go false false r = (λ e. e, λ e. e)
+
+  bears-other : (tagOf d ≡ 0x02 → ⊥) → Bears l (describedOf d a) → ⊥
+  unfolding describedOf described00
+  bears-other n = go (eqb (tagOf d) 0x00) (eqb (tagOf d) 0x01) (eqb (tagOf d) 0x02) (eqb (tagOf d) 0x05) (eqb (tagOf d) 0x15) refl
+    where
+      go : (t₀ t₁ t₂ t₅ t₁₅ : Bool) → eqb (tagOf d) 0x02 ≡ t₂ → Bears l (cond t₀ (described00 d)
+          (cond t₁ (described.Names (repeatedCount Names d))
+          (cond t₂ (described02 d a)
+          (cond t₅ (described.Identifiers (repeatedCount Identifiers d))
+          (cond t₁₅ (described.Path (restOf 2 d a)) (described.Raw (tagOf d) (restOf 2 d a))))))) → ⊥
+      go true t₁ t₂ t₅ t₁₅ e b = b
+      go false true t₂ t₅ t₁₅ e b = b
+      go false false true t₅ t₁₅ e b = n (eqb-true _ _ e)
+      go false false false true t₁₅ e b = b
+      go false false false false true e b = b
+      go false false false false false e b = b
+
+  pub bears-exactly : Bears l (describedOf d a) ↔ (testOf (Labelled l) d ≡ true)
+  unfolding testOf
+  bears-exactly = (go (eqb (tagOf d) 0x02) refl, back)
+    where
+      go : (t : Bool) → eqb (tagOf d) 0x02 ≡ t → Bears l (describedOf d a) → (t && eqb (byteAt (contentsOf d) 2) l) ≡ true
+      go true e b = rw getD-drop (eq-eqb (byteAt d 4) l (bears-02 .0 (rw (sym (is-02 d a (eqb-true _ _ e))) at b)))
+      go false e b = absurd (bears-other (eqb-false _ _ e) b)
+
+      back : (eqb (tagOf d) 0x02 && eqb (byteAt (contentsOf d) 2) l) ≡ true → Bears l (describedOf d a)
+      back w =
+          let q = both (eqb (tagOf d) 0x02) (eqb (byteAt (contentsOf d) 2) l) w in
+          let e : byteAt d 4 ≡ l = eqb-true _ _ (rw getD-drop at (q .1)) in
+          rw (is-02 d a (eqb-true _ _ (q .0))) at (bears-02 .1 e)
+
+module _ (s : L.List ℕ) (o : Scope) (l m : ℕ) where
+  shown : Shows s o l m → (a : ℕ) × (n : ℕ) × (descriptorAt o m s ≡ At a n) × (testOf (Labelled l) (take n (drop a s)) ≡ true)
+  unfolding descriptorAnswer
+  shown w =
+      let f = found-at s (descriptorAt o m s) (λ r. descriptor.Refused r) (λ a n. descriptor.Found (describedOf (take n (drop a s)) a)) (descriptor.Found (w .0))
+          (λ r e. differ r (w .0) e) (w .1) .1 in
+      let e : w .0 ≡ describedOf (take (f .1) (drop (f .0) s)) (f .0) = cc in
+      (f .0, f .1, f .2, bears-exactly l (take (f .1) (drop (f .0) s)) (f .0) .0 (rw e at (w .2)))
+    where
+      differ : (r : Refusal) (x : Described) → descriptor.Refused r ≡ descriptor.Found x → ⊥
+      differ r x e = let z : _≡_ {A = ℕ} 0 1 = cc in absurd (omega arith)
+
+  shows : GoodTable s → (a n : ℕ) → descriptorAt o m s ≡ At a n → testOf (Labelled l) (take n (drop a s)) ≡ true → Shows s o l m
+  unfolding descriptorAnswer
+  shows g a n e t =
+      let f = located-at s (descriptorAt o m s) (headerOf s) (accepted-exactly s .1 g) a n e in
+      (describedOf (take n (drop a s)) a, rw (sym f), bears-exactly l (take n (drop a s)) a .1 t)
+
+-- the first hit in a scope, and no hit, as the look-up finds them
+module _ (s : L.List ℕ) (g : GoodTable s) (o : Scope) (l : ℕ) where
+  is-first : (j : ℕ) → firstTo (Labelled l) (partAt (scopeAt o s) s) ≡ Item j → First s o l j
+  is-first j e =
+      let d = first-descriptor s o (Labelled l) j e in
+      (shows s o l j g (d .0 .0) (d .0 .1) (d .0 .2) (d .0 .3), λ m h w. let x = shown s o l m w in clash _ (x .3) (d .1 m (x .0) (x .1) h (x .2)))
+
+  is-none : firstTo (Labelled l) (partAt (scopeAt o s) s) ≡ Missing → None s o l
+  is-none e m w = let x = shown s o l m w in clash _ (x .3) (no-descriptor s o (Labelled l) e m (x .0) (x .1) (x .2))
+
+-- a label that was located is one that `item_at` shows
+is-label : (s : L.List ℕ) → GoodTable s → (i k a n : ℕ) → labelAt i k s ≡ At a n → IsLabel s i k (byteAt (take n (drop a s)) 0)
+unfolding labelAt itemAnswer itemOf
+is-label s g i k a n e = go (firstTo (Tagged 0x00) (partAt (ownAt i s) s)) e
+  where
+    go : (h : Hit) → onHit h Nothing (λ j. repeatedAt (scope.Own i) j Labels k s) ≡ At a n → IsLabel s i k (byteAt (take n (drop a s)) 0)
+    go Missing e = let z : _≡_ {A = ℕ} 0 1 = cc in absurd (omega arith)
+    go (Item j) e = (j, rw (sym (located-at s (repeatedAt (scope.Own i) j Labels k s) (headerOf s) (accepted-exactly s .1 g) a n e)))
+
+-- WHERE `resolve` ANSWERS A PLACE, the first 0x02 descriptor with that label stands there, as `descriptor_at` shows it: of the application's own where one of these has
+-- the label, else of the common ones; where it answers "unresolved", neither loop has one
+pub resolve-says : (s : L.List ℕ) (i k : ℕ) → Says s i k (resolveAnswer s i k)
+unfolding resolveAnswer resolvedIn hitAmong scopeAt
+resolve-says s i k = located-cases s (labelAt i k s)
+    (λ x. Says s i k (onLocated x (λ r. resolved.Refused r) (λ a n. resolvedIn (byteAt (take n (drop a s)) 0) (partAt (ownAt i s) s) (L._∷_ (partAt (commonAt s) s) L.[]))))
+    (λ r e. tt) (λ h e f. tt)
+    (λ h e a n f. let g = accepted-good s h e in
+    looked g (byteAt (take n (drop a s)) 0) (is-label s g i k a n f) (firstTo (Labelled (byteAt (take n (drop a s)) 0)) (partAt (ownAt i s) s))
+    (firstTo (Labelled (byteAt (take n (drop a s)) 0)) (partAt (commonAt s) s)) refl refl)
+  where
+    looked : GoodTable s → (l : ℕ) → IsLabel s i k l → (x y : Hit) → firstTo (Labelled l) (partAt (ownAt i s) s) ≡ x → firstTo (Labelled l) (partAt (commonAt s) s) ≡ y
+        → Says s i k (onHit x (onHit y resolved.Unresolved (λ j. resolved.Common 0 j)) (λ j. resolved.Own j))
+    looked g l is (Item j) y e f = (l, is, is-first s g (scope.Own i) l j e)
+    looked g l is Missing (Item j) e f = (l, is, refl, is-none s g (scope.Own i) l e, is-first s g scope.Common l j f)
+    looked g l is Missing Missing e f = (l, is, is-none s g (scope.Own i) l e, is-none s g scope.Common l f)
+
+-- application i has no label at place k: there is no such application, or its one 0x00 descriptor (`sole-place`) has no more than k labels
+abbrev pub NoLabel : L.List ℕ → ℕ → ℕ → Type 0
+NoLabel s i k = (countAt kind.Application (loopAt s) s ≤ i)
+    ⊎ ((j : ℕ) × (a : ℕ) × (n : ℕ) × (descriptorAt (scope.Own i) j s ≡ At a n) × (tagOf (take n (drop a s)) ≡ 0x00) × (repeatedCount Labels (take n (drop a s)) ≤ k))
+
+module _ (s : L.List ℕ) (g : GoodTable s) (i k : ℕ) where
+  no-application : countAt kind.Application (loopAt s) s ≤ i → labelAt i k s ≡ Nothing
+  unfolding applicationAt countAt first firstFrom items itemsIn
+  no-application l =
+      let e = own-none s (twelve s g) (g .body) i (item-past (sizeOf kind.Application) (kinds.kind-of kind.Application) s i (loopAt s) l) in
+      sym (label-none i k s (ap (firstTo (Tagged 0x00)) e))
+
+  -- the labels of the 0x00 descriptor at place j
+  module _ (j a n : ℕ) (f : firstTo (Tagged 0x00) (partAt (ownAt i s) s) ≡ Item j) (e : descriptorAt (scope.Own i) j s ≡ At a n) where
+    no-such-label : repeatedCount Labels (take n (drop a s)) ≤ k → labelAt i k s ≡ Nothing
+    unfolding repeatedAt countAt kindOf
+    no-such-label c =
+        let l = list-count s (scope.Own i) j Labels a n e in
+        sym (label-is i k s j f) ∙ item-past (sizeOf kind.Label) (kinds.kind-of kind.Label) s k (listAt (scope.Own i) j Labels s) (omega (arith, l))
+
+    such-label : k < repeatedCount Labels (take n (drop a s)) → labelAt i k s ≡ Nothing → ⊥
+    unfolding repeatedAt countAt kindOf
+    such-label c z =
+        let l = list-count s (scope.Own i) j Labels a n e in
+        let t = item-in (sizeOf kind.Label) (kinds.kind-of kind.Label) s k (listAt (scope.Own i) j Labels s) (omega (arith, l)) in
+        let y = sym (t .2) ∙ label-is i k s j f ∙ z in
+        let w : _≡_ {A = ℕ} 0 1 = cc in
+        absurd (omega arith)
+
+  no-label-exactly : (labelAt i k s ≡ Nothing) ↔ NoLabel s i k
+  no-label-exactly = (there, back)
+    where
+      there : labelAt i k s ≡ Nothing → NoLabel s i k
+      there z = ?
+
+      back : NoLabel s i k → labelAt i k s ≡ Nothing
+      back w = ?
+
+-- `resolve` ANSWERS 19 EXACTLY WHEN the section is well formed, and there is no application at place i, or its one 0x00 descriptor has no label at place k
+pub resolve-nineteen : (s : L.List ℕ) (i k : ℕ) → (numberOfResolved (resolveAnswer s i k) ≡ 19) ↔ (GoodTable s × NoLabel s i k)
+resolve-nineteen s i k =
+    let x = nineteen-exactly s (labelAt i k s) in
+    (λ e. let w = x .0 (sym (resolve-number s i k) ∙ e) in (w .0, no-label-exactly s (w .0) i k .0 (w .1)),
+    λ w. resolve-number s i k ∙ x .1 (w .0, no-label-exactly s (w .0) i k .1 (w .1)))
