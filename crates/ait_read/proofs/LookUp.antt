@@ -1,35 +1,32 @@
 -- WHAT `resolve` ANSWERS, SAID BY THE OTHER CALLS. 01: "A label is looked up among the application's own 0x02 descriptors, then the section's common ones; the first hit counts,
 -- no hit is marked unresolved"; "Asking by place answers the section's own refusals (2 to 7, 18), then 19."
-use Prim.Native.Nat.{ℕ, _+_, _≤_, _<_}
+use Prim.Native.Nat.{ℕ, _≤_, _<_}
 use mathlib.Core.Path.{_≡_, refl, sym, ap, _∙_}
 use mathlib.Core.Logic.{_↔_, _⊎_, inl, inr}
-use mathlib.Core.Bool.{Bool, true, false, cond, _&&_}
+use mathlib.Core.Bool.{true}
 use mathlib.Core.List as L
 use native.Mathlib.Decide.{decLt}
 use native.Mathlib.Omega.{arith}
-use lib.Dec.{eqb}
-use lib.ListN.{length, take, drop}
-use lib.Seq.{getD-drop}
-use borrow.Author.Tests.{eq-eqb, eqb-true, eqb-false}
-use Rattle.wire.specs.declared.Place.{Place}
+use lib.ListN.{take, drop}
+use borrow.Author.Tests.{eq-eqb, eqb-true}
 use Rattle.wire.specs.declared.Place.the-variants.{At, Nothing}
 use Rattle.wire.specs.declared.Hit.{Hit}
 use Rattle.wire.specs.declared.Hit.the-variants.{Item, Missing}
-use Rattle.wire.specs.Fields.{byteAt, sixteenAt, bits}
+use Rattle.wire.specs.Fields.{byteAt}
 use Rattle.wire.specs.Items.{items, itemsIn}
 use Rattle.wire.specs.Places.{first, firstFrom, onHit, partAt}
 use Rattle.wire.proofs.Laws.Parts.{item-in, item-past}
-use Rattle.wire.proofs.Laws.Tests.{clash, both}
-use Rattle.section.specs.declared.Refusal.{Refusal}
+use Rattle.wire.proofs.Laws.Tests.{clash}
 use Rattle.section.specs.Header.{headerOf}
 use Rattle.ait_descriptors.specs.declared.Kind.the-variants as kind
 use Rattle.ait_descriptors.specs.declared.Test.the-variants.{Tagged, Labelled}
 use Rattle.ait_descriptors.specs.Kinds.{sizeOf}
-use Rattle.ait_descriptors.specs.Contents.{tagOf, contentsOf, testOf, labelled}
+use Rattle.ait_descriptors.specs.Contents.{tagOf, testOf}
+use Rattle.ait_descriptors.proofs.Laws.Contents.{labelled-other, labelled-is}
 use Rattle.ait_descriptors.proofs.Laws.Kinds as kinds
 use Rattle.ait_read.specs.declared.Scope.{Scope}
 use Rattle.ait_read.specs.declared.Scope.the-variants as scope
-use Rattle.ait_read.specs.declared.Repeated.the-variants.{Labels, Names, Bases, Identifiers}
+use Rattle.ait_read.specs.declared.Repeated.the-variants.{Labels}
 use Rattle.ait_read.specs.declared.Described.{Described}
 use Rattle.ait_read.specs.declared.Described.the-variants as described
 use Rattle.ait_read.specs.declared.DescriptorAnswer.the-variants as descriptor
@@ -39,18 +36,18 @@ use Rattle.ait_read.specs.declared.Resolved.{Resolved}
 use Rattle.ait_read.specs.declared.Resolved.the-variants as resolved
 use Rattle.ait_read.specs.Acceptance.{GoodTable}
 use Rattle.ait_read.specs.Places.{loopAt, applicationAt, ownAt, commonAt, scopeAt, descriptorAt, listAt, kindOf, repeatedAt, countAt, repeatedCount}
-use Rattle.ait_read.specs.Records.{describedOf, described00, described1, described02, restOf, itemOf}
+use Rattle.ait_read.specs.Records.{describedOf, described00, itemOf}
 use Rattle.ait_read.specs.Labels.{firstTo, hitAmong, resolvedIn, labelAt}
-use Rattle.ait_read.specs.Answers.{locatedOf, onLocated, descriptorAnswer, itemAnswer, resolveAnswer, numberOfResolved, placeNumber}
-use Rattle.ait_read.proofs.Laws.Records.{is-02}
+use Rattle.ait_read.specs.Answers.{onLocated, descriptorAnswer, itemAnswer, resolveAnswer, numberOfResolved}
+use Rattle.ait_read.proofs.Laws.Records.{cases-02, cases}
 use Rattle.ait_read.proofs.Laws.Labels.{label-none, label-is}
 use Rattle.ait_read.proofs.Laws.Counts.{list-count}
 use Rattle.ait_read.proofs.Laws.Made.{own-none}
 use Rattle.ait_read.proofs.Laws.Acceptance.{located-at}
 use Rattle.ait_read.proofs.Laws.Exact.{accepted-exactly}
 use Rattle.ait_read.proofs.Laws.Numbers.{resolve-number}
-use Rattle.ait_read.proofs.Laws.Located.{accepted-good, located-cases, nineteen-exactly, found-at}
-use Rattle.ait_read.proofs.Laws.Sole.{twelve, sole-found, sole-place, first-descriptor, no-descriptor}
+use Rattle.ait_read.proofs.Laws.Located.{accepted-good, located-cases, nineteen-exactly, found-at, refused-descriptor}
+use Rattle.ait_read.proofs.Laws.Sole.{twelve, sole-place, first-descriptor, no-descriptor}
 
 -- what `descriptor_at` shows is a 0x02 descriptor with the label l
 abbrev pub Bears : ℕ → Described → Type 0
@@ -86,60 +83,23 @@ Says s i k (resolved.Common n j) = (l : ℕ) × IsLabel s i k l × (n ≡ 0) × 
 Says s i k resolved.Unresolved = (l : ℕ) × IsLabel s i k l × None s (scope.Own i) l × None s scope.Common l
 
 -- a descriptor is shown as a 0x02 with the label l exactly where the look-up's test is met
-module _ (l : ℕ) (d : L.List ℕ) (a : ℕ) where
-  bears-02 : Bears l (described02 d a) ↔ (byteAt d 4 ≡ l)
-  unfolding described02 described1
-  bears-02 = go (eqb (sixteenAt d 2) 1) (eqb (sixteenAt d 2) 3) (eqb (bits 7 1 (byteAt d 5)) 1)
-    where
-      go : (p q r : Bool) → Bears l (cond p
-          (cond r (described.Remote (byteAt d 4) (sixteenAt d 6) (sixteenAt d 8) (sixteenAt d 10) (byteAt d 12)) (described.Local (byteAt d 4) (byteAt d 6)))
-          (cond q (described.Bases (byteAt d 4) (repeatedCount Bases d)) (described.Selector (sixteenAt d 2) (byteAt d 4) (restOf 5 d a)))) ↔ (byteAt d 4 ≡ l)
-      go true q true = (λ e. e, λ e. e)
-      go true q false = (λ e. e, λ e. e)
-      go false true r = (λ e. e, λ e. e)
-      go false false r = (λ e. e, λ e. e)
-
-  bears-other : (tagOf d ≡ 0x02 → ⊥) → Bears l (describedOf d a) → ⊥
-  unfolding describedOf described00
-  bears-other n = go (eqb (tagOf d) 0x00) (eqb (tagOf d) 0x01) (eqb (tagOf d) 0x02) (eqb (tagOf d) 0x05) (eqb (tagOf d) 0x15) refl
-    where
-      go : (t₀ t₁ t₂ t₅ t₁₅ : Bool) → eqb (tagOf d) 0x02 ≡ t₂ → Bears l (cond t₀ (described00 d)
-          (cond t₁ (described.Names (repeatedCount Names d))
-          (cond t₂ (described02 d a)
-          (cond t₅ (described.Identifiers (repeatedCount Identifiers d))
-          (cond t₁₅ (described.Path (restOf 2 d a)) (described.Raw (tagOf d) (restOf 2 d a))))))) → ⊥
-      go true t₁ t₂ t₅ t₁₅ e b = b
-      go false true t₂ t₅ t₁₅ e b = b
-      go false false true t₅ t₁₅ e b = n (eqb-true _ _ e)
-      go false false false true t₁₅ e b = b
-      go false false false false true e b = b
-      go false false false false false e b = b
-
-  pub bears-exactly : Bears l (describedOf d a) ↔ (testOf (Labelled l) d ≡ true)
-  unfolding testOf
-  bears-exactly = (go (eqb (tagOf d) 0x02) refl, back)
-    where
-      go : (t : Bool) → eqb (tagOf d) 0x02 ≡ t → Bears l (describedOf d a) → (t && eqb (byteAt (contentsOf d) 2) l) ≡ true
-      go true e b = rw getD-drop (eq-eqb (byteAt d 4) l (bears-02 .0 (rw (sym (is-02 d a (eqb-true _ _ e))) at b)))
-      go false e b = absurd (bears-other (eqb-false _ _ e) b)
-
-      back : (eqb (tagOf d) 0x02 && eqb (byteAt (contentsOf d) 2) l) ≡ true → Bears l (describedOf d a)
-      back w =
-          let q = both (eqb (tagOf d) 0x02) (eqb (byteAt (contentsOf d) 2) l) w in
-          let e : byteAt d 4 ≡ l = eqb-true _ _ (rw getD-drop at (q .1)) in
-          rw (is-02 d a (eqb-true _ _ (q .0))) at (bears-02 .1 e)
+pub bears-exactly : (l : ℕ) (d : L.List ℕ) (a : ℕ) → Bears l (describedOf d a) ↔ (testOf (Labelled l) d ≡ true)
+unfolding described00
+bears-exactly l d a = cases (λ x. Bears l x ↔ (testOf (Labelled l) d ≡ true)) d a
+    (λ t. let w = labelled-is d l (byteAt d 4) t refl in
+    let e : (byteAt d 4 ≡ l) ↔ (testOf (Labelled l) d ≡ true) = (λ f. sym w ∙ eq-eqb _ _ f, λ f. eqb-true _ _ (w ∙ f)) in
+    cases-02 (λ x. Bears l x ↔ (testOf (Labelled l) d ≡ true)) d a e e e e)
+    (λ t. let e : ⊥ ↔ (testOf (Labelled l) d ≡ true) = (λ f. absurd f, λ f. clash _ f (sym (labelled-other d l t))) in
+    (e, e, e, e, e))
 
 module _ (s : L.List ℕ) (o : Scope) (l m : ℕ) where
   shown : Shows s o l m → (a : ℕ) × (n : ℕ) × (descriptorAt o m s ≡ At a n) × (testOf (Labelled l) (take n (drop a s)) ≡ true)
   unfolding descriptorAnswer
   shown w =
       let f = found-at s (descriptorAt o m s) (λ r. descriptor.Refused r) (λ a n. descriptor.Found (describedOf (take n (drop a s)) a)) (descriptor.Found (w .0))
-          (λ r e. differ r (w .0) e) (w .1) .1 in
+      (λ r. refused-descriptor r (w .0)) (w .1) .1 in
       let e : w .0 ≡ describedOf (take (f .1) (drop (f .0) s)) (f .0) = cc in
       (f .0, f .1, f .2, bears-exactly l (take (f .1) (drop (f .0) s)) (f .0) .0 (rw e at (w .2)))
-    where
-      differ : (r : Refusal) (x : Described) → descriptor.Refused r ≡ descriptor.Found x → ⊥
-      differ r x e = let z : _≡_ {A = ℕ} 0 1 = cc in absurd (omega arith)
 
   shows : GoodTable s → (a n : ℕ) → descriptorAt o m s ≡ At a n → testOf (Labelled l) (take n (drop a s)) ≡ true → Shows s o l m
   unfolding descriptorAnswer
@@ -216,14 +176,28 @@ module _ (s : L.List ℕ) (g : GoodTable s) (i k : ℕ) where
   no-label-exactly = (there, back)
     where
       there : labelAt i k s ≡ Nothing → NoLabel s i k
-      there z = ?
+      there z = elim (decLt i (countAt kind.Application (loopAt s) s)) [
+        | yes l ↦ (let d = sole-place s g i l in
+            elim (decLt k (repeatedCount Labels (take (d .2) (drop (d .1) s)))) [
+              | yes c ↦ absurd (such-label (d .0) (d .1) (d .2) (d .3) (d .4) c z)
+              | no c ↦ inr (d .0, d .1, d .2, d .4, d .5, omega (arith, c))
+            ])
+        | no l ↦ inl (omega (arith, l))
+      ]
 
       back : NoLabel s i k → labelAt i k s ≡ Nothing
-      back w = ?
+      back (inl l) = no-application l
+      back (inr w) = elim (decLt i (countAt kind.Application (loopAt s) s)) [
+        | yes l ↦ (let d = sole-place s g i l in
+            let j = d .6 (w .0) (w .1) (w .2) (w .3) (w .4) in
+            no-such-label (w .0) (w .1) (w .2) (d .3 ∙ ap Item (sym j)) (w .3) (w .5))
+        | no l ↦ no-application (omega (arith, l))
+      ]
 
 -- `resolve` ANSWERS 19 EXACTLY WHEN the section is well formed, and there is no application at place i, or its one 0x00 descriptor has no label at place k
 pub resolve-nineteen : (s : L.List ℕ) (i k : ℕ) → (numberOfResolved (resolveAnswer s i k) ≡ 19) ↔ (GoodTable s × NoLabel s i k)
 resolve-nineteen s i k =
-    let x = nineteen-exactly s (labelAt i k s) in
-    (λ e. let w = x .0 (sym (resolve-number s i k) ∙ e) in (w .0, no-label-exactly s (w .0) i k .0 (w .1)),
-    λ w. resolve-number s i k ∙ x .1 (w .0, no-label-exactly s (w .0) i k .1 (w .1)))
+    let x = nineteen-exactly s (labelAt i k s) in (
+      λ e. let w = x .0 (sym (resolve-number s i k) ∙ e) in (w .0, no-label-exactly s (w .0) i k .0 (w .1)),
+      λ w. resolve-number s i k ∙ x .1 (w .0, no-label-exactly s (w .0) i k .1 (w .1)),
+    )

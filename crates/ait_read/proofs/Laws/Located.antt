@@ -1,8 +1,7 @@
 -- WHEN 19 ANSWERS, AND WHEN A THING IS FOUND: the three cases of a call by place, for every such call at once.
-use Prim.Native.Nat.{ℕ, _+_}
+use Prim.Native.Nat.{ℕ}
 use mathlib.Core.Path.{_≡_, refl, sym, ap, _∙_}
 use mathlib.Core.Logic.{_↔_}
-use mathlib.Core.Bool.{Bool, true, false}
 use mathlib.Core.List.{List}
 use native.Mathlib.Omega.{arith}
 use lib.Dec.{lit<}
@@ -17,11 +16,17 @@ use Rattle.section.specs.declared.Checked.{Checked}
 use Rattle.section.specs.declared.Checked.the-variants.{Refused, Accepted}
 use Rattle.section.specs.Header.{headerOf}
 use Rattle.section.specs.Answer.{numberOfChecked, refused, onChecked}
+use Rattle.ait_read.specs.declared.Span.{Span}
+use Rattle.ait_read.specs.declared.Described.{Described}
+use Rattle.ait_read.specs.declared.DescriptorAnswer.the-variants as descriptor
+use Rattle.ait_read.specs.declared.Item.{Item}
+use Rattle.ait_read.specs.declared.ItemAnswer.the-variants as item
+use Rattle.ait_read.specs.declared.ExtensionAnswer.the-variants as extension
 use Rattle.ait_read.specs.declared.Located.{Located}
 use Rattle.ait_read.specs.declared.Located.the-variants as located
 use Rattle.ait_read.specs.Acceptance.{applicationTests, tableJudged, GoodTable}
 use Rattle.ait_read.specs.Answers.{locatedOf, onLocated, placeNumber}
-use Rattle.ait_read.proofs.Laws.Acceptance.{located-none, located-at}
+use Rattle.ait_read.proofs.Laws.Acceptance.{located-none}
 use Rattle.ait_read.proofs.Laws.Exact.{number-is, none-applies, refused-exactly, accepted-exactly}
 use Rattle.ait_read.proofs.Laws.Numbers.{numberOfLocated, located-number}
 
@@ -70,3 +75,13 @@ module _ (s : List ℕ) (p : Place) where
         (λ r e f. absurd (b r f))
         (λ h e f g. absurd (b (refused 19) g))
         (λ h e a n f g. (accepted-good s h e, (a, n, f, g)))
+
+-- a refusal carries no such thing
+pub refused-descriptor : (r : Refusal) (x : Described) → descriptor.Refused r ≡ descriptor.Found x → ⊥
+refused-descriptor r x e = let z : _≡_ {A = ℕ} 0 1 = cc in absurd (omega arith)
+
+pub refused-item : (r : Refusal) (x : Item) → item.Refused r ≡ item.Found x → ⊥
+refused-item r x e = let z : _≡_ {A = ℕ} 0 1 = cc in absurd (omega arith)
+
+pub refused-extension : (r : Refusal) (x : Span) → extension.Refused r ≡ extension.Found x → ⊥
+refused-extension r x e = let z : _≡_ {A = ℕ} 0 1 = cc in absurd (omega arith)

@@ -7,7 +7,7 @@ use native.Mathlib.Omega.{arith}
 use lib.ListN.{length, getD, take, drop, length-append, length-take, length-drop}
 use lib.Seq.{take-at, drop-at}
 use Rattle.wire.specs.declared.Place.{Place}
-use Rattle.wire.specs.declared.Place.the-variants.{At, Nothing}
+use Rattle.wire.specs.declared.Place.the-variants.{At}
 use Rattle.wire.specs.declared.Hit.the-variants.{Item, Missing}
 use Rattle.wire.specs.Items.{Size, IsKind, items, joined, count, number}
 use Rattle.wire.specs.Places.{itemAt, placeFrom, inPart, partAt, firstFrom, Inside}

@@ -1,6 +1,6 @@
 -- The first descriptor of a loop to meet a test, by its place; and the one 0x00 descriptor of each application of a well-formed section.
 use Prim.Native.Nat.{ℕ, _+_, _%_, _≤_, _<_}
-use mathlib.Core.Path.{_≡_, refl, sym, ap, _∙_}
+use mathlib.Core.Path.{_≡_, sym, ap, _∙_}
 use mathlib.Core.Bool.{Bool, true, false}
 use mathlib.Core.List as L
 use native.Mathlib.Omega.{arith}
@@ -8,7 +8,6 @@ use lib.Dec.{eqb, leb}
 use lib.ListN.{length, getD, take, drop, length-drop}
 use lib.Seq.{length-take-le}
 use borrow.Author.Tests.{eq-eqb, eqb-true, leb-true}
-use Rattle.section.specs.Header.{bodyOf}
 use Rattle.wire.specs.declared.Place.{Place}
 use Rattle.wire.specs.declared.Place.the-variants.{At}
 use Rattle.wire.specs.declared.Hit.the-variants.{Item, Missing}
@@ -86,7 +85,7 @@ module _ (s : L.List ℕ) (g : GoodTable s) where
   unfolding applicationAt scopeAt soleLoop sizeOf testOf
   sole-number i a n e =
       let v : every (λ x. soleLoop (ownLoop x)) (items application (partAt (loopAt s) s)) ≡ true
-          = ap (λ (x : L.List ℕ). every (λ y. soleLoop (ownLoop y)) (items application x)) (loop-part s twelve (g .body)) ∙ g .sole in
+      = ap (λ (x : L.List ℕ). every (λ y. soleLoop (ownLoop y)) (items application x)) (loop-part s twelve (g .body)) ∙ g .sole in
       let f = found-met application kinds.application-kind (λ x. soleLoop (ownLoop x)) i (loopAt s) s (sound-loop s) v a n e in
       ap (λ (x : L.List ℕ). number (λ d. eqb (tagOf d) 0x00) (items descriptor x)) (own-part s twelve (g .body) i a n e) ∙ eqb-true _ _ f
 
@@ -111,11 +110,18 @@ module _ (s : L.List ℕ) (g : GoodTable s) where
       let e = sole-number i (t .0) (t .1) (t .2) in
       let f = sole-found i l in
       let d = first-descriptor s (Own i) (Tagged 0x00) (f .0) (f .1) .0 in
-      let p = nth-descriptor s (Own i) (f .0) (d .0) (d .1) (d .2) in
-      (f .0, d .0, d .1, f .1, d .2, eqb-true _ _ (d .3), λ k b m c z.
-      let q = nth-descriptor s (Own i) k b m c in
-      one-only (testOf (Tagged 0x00)) (those s (Own i)) e k (f .0) (q .0) (p .0)
-      (ap (testOf (Tagged 0x00)) (q .1) ∙ eq-eqb _ _ z) (ap (testOf (Tagged 0x00)) (p .1) ∙ d .3))
+      let p = nth-descriptor s (Own i) (f .0) (d .0) (d .1) (d .2) in (
+        f .0,
+        d .0,
+        d .1,
+        f .1,
+        d .2,
+        eqb-true _ _ (d .3),
+        λ k b m c z.
+            let q = nth-descriptor s (Own i) k b m c in
+            one-only (testOf (Tagged 0x00)) (those s (Own i)) e k (f .0) (q .0) (p .0)
+            (ap (testOf (Tagged 0x00)) (q .1) ∙ eq-eqb _ _ z) (ap (testOf (Tagged 0x00)) (p .1) ∙ d .3),
+      )
 
   -- a 0x00 descriptor has 5 bytes at least: tag, length, P, flags, priority
   long-00 : (o : Scope) (j a n : ℕ) → descriptorAt o j s ≡ At a n → tagOf (take n (drop a s)) ≡ 0x00 → 5 ≤ n
@@ -133,7 +139,7 @@ module _ (s : L.List ℕ) (g : GoodTable s) where
       let c = nth-item (sizeOf kind.Application) (kinds.kind-of kind.Application) i (loopAt s) s (sound-loop s) a n e .0 in
       let d = sole-place i c in
       let q = found-inside (itemAt (sizeOf kind.Descriptor) (d .0)) (sound-item (sizeOf kind.Descriptor) (kinds.kind-of kind.Descriptor) (d .0))
-          (ownAt i s) s (sound-own i s) (d .1) (d .2) (d .4) in
+      (ownAt i s) s (sound-own i s) (d .1) (d .2) (d .4) in
       let m = long-00 (Own i) (d .0) (d .1) (d .2) (d .4) (d .5) in
       let f = sound-application i s a n e in
       let h = sound-own i s (q .0) (q .1) (q .2) in
