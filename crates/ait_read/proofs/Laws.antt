@@ -7,6 +7,5 @@ pub mod Made
 pub mod Spans
 pub mod Exact
 pub mod Numbers
-pub mod Nth
 pub mod Located
 pub mod Sole

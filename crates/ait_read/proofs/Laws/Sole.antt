@@ -15,6 +15,7 @@ use Rattle.wire.specs.Items.{items, count, every, number}
 use Rattle.wire.specs.Places.{itemAt, first, partAt}
 use Rattle.wire.proofs.Laws.Finders.{sound-item}
 use Rattle.wire.proofs.Laws.Parts.{part-at, item-in, found-met, found-inside}
+use Rattle.wire.proofs.Laws.Nth.{nth-item, first-at, first-nowhere, one-there, one-only}
 use Rattle.wire.proofs.Laws.Tests.{both}
 use Rattle.ait_descriptors.specs.declared.Kind.the-variants as kind
 use Rattle.ait_descriptors.specs.declared.Test.{Test}
@@ -31,7 +32,6 @@ use Rattle.ait_read.specs.Places.{loopAt, applicationAt, ownAt, scopeAt,
 use Rattle.ait_read.specs.Labels.{firstTo}
 use Rattle.ait_read.proofs.Laws.Places.{sound-loop, sound-application, sound-own, sound-scope, sound-descriptor}
 use Rattle.ait_read.proofs.Laws.Made.{loop-part, own-part, found-made}
-use Rattle.ait_read.proofs.Laws.Nth.{nth-item, first-at, first-nowhere, one-there, one-only}
 
 -- the descriptors of a scope, and whether the one at a place meets a test
 module _ (s : L.List ℕ) (o : Scope) where

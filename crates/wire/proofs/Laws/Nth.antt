@@ -1,66 +1,29 @@
 -- Things by their place in a list: the k-th item that a finder finds, the first that meets a test, and the only one.
-use Prim.Native.Nat.{ℕ, zero, suc, _+_, _≤_, _<_}
-use mathlib.Core.Path.{_≡_, refl, sym, ap, _∙_}
+use Prim.Native.Nat.{ℕ, zero, suc, _+_, _<_}
+use mathlib.Core.Path.{_≡_, refl, ap}
 use mathlib.Core.Bool.{Bool, true, false, cond}
-use mathlib.Core.List.{List, [], _∷_, _++_, append-assoc}
+use mathlib.Core.List.{List, [], _∷_, _++_}
 use native.Mathlib.Omega.{arith}
-use lib.ListN.{length, getD, take, drop, length-append, length-take, length-drop}
-use lib.Seq.{take-at, drop-at}
+use lib.ListN.{length, getD, take, drop, length-append}
+use lib.Seq.{getD-append-seam}
 use Rattle.wire.specs.declared.Place.{Place}
 use Rattle.wire.specs.declared.Place.the-variants.{At}
 use Rattle.wire.specs.declared.Hit.the-variants.{Item, Missing}
-use Rattle.wire.specs.Items.{Size, IsKind, items, joined, count, number}
-use Rattle.wire.specs.Places.{itemAt, placeFrom, inPart, partAt, firstFrom, Inside}
-use Rattle.wire.proofs.Laws.Steps.{covers}
-use Rattle.wire.proofs.Laws.Meaning.{joined-both}
-use Rattle.wire.proofs.Laws.Finders.{inPart-has, item-is, part-part}
-use Rattle.wire.proofs.Laws.Parts.{part-at}
+use Rattle.wire.specs.Items.{Size, IsKind, items, count, number}
+use Rattle.wire.specs.Places.{itemAt, inPart, partAt, firstFrom, Inside}
+use Rattle.wire.proofs.Laws.Parts.{found-among}
 use Rattle.wire.proofs.Laws.Tests.{clash}
 
--- the k-th of some items: where it lies when they are laid end to end, and which it is
-placed : (k at : ℕ) (is : List (List ℕ)) (a n : ℕ) → placeFrom k at is ≡ At a n
-    → (js : List (List ℕ)) × (ks : List (List ℕ)) × (js ++ getD is k [] ∷ ks ≡ is) × (k < length is) × (a ≡ at + length (joined js)) × (n ≡ length (getD is k []))
-unfolding placeFrom joined
-placed zero at [] a n e = let z : _≡_ {A = ℕ} 0 1 = cc in absurd (omega arith)
-placed (suc k) at [] a n e = let z : _≡_ {A = ℕ} 0 1 = cc in absurd (omega arith)
-placed zero at (x ∷ is) a n e = let p : at ≡ a = cc in ([], is, refl, omega arith, omega arith, cc)
-placed (suc k) at (x ∷ is) a n e =
-    let q = placed k (at + length x) is a n e in
-    (x ∷ q .0, q .1, ap (λ (l : List (List ℕ)). x ∷ l) (q .2), omega (arith, q .3), rw length-append (omega (arith, q .4)), q .5)
-
-module _ (size : Size) (kind : IsKind size) where
-  item-nth : (k : ℕ) (xs : List ℕ) (a n : ℕ) → itemAt size k xs ≡ At a n → (k < length (items size xs)) × (getD (items size xs) k [] ≡ take n (drop a xs))
-  unfolding itemAt joined
-  item-nth k xs a n e =
-      let q = placed k 0 (items size xs) a n e in
-      let c = covers size kind xs in
-      (q .3, go (q .0) (getD (items size xs) k []) (q .1) (c .0) (q .4) (q .5) (ap (λ (is : List (List ℕ)). joined is ++ c .0) (q .2) ∙ c .1))
-    where
-      go : (js : List (List ℕ)) (x : List ℕ) (ks : List (List ℕ)) (rest : List ℕ) → a ≡ 0 + length (joined js) → n ≡ length x
-          → joined (js ++ x ∷ ks) ++ rest ≡ xs → x ≡ take n (drop a xs)
-      go js x ks rest f g c =
-          let s : joined js ++ (x ++ (joined ks ++ rest)) ≡ xs = simp (joined-both, append-assoc) at c in
-          let d : drop a xs ≡ x ++ (joined ks ++ rest) = rw (← s) (drop-at (joined js) (x ++ (joined ks ++ rest)) a (omega arith)) in
-          sym (rw d (take-at x (joined ks ++ rest) n (sym g)))
-
-  -- WHAT A FINDER FINDS AT PLACE k IS THE k-th ITEM
-  pub nth-item : (k : ℕ) (p : Place) (s : List ℕ) → Inside p s → (a n : ℕ) → inPart (itemAt size k) p s ≡ At a n
-      → (k < count size (partAt p s)) × (getD (items size (partAt p s)) k [] ≡ take n (drop a s))
-  unfolding count
-  nth-item k p s i a n e =
-      let q = inPart-has (itemAt size k) s p a n e in
-      go (q .0) (q .1) (q .2) (q .3) (q .4) (q .5)
-    where
-      go : (b m c : ℕ) → p ≡ At b m → itemAt size k (take m (drop b s)) ≡ At c n → a ≡ b + c
-          → (k < length (items size (partAt p s))) × (getD (items size (partAt p s)) k [] ≡ take n (drop a s))
-      go b m c d f g =
-          let h = i b m d in
-          let t = item-is size kind k (take m (drop b s)) c n f in
-          let l : c + n ≤ m = omega (arith, simp (length-take, length-drop) at (t .0)) in
-          let w : take n (drop c (take m (drop b s))) ≡ take n (drop a s) = part-part s b m c n h l ∙ ap (λ (x : ℕ). take n (drop x s)) (sym g) in
-          let u : partAt p s ≡ take m (drop b s) = ap (λ (q : Place). partAt q s) d ∙ part-at s b m in
-          let v = item-nth k (take m (drop b s)) c n f in
-          (rw u (v .0), ap (λ (x : List ℕ). getD (items size x) k []) u ∙ v .1 ∙ w)
+-- WHAT A FINDER FINDS AT PLACE k IS THE k-th ITEM
+pub nth-item : (size : Size) → IsKind size → (k : ℕ) (p : Place) (s : List ℕ) → Inside p s → (a n : ℕ) → inPart (itemAt size k) p s ≡ At a n
+    → (k < count size (partAt p s)) × (getD (items size (partAt p s)) k [] ≡ take n (drop a s))
+unfolding count
+nth-item size kind k p s i a n e =
+    let q = found-among size kind k p s i a n e in
+    go (q .0) (q .1) (items size (partAt p s)) (q .2) (q .3)
+  where
+    go : (js ks is : List (List ℕ)) → js ++ take n (drop a s) ∷ ks ≡ is → length js ≡ k → (k < length is) × (getD is k [] ≡ take n (drop a s))
+    go js ks is f g = rw (← f, ← g) (rw length-append (omega arith), getD-append-seam js (take n (drop a s)) ks [])
 
 -- THE FIRST THAT MEETS A TEST meets it, and none before it does; where there is none, none does
 module _ (good : List ℕ → Bool) where
