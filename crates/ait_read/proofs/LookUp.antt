@@ -17,7 +17,6 @@ use Rattle.wire.specs.Fields.{byteAt}
 use Rattle.wire.specs.Items.{items, itemsIn}
 use Rattle.wire.specs.Places.{itemAt, after, first, firstFrom, onHit, partAt}
 use Rattle.wire.proofs.Laws.Finders.{inPart-has}
-use Rattle.wire.proofs.Laws.Parts.{item-in, item-past}
 use Rattle.wire.proofs.Laws.Nth.{nth-item}
 use Rattle.wire.proofs.Laws.Tests.{clash}
 use Rattle.section.specs.declared.Refusal.{Refusal}
@@ -53,7 +52,7 @@ use Rattle.ait_read.proofs.Laws.Made.{own-none}
 use Rattle.ait_read.proofs.Laws.Acceptance.{located-none, located-at}
 use Rattle.ait_read.proofs.Laws.Exact.{accepted-exactly, resolve-refused}
 use Rattle.ait_read.proofs.Laws.Numbers.{resolve-number}
-use Rattle.ait_read.proofs.Laws.Located.{accepted-good, located-cases, nineteen-exactly, found-at, refused-descriptor, refused-item}
+use Rattle.ait_read.proofs.Laws.Located.{accepted-good, located-cases, nineteen-exactly, found-at, nowhere-exactly, refused-descriptor, refused-item}
 use Rattle.ait_read.proofs.Laws.Sole.{twelve, sole-place, first-descriptor, no-descriptor}
 
 -- what `descriptor_at` shows is a 0x02 descriptor with the label l
@@ -164,47 +163,37 @@ is-label s g i k a n e = go (firstTo (Tagged 0x00) (partAt (ownAt i s) s)) e
 
 module _ (s : L.List ℕ) (g : GoodTable s) (i k : ℕ) where
   no-application : countAt kind.Application (loopAt s) s ≤ i → labelAt i k s ≡ Nothing
-  unfolding applicationAt countAt first firstFrom items itemsIn
+  unfolding applicationAt first firstFrom items itemsIn
   no-application l =
-      let e = own-none s (twelve s g) (g .body) i (item-past (sizeOf kind.Application) (kinds.kind-of kind.Application) s i (loopAt s) l) in
+      let e = own-none s (twelve s g) (g .body) i (nowhere-exactly kind.Application (loopAt s) s i .1 l) in
       sym (label-none i k s (ap (firstTo (Tagged 0x00)) e))
 
   -- the labels of the 0x00 descriptor at place j
-  module _ (j a n : ℕ) (f : firstTo (Tagged 0x00) (partAt (ownAt i s) s) ≡ Item j) (e : descriptorAt (scope.Own i) j s ≡ At a n) where
-    no-such-label : repeatedCount Labels (take n (drop a s)) ≤ k → labelAt i k s ≡ Nothing
-    unfolding repeatedAt countAt kindOf
-    no-such-label c =
-        let l = list-count s (scope.Own i) j Labels a n e in
-        sym (label-is i k s j f) ∙ item-past (sizeOf kind.Label) (kinds.kind-of kind.Label) s k (listAt (scope.Own i) j Labels s) (omega (arith, l))
-
-    such-label : k < repeatedCount Labels (take n (drop a s)) → labelAt i k s ≡ Nothing → ⊥
-    unfolding repeatedAt countAt kindOf
-    such-label c z =
-        let l = list-count s (scope.Own i) j Labels a n e in
-        let t = item-in (sizeOf kind.Label) (kinds.kind-of kind.Label) s k (listAt (scope.Own i) j Labels s) (omega (arith, l)) in
-        let y = sym (t .2) ∙ label-is i k s j f ∙ z in
-        let w : _≡_ {A = ℕ} 0 1 = cc in
-        absurd (omega arith)
+  no-such-label : (j a n : ℕ) → firstTo (Tagged 0x00) (partAt (ownAt i s) s) ≡ Item j → descriptorAt (scope.Own i) j s ≡ At a n
+      → (labelAt i k s ≡ Nothing) ↔ (repeatedCount Labels (take n (drop a s)) ≤ k)
+  unfolding repeatedAt
+  no-such-label j a n f e =
+      let x = nowhere-exactly (kindOf Labels) (listAt (scope.Own i) j Labels s) s k in
+      let l = list-count s (scope.Own i) j Labels a n e in
+      let y = label-is i k s j f in
+      (λ z. let w = x .0 (y ∙ z) in omega (arith, w, l), λ c. sym y ∙ x .1 (omega (arith, c, l)))
 
   no-label-exactly : (labelAt i k s ≡ Nothing) ↔ NoLabel s i k
   no-label-exactly = (there, back)
     where
       there : labelAt i k s ≡ Nothing → NoLabel s i k
       there z = elim (decLt i (countAt kind.Application (loopAt s) s)) [
-        | yes l ↦ (let d = sole-place s g i l in
-            elim (decLt k (repeatedCount Labels (take (d .2) (drop (d .1) s)))) [
-              | yes c ↦ absurd (such-label (d .0) (d .1) (d .2) (d .3) (d .4) c z)
-              | no c ↦ inr (d .0, d .1, d .2, d .4, d .5, omega (arith, c))
-            ])
+        | yes l ↦ let d = sole-place s g i l in inr (d .0, d .1, d .2, d .4, d .5, no-such-label (d .0) (d .1) (d .2) (d .3) (d .4) .0 z)
         | no l ↦ inl (omega (arith, l))
       ]
 
       back : NoLabel s i k → labelAt i k s ≡ Nothing
       back (inl l) = no-application l
       back (inr w) = elim (decLt i (countAt kind.Application (loopAt s) s)) [
-        | yes l ↦ (let d = sole-place s g i l in
+        | yes l ↦
+            let d = sole-place s g i l in
             let j = d .6 (w .0) (w .1) (w .2) (w .3) (w .4) in
-            no-such-label (w .0) (w .1) (w .2) (d .3 ∙ ap Item (sym j)) (w .3) (w .5))
+            no-such-label (w .0) (w .1) (w .2) (d .3 ∙ ap Item (sym j)) (w .3) .1 (w .5)
         | no l ↦ no-application (omega (arith, l))
       ]
 
