@@ -34,9 +34,14 @@ def unproved(calls):
             yield "%s::%s" % (crate, name)
 
 
-calls = list(public_calls())
-found, listed = Counter("%s::%s" % c[:2] for c in calls), listed_calls()
-faults = ["%s is not listed" % c for c in found - Counter(listed.keys())] + ["%s is no public call" % c for c in Counter(listed.keys()) - found]
-faults += ["%s has not two wrong answers" % c for c, n in listed.items() if n != 2] + ["%s has no theorem of one answer" % c for c in unproved(calls)]
-print("\n".join(faults) or "calls: %d public calls, each listed with two wrong answers and proved to leave one answer" % len(calls))
-sys.exit(bool(faults))
+def main():
+    calls = list(public_calls())
+    found, listed = Counter("%s::%s" % c[:2] for c in calls), listed_calls()
+    faults = ["%s is not listed" % c for c in found - Counter(listed.keys())] + ["%s is no public call" % c for c in Counter(listed.keys()) - found]
+    faults += ["%s has not two wrong answers" % c for c, n in listed.items() if n != 2] + ["%s has no theorem of one answer" % c for c in unproved(calls)]
+    print("\n".join(faults) or "calls: %d public calls, each listed with two wrong answers and proved to leave one answer" % len(calls))
+    sys.exit(bool(faults))
+
+
+if __name__ == "__main__":
+    main()

@@ -6,3 +6,5 @@ pub mod Made
 pub mod Spans
 pub mod Exact
 pub mod Numbers
+pub mod Located
+pub mod Sole

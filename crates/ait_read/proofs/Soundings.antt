@@ -1,14 +1,14 @@
 -- The paper's soundings of this floor, as one table.
 use Prim.Native.Nat.{ℕ, zero, suc, _+_, _-_, _≤_}
-use mathlib.Core.Path.{_≡_, refl, sym, ap, _∙_}
-use mathlib.Core.Bool.{Bool, true, false}
+use mathlib.Core.Path.{_≡_, refl, ap, _∙_}
+use mathlib.Core.Bool.{true}
 use mathlib.Core.List.{List, [], _∷_, _++_}
 use native.Mathlib.Omega.{arith}
 use lib.Dec.{lit≤}
 use lib.ListN.{length, take, drop, length-append, length-drop}
 use lib.Seq.{take-at, drop-append-le}
 use Rattle.wire.specs.Fields.{fieldAt, spelled}
-use Rattle.wire.specs.Items.{framed, items, itemsIn, joined, fills, every, number}
+use Rattle.wire.specs.Items.{framed, items, itemsIn, count, joined, fills, every, number}
 use Rattle.wire.proofs.Laws.Fields.{spelled-length}
 use Rattle.section.specs.declared.Rules.the-variants.{Application}
 use Rattle.section.specs.declared.Checked.the-variants.{Accepted}
@@ -18,13 +18,19 @@ use Rattle.section.specs.Refusals.{GoodSection}
 use Rattle.section.proofs.Laws.Crc.{own-crc}
 use Rattle.ait_descriptors.specs.Contents.{contentsGood}
 use Rattle.ait_descriptors.specs.Tag00.{good00}
-use Rattle.ait_body.specs.Body.{goodLoop, soleLoop, ownLoop, applicationLoop, WellFormed}
-use Rattle.ait_descriptors.specs.Kinds.{application}
+use Rattle.ait_body.specs.Body.{goodLoop, soleLoop, ownLoop, commonLoop, applicationLoop, WellFormed}
+use Rattle.ait_descriptors.specs.Kinds.{application, sizeOf, countAt}
+use Rattle.ait_descriptors.specs.Descriptor.{descriptor}
+use Rattle.ait_read.specs.declared.Table.{Table}
+use Rattle.ait_read.specs.declared.ReadAnswer.the-variants as read
 use Rattle.ait_read.specs.declared.Class.the-variants.{Unsigned, Signed}
 use Rattle.ait_read.specs.declared.Control.the-variants.{Reserved}
 use Rattle.ait_read.specs.Acceptance.{tableJudged, FormedTable}
 use Rattle.ait_read.specs.Records.{classOf, controlOf}
-use Rattle.ait_read.proofs.Laws.Exact.{accepted-exactly}
+use Rattle.ait_read.specs.Answers.{readTable, readAnswer}
+use Rattle.ait_read.proofs.Laws.Exact.{accepted-exactly, read-exactly}
+use Rattle.ait_read.proofs.Laws.Made.{common-part, loop-part}
+use Rattle.ait_read.proofs.Laws.Sole.{twelve}
 
 -- an application of the least length, 14 bytes: organisation 1, application 0x4000, AUTOSTART, and a 0x00 descriptor without profiles and labels
 abbrev pub least : List ℕ
@@ -124,3 +130,25 @@ soundings = (
   refl,
   refl,
 )
+
+-- AND `read` COUNTS THEM: 72 applications, and no common descriptor
+full-loop : count application (applicationLoop (drop 8 fullFront)) ≡ 72
+unfolding leasts fieldAt framed items itemsIn count
+full-loop = refl
+
+full-common : count descriptor (commonLoop (drop 8 fullFront)) ≡ 0
+unfolding leasts fieldAt framed items itemsIn count
+full-common = refl
+
+pub seventy-two-read : (t : Table) × (readAnswer (whole fullFront) ≡ read.Accepted t) × (t .applications ≡ 72) × (t .common ≡ 0)
+unfolding readTable countAt sizeOf
+seventy-two-read =
+    let s : List ℕ = whole fullFront in
+    let g : FormedTable s = accepted-exactly s .0 (soundings .4) in
+    let b : bodyOf s ≡ drop 8 fullFront = body-of fullFront (let l = full-length in omega arith) in
+    let l = twelve s g in (
+      readTable (headerOf s) s,
+      read-exactly s g,
+      ap (count application) (loop-part s l (g .body)) ∙ ap (λ (x : List ℕ). count application (applicationLoop x)) b ∙ full-loop,
+      ap (count descriptor) (common-part s l (g .body)) ∙ ap (λ (x : List ℕ). count descriptor (commonLoop x)) b ∙ full-common,
+    )

@@ -8,3 +8,4 @@ pub mod Loops
 pub mod Counted
 pub mod Finders
 pub mod Parts
+pub mod Nth

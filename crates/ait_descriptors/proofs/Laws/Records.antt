@@ -1,9 +1,11 @@
 -- What is read of a descriptor, from the facts that code learns on its ways.
 use Prim.Native.Nat.{ℕ, _+_, _/_, _^_, _<_}
 use mathlib.Core.Path.{_≡_, refl, sym, ap, _∙_}
+use mathlib.Core.Bool.{Bool, true, false, cond}
 use mathlib.Core.List.{List}
 use native.Mathlib.Omega.{arith}
-use borrow.Author.Tests.{eq-eqb, ne-eqb}
+use lib.Dec.{eqb}
+use borrow.Author.Tests.{eq-eqb, ne-eqb, eqb-true, eqb-false}
 use Rattle.wire.specs.Fields.{byteAt, sixteenAt, bits}
 use Rattle.wire.specs.Items.{count}
 use Rattle.wire.specs.Places.{partAt}
@@ -81,3 +83,37 @@ module _ (d : List ℕ) where
 -- the item of a sort that a match has told
 pub item-is : (w what : Repeated) (x : List ℕ) (a : ℕ) → what ≡ w → itemOf w x a ≡ itemOf what x a
 item-is w what x a e = ap (λ (r : Repeated). itemOf r x a) (sym e)
+
+-- what holds of every case holds of what is read of a descriptor
+module _ (P : Described → Type 0) (d : List ℕ) (a : ℕ) where
+  pub cases-02 : P (described.Remote (byteAt d 4) (sixteenAt d 6) (sixteenAt d 8) (sixteenAt d 10) (byteAt d 12)) → P (described.Local (byteAt d 4) (byteAt d 6))
+      → P (described.Bases (byteAt d 4) (count base (partAt (basesIn d) d))) → P (described.Selector (sixteenAt d 2) (byteAt d 4) (restOf 5 d a)) → P (described02 d a)
+  unfolding described02 described1
+  cases-02 remote local bases selector = go (eqb (sixteenAt d 2) 1) (eqb (sixteenAt d 2) 3) (eqb (bits 7 1 (byteAt d 5)) 1)
+    where
+      go : (p q r : Bool) → P (cond p
+          (cond r (described.Remote (byteAt d 4) (sixteenAt d 6) (sixteenAt d 8) (sixteenAt d 10) (byteAt d 12)) (described.Local (byteAt d 4) (byteAt d 6)))
+          (cond q (described.Bases (byteAt d 4) (count base (partAt (basesIn d) d))) (described.Selector (sixteenAt d 2) (byteAt d 4) (restOf 5 d a))))
+      go true q true = remote
+      go true q false = local
+      go false true r = bases
+      go false false r = selector
+
+  pub cases : (tagOf d ≡ 0x02 → P (described02 d a))
+      → ((tagOf d ≡ 0x02 → ⊥) → P (described00 d) × P (described01 d) × P (described05 d)
+      × P (described15 d a) × P (described.Raw (tagOf d) (restOf 2 d a))) → P (describedOf d a)
+  unfolding describedOf
+  cases is others = go (eqb (tagOf d) 0x00) refl (eqb (tagOf d) 0x01) refl (eqb (tagOf d) 0x02) refl (eqb (tagOf d) 0x05) (eqb (tagOf d) 0x15)
+    where
+      go : (t₀ : Bool) → eqb (tagOf d) 0x00 ≡ t₀ → (t₁ : Bool) → eqb (tagOf d) 0x01 ≡ t₁ → (t₂ : Bool) → eqb (tagOf d) 0x02 ≡ t₂ → (t₅ t₁₅ : Bool)
+          → P (cond t₀ (described00 d)
+          (cond t₁ (described01 d)
+          (cond t₂ (described02 d a)
+          (cond t₅ (described05 d)
+          (cond t₁₅ (described15 d a) (described.Raw (tagOf d) (restOf 2 d a)))))))
+      go true e t₁ f t₂ g t₅ t₁₅ = others (λ z. let y = eqb-true (tagOf d) 0x00 e in absurd (omega (arith, y, z))) .0
+      go false e true f t₂ g t₅ t₁₅ = others (λ z. let y = eqb-true (tagOf d) 0x01 f in absurd (omega (arith, y, z))) .1
+      go false e false f true g t₅ t₁₅ = is (eqb-true _ _ g)
+      go false e false f false g true t₁₅ = others (eqb-false _ _ g) .2
+      go false e false f false g false true = others (eqb-false _ _ g) .3
+      go false e false f false g false false = others (eqb-false _ _ g) .4

@@ -66,7 +66,7 @@ module _ (s : L.List ℕ) (l : 12 ≤ length s) (w : WellFormed (bodyOf s)) wher
       ap (λ (p : Place). partAt (inPart (after 9) p s) s) e ∙ part-within (after 9) (sound-after 9) s a n h
       ∙ ap (λ (p : Place). partAt p x) (after-at 9 x (omega (arith, f .6))) ∙ part-at x _ _ ∙ tail x 9
 
-  own-none : (i : ℕ) → applicationAt i s ≡ Nothing → partAt (ownAt i s) s ≡ L.[]
+  pub own-none : (i : ℕ) → applicationAt i s ≡ Nothing → partAt (ownAt i s) s ≡ L.[]
   unfolding ownAt partAt
   own-none i e = ap (λ (p : Place). partAt (inPart (after 9) p s) s) e ∙ ap (λ (p : Place). partAt p s) (inPart-none (after 9) s)
 
@@ -93,7 +93,7 @@ module _ (s : L.List ℕ) (l : 12 ≤ length s) (w : WellFormed (bodyOf s)) wher
       go Nothing e = ap (λ (x : L.List ℕ). every wellMade (items descriptor x)) (own-none i e) ∙ made-none
       go (At a n) e = ap (λ (x : L.List ℕ). every wellMade (items descriptor x)) (own-part i a n e) ∙ own-made i a n e
 
-  found-made : (o : Scope) (j a n : ℕ) → descriptorAt o j s ≡ At a n → wellMade (take n (drop a s)) ≡ true
+  pub found-made : (o : Scope) (j a n : ℕ) → descriptorAt o j s ≡ At a n → wellMade (take n (drop a s)) ≡ true
   unfolding descriptorAt sizeOf
   found-made o j a n e = found-met descriptor (kinds.kind-of kind.Descriptor) wellMade j (scopeAt o s) s (sound-scope o s) (scope-made o) a n e
 

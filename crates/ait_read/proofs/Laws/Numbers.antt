@@ -39,7 +39,7 @@ read-number s = go (tableJudged s) ∙ number-is s
     go (Refused r) = refl
     go (Accepted h) = refl
 
-abbrev numberOfLocated : Located → ℕ
+abbrev pub numberOfLocated : Located → ℕ
 numberOfLocated (located.Refused r) = r .number
 numberOfLocated (located.At a n) = 0
 
@@ -55,7 +55,7 @@ module _ (s : List ℕ) (p : Place) where
   joined = met-append 0 (applicationTests s) ((19, onPlace p true (λ a n. false)) ∷ []) (rising s)
       ∙ ap (λ (n : ℕ). cond (eqb (firstMet (applicationTests s)) 0) n (firstMet (applicationTests s))) (last p)
 
-  located-number : numberOfLocated (locatedOf s p) ≡ placeNumber s p
+  pub located-number : numberOfLocated (locatedOf s p) ≡ placeNumber s p
   unfolding locatedOf
   located-number = go (eqb (firstMet (applicationTests s)) 0) refl ∙ sym joined
     where

@@ -1,17 +1,14 @@
 -- WHAT `part` HANDS BACK LIES INSIDE THE DESCRIPTOR IT BELONGS TO: every span that an answer carries lies between the first and the last byte
 -- of the descriptor that was asked, and `part` of it is those bytes.
-use Prim.Native.Nat.{ℕ, _+_, _-_, _≤_, _<_}
-use mathlib.Core.Path.{_≡_, refl, sym, ap, _∙_}
-use mathlib.Core.Bool.{Bool, true, false, cond}
+use Prim.Native.Nat.{ℕ, _+_, _-_, _≤_}
+use mathlib.Core.Path.{_≡_, sym, _∙_}
 use mathlib.Core.List as L
 use native.Mathlib.Omega.{arith}
 use lib.ListN.{length, take, drop, length-drop}
 use lib.Seq.{length-take-le}
-use lib.Dec.{eqb}
-use borrow.Author.Tests.{le-leb, eqb-true}
-use Rattle.wire.specs.declared.Place.{Place}
-use Rattle.wire.specs.declared.Place.the-variants.{At, Nothing}
-use Rattle.wire.specs.Fields.{byteAt, sixteenAt, bits}
+use borrow.Author.Tests.{le-leb}
+use Rattle.wire.specs.declared.Place.the-variants.{At}
+use Rattle.wire.specs.Fields.{byteAt}
 use Rattle.wire.proofs.Laws.Parts.{found-item, found-inside}
 use Rattle.wire.proofs.Laws.Frames.{framed-least}
 use Rattle.section.specs.declared.Header.{Header}
@@ -29,16 +26,17 @@ use Rattle.ait_descriptors.proofs.Laws.Contents as contents
 use Rattle.ait_descriptors.proofs.Laws.Kinds as kinds
 use Rattle.ait_read.specs.declared.Scope.{Scope}
 use Rattle.ait_descriptors.specs.declared.Repeated.{Repeated}
-use Rattle.ait_descriptors.specs.declared.Repeated.the-variants.{Names, Bases, Identifiers}
+use Rattle.ait_descriptors.specs.declared.Repeated.the-variants.{Names, Bases}
 use Rattle.ait_descriptors.specs.declared.Span.{Span}
 use Rattle.ait_descriptors.specs.declared.Described.{Described}
 use Rattle.ait_descriptors.specs.declared.Described.the-variants as described
 use Rattle.ait_read.specs.declared.steps.Step.the-variants.{Extensions, Item}
 use Rattle.ait_read.specs.Acceptance.{tableJudged}
 use Rattle.ait_read.specs.Places.{scopeAt, descriptorAt, listAt, repeatedAt, extensionsAt, extensionAt, stepIn}
-use Rattle.ait_descriptors.specs.Contents.{listIn, kindOf, repeatedCount, describedOf}
+use Rattle.ait_descriptors.specs.Contents.{listIn, kindOf, describedOf}
 use Rattle.ait_descriptors.specs.Tag00.{described00}
 use Rattle.ait_read.specs.Answers.{spanPart}
+use Rattle.ait_descriptors.proofs.Laws.Records.{cases-02, cases}
 use Rattle.ait_read.proofs.Laws.Made.{descriptor-made}
 use Rattle.ait_read.proofs.Laws.Places.{sound-scope, sound-descriptor, sound-listAt, sound-repeated, sound-extensions, sound-extension, sound-step}
 use Rattle.ait_descriptors.proofs.Laws.Lists.{sound-list}
@@ -73,6 +71,16 @@ SpansLie (described.Selector p l x) a n = Lies x a n
 SpansLie (described.Identifiers k) a n = Unit {0}
 SpansLie (described.Path x) a n = Lies x a n
 SpansLie (described.Raw t x) a n = Lies x a n
+
+-- a base that was found has its text and its count
+pub whole-base : (s : L.List ℕ) (o : Scope) (j k b m : ℕ) → repeatedAt o j Bases k s ≡ At b m → extensionsStart (take m (drop b s)) ≤ m
+unfolding repeatedAt kindOf sizeOf
+whole-base s o j k b m f =
+    let x : L.List ℕ = take m (drop b s) in
+    let q = found-item base (kinds.kind-of kind.Base) k (listAt o j Bases s) s (sound-listAt o j Bases s) b m f in
+    let h = sound-repeated o j Bases k s b m f in
+    let z : length x ≡ m = length-take-le m (drop b s) (rw length-drop (omega arith)) in
+    omega (arith, kinds.base-text x (q .6 ∙ sym z) (omega (arith, q .5)))
 
 module _ (s : L.List ℕ) (o : Scope) (j a n : ℕ) (e : descriptorAt o j s ≡ At a n) where
   abbrev d : L.List ℕ
@@ -116,19 +124,10 @@ module _ (s : L.List ℕ) (o : Scope) (j a n : ℕ) (e : descriptorAt o j s ≡ 
       let g = framed-least 4 (λ h. byteAt h 3) (take m (drop b s)) (λ z. omega (arith, z, q .5, q .6)) in
       wider _ b m a n (item-in Names k b m f) (rest-lies 4 s b m (sound-repeated o j Names k s b m f) (omega (arith, g, q .6)))
 
-  whole-base : (k b m : ℕ) → repeatedAt o j Bases k s ≡ At b m → extensionsStart (take m (drop b s)) ≤ m
-  unfolding repeatedAt kindOf sizeOf
-  whole-base k b m f =
-      let x : L.List ℕ = take m (drop b s) in
-      let q = found-item base (kinds.kind-of kind.Base) k (listAt o j Bases s) s (sound-listAt o j Bases s) b m f in
-      let h = sound-repeated o j Bases k s b m f in
-      let z : length x ≡ m = length-take-le m (drop b s) (rw length-drop (omega arith)) in
-      omega (arith, kinds.base-text x (q .6 ∙ sym z) (omega (arith, q .5)))
-
   pub base-lies : (k b m : ℕ) → repeatedAt o j Bases k s ≡ At b m → Lies (baseOf (take m (drop b s)) b .text) a n
   unfolding baseOf
   base-lies k b m f =
-      let w = whole-base k b m f in
+      let w = whole-base s o j k b m f in
       wider _ b m a n (item-in Bases k b m f) (omega arith, omega arith)
 
   pub extension-lies : (k i b m : ℕ) → extensionAt o j k i s ≡ At b m → Lies (extensionRead (take m (drop b s)) b) a n
@@ -150,30 +149,8 @@ module _ (s : L.List ℕ) (o : Scope) (j a n : ℕ) (e : descriptorAt o j s ≡ 
         let l = long in
         omega (arith, simp length-drop at k)
 
-    transport : 5 ≤ n → SpansLie (described02 d a) a n
-    unfolding described02 described1
-    transport f = go (eqb (sixteenAt d 2) 1) (eqb (sixteenAt d 2) 3) (eqb (bits 7 1 (byteAt d 5)) 1)
-      where
-        go : (p q r : Bool) → SpansLie (cond p
-            (cond r (described.Remote (byteAt d 4) (sixteenAt d 6) (sixteenAt d 8) (sixteenAt d 10) (byteAt d 12)) (described.Local (byteAt d 4) (byteAt d 6)))
-            (cond q (described.Bases (byteAt d 4) (count base (partAt (basesIn d) d))) (described.Selector (sixteenAt d 2) (byteAt d 4) (restOf 5 d a)))) a n
-        go true q true = tt
-        go true q false = tt
-        go false true r = tt
-        go false false r = rest-lies 5 s a n fits f
-
     pub described-lies : SpansLie (describedOf d a) a n
-    unfolding describedOf described00 described01 described05 described15
-    described-lies = go (eqb (tagOf d) 0x00) (eqb (tagOf d) 0x01) (eqb (tagOf d) 0x02) (eqb (tagOf d) 0x05) (eqb (tagOf d) 0x15) refl
-      where
-        go : (t₀ t₁ t₂ t₅ t₁₅ : Bool) → eqb (tagOf d) 0x02 ≡ t₂ → SpansLie (cond t₀ (described00 d)
-            (cond t₁ (described01 d)
-            (cond t₂ (described02 d a)
-            (cond t₅ (described05 d)
-            (cond t₁₅ (described15 d a) (described.Raw (tagOf d) (restOf 2 d a))))))) a n
-        go true t₁ t₂ t₅ t₁₅ e = tt
-        go false true t₂ t₅ t₁₅ e = tt
-        go false false true t₅ t₁₅ e = transport (five (eqb-true _ _ e))
-        go false false false true t₁₅ e = tt
-        go false false false false true e = rest-lies 2 s a n fits two
-        go false false false false false e = rest-lies 2 s a n fits two
+    unfolding described00 described01 described05 described15
+    described-lies = cases (λ x. SpansLie x a n) d a
+        (λ t. cases-02 (λ x. SpansLie x a n) d a tt tt tt (rest-lies 5 s a n fits (five t)))
+        (λ t. (tt, tt, tt, rest-lies 2 s a n fits two, rest-lies 2 s a n fits two))

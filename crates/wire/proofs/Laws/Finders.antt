@@ -17,14 +17,14 @@ use Rattle.wire.proofs.Laws.Frames.{framed-kind, framed-least, rest-of}
 use Rattle.wire.proofs.Laws.Meaning.{wholes, front, joined-both}
 
 placed : (k at : ℕ) (is : List (List ℕ)) (a n : ℕ) → placeFrom k at is ≡ At a n
-    → (js : List (List ℕ)) × (x : List ℕ) × (ks : List (List ℕ)) × (js ++ x ∷ ks ≡ is) × (a ≡ at + length (joined js)) × (n ≡ length x)
+    → (js : List (List ℕ)) × (x : List ℕ) × (ks : List (List ℕ)) × (js ++ x ∷ ks ≡ is) × (a ≡ at + length (joined js)) × (n ≡ length x) × (length js ≡ k)
 unfolding placeFrom joined
 placed zero at [] a n e = let z : _≡_ {A = ℕ} 0 1 = cc in absurd (omega arith)
 placed (suc k) at [] a n e = let z : _≡_ {A = ℕ} 0 1 = cc in absurd (omega arith)
-placed zero at (x ∷ is) a n e = let p : at ≡ a = cc in ([], x, is, refl, omega arith, cc)
+placed zero at (x ∷ is) a n e = let p : at ≡ a = cc in ([], x, is, refl, omega arith, cc, refl)
 placed (suc k) at (x ∷ is) a n e =
     let q = placed k (at + length x) is a n e in
-    (x ∷ q .0, q .1, q .2, ap (λ (l : List (List ℕ)). x ∷ l) (q .3), rw length-append (omega arith), q .5)
+    (x ∷ q .0, q .1, q .2, ap (λ (l : List (List ℕ)). x ∷ l) (q .3), rw length-append (omega arith), q .5, ap suc (q .6))
 
 whole-of : (size : Size) (js : List (List ℕ)) (x : List ℕ) (ks : List (List ℕ)) → Wholes size (js ++ x ∷ ks) → (size x ≡ length x) × (0 < length x)
 whole-of size [] x ks w = w .0
@@ -50,18 +50,18 @@ lies size kind js x ks rest xs a n w c e f =
     let l = simp length-append at (ap length s) in
     (omega arith, rw d (front size kind x (joined ks ++ rest) v ∙ sym f), omega arith)
 
--- an item that was found is one of the items
+-- an item that was found is one of the items, the k-th
 pub item-bytes : (size : Size) → IsKind size → (k : ℕ) (xs : List ℕ) (a n : ℕ) → itemAt size k xs ≡ At a n
-    → (js : List (List ℕ)) × (ks : List (List ℕ)) × (js ++ take n (drop a xs) ∷ ks ≡ items size xs)
+    → (js : List (List ℕ)) × (ks : List (List ℕ)) × (js ++ take n (drop a xs) ∷ ks ≡ items size xs) × (length js ≡ k)
 unfolding itemAt
 item-bytes size kind k xs a n e =
     let q = placed k 0 (items size xs) a n e in
     let c = covers size kind xs in
-    go (q .0) (q .1) (q .2) (c .0) (q .3) (q .4) (q .5) (rw (q .3) (c .1))
+    go (q .0) (q .1) (q .2) (c .0) (q .3) (q .4) (q .5) (q .6) (rw (q .3) (c .1))
   where
     go : (js : List (List ℕ)) (x : List ℕ) (ks : List (List ℕ)) (rest : List ℕ) → js ++ x ∷ ks ≡ items size xs → a ≡ 0 + length (joined js) → n ≡ length x
-        → joined (js ++ x ∷ ks) ++ rest ≡ xs → (js : List (List ℕ)) × (ks : List (List ℕ)) × (js ++ take n (drop a xs) ∷ ks ≡ items size xs)
-    go js x ks rest e f g c = (js, ks, ap (λ (y : List ℕ). js ++ y ∷ ks) (bytes-of js x ks rest xs a n f g c) ∙ e)
+        → length js ≡ k → joined (js ++ x ∷ ks) ++ rest ≡ xs → (js : List (List ℕ)) × (ks : List (List ℕ)) × (js ++ take n (drop a xs) ∷ ks ≡ items size xs) × (length js ≡ k)
+    go js x ks rest e f g l c = (js, ks, ap (λ (y : List ℕ). js ++ y ∷ ks) (bytes-of js x ks rest xs a n f g c) ∙ e, l)
 
 -- an item that was found lies in the list, is not empty, and is what the list from there on begins with
 pub item-is : (size : Size) → IsKind size → (k : ℕ) (xs : List ℕ) (a n : ℕ) → itemAt size k xs ≡ At a n → (a + n ≤ length xs) × (size (drop a xs) ≡ n) × (0 < n)

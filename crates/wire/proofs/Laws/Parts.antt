@@ -62,6 +62,24 @@ found-item size kind k p s i c m e =
         let o : size (take m xs) ≡ size xs = kind .own xs (take m xs) (omega arith) (rw z (take-take m m xs (omega arith))) in
         (a, n, e, omega arith, omega arith, t .2, ap size (sym w) ∙ o ∙ z)
 
+-- an item that was found in a part is the k-th of the part's items
+pub found-among : (size : Size) → IsKind size → (k : ℕ) (p : Place) (s : List ℕ) → Inside p s → (a n : ℕ) → inPart (itemAt size k) p s ≡ At a n
+    → (js : List (List ℕ)) × (ks : List (List ℕ)) × (js ++ take n (drop a s) ∷ ks ≡ items size (partAt p s)) × (length js ≡ k)
+found-among size kind k p s i a n e =
+    let q = inPart-has (itemAt size k) s p a n e in
+    go (q .0) (q .1) (q .2) (q .3) (q .4) (q .5)
+  where
+    go : (b m c : ℕ) → p ≡ At b m → itemAt size k (take m (drop b s)) ≡ At c n → a ≡ b + c
+        → (js : List (List ℕ)) × (ks : List (List ℕ)) × (js ++ take n (drop a s) ∷ ks ≡ items size (partAt p s)) × (length js ≡ k)
+    go b m c d f g =
+        let h = i b m d in
+        let t = item-is size kind k (take m (drop b s)) c n f in
+        let l : c + n ≤ m = omega (arith, simp (length-take, length-drop) at (t .0)) in
+        let w : take n (drop c (take m (drop b s))) ≡ take n (drop a s) = part-part s b m c n h l ∙ ap (λ (x : ℕ). take n (drop x s)) (sym g) in
+        let j = item-bytes size kind k (take m (drop b s)) c n f in
+        let u : partAt p s ≡ take m (drop b s) = ap (λ (q : Place). partAt q s) d ∙ part-at s b m in
+        (j .0, j .1, ap (λ (x : List ℕ). j .0 ++ x ∷ j .1) (sym w) ∙ j .2 ∙ ap (items size) (sym u), j .3)
+
 -- where each item meets a test, one that was found meets it
 each-met : (good : List ℕ → Bool) (js : List (List ℕ)) (x : List ℕ) (ks : List (List ℕ)) → every good (js ++ x ∷ ks) ≡ true → good x ≡ true
 unfolding every
@@ -79,19 +97,8 @@ each-met good (j ∷ js) x ks e = each-met good js x ks (go (good j) e)
 pub found-met : (size : Size) → IsKind size → (good : List ℕ → Bool) (k : ℕ) (p : Place) (s : List ℕ) → Inside p s
     → every good (items size (partAt p s)) ≡ true → (a n : ℕ) → inPart (itemAt size k) p s ≡ At a n → good (take n (drop a s)) ≡ true
 found-met size kind good k p s i v a n e =
-    let q = inPart-has (itemAt size k) s p a n e in
-    go (q .0) (q .1) (q .2) (q .3) (q .4) (q .5)
-  where
-    go : (b m c : ℕ) → p ≡ At b m → itemAt size k (take m (drop b s)) ≡ At c n → a ≡ b + c → good (take n (drop a s)) ≡ true
-    go b m c d f g =
-        let h = i b m d in
-        let t = item-is size kind k (take m (drop b s)) c n f in
-        let l : c + n ≤ m = omega (arith, simp (length-take, length-drop) at (t .0)) in
-        let w : take n (drop c (take m (drop b s))) ≡ take n (drop a s) = part-part s b m c n h l ∙ ap (λ (x : ℕ). take n (drop x s)) (sym g) in
-        let j = item-bytes size kind k (take m (drop b s)) c n f in
-        let u : partAt p s ≡ take m (drop b s) = ap (λ (q : Place). partAt q s) d ∙ part-at s b m in
-        let v₁ : every good (items size (take m (drop b s))) ≡ true = ap (λ (x : List ℕ). every good (items size x)) (sym u) ∙ v in
-        ap good (sym w) ∙ each-met good (j .0) (take n (drop c (take m (drop b s)))) (j .1) (ap (every good) (j .2) ∙ v₁)
+    let j = found-among size kind k p s i a n e in
+    each-met good (j .0) (take n (drop a s)) (j .1) (ap (every good) (j .2) ∙ v)
 
 -- what was found in a part lies inside it
 pub found-inside : (g : Finder) → Sound g → (p : Place) (s : List ℕ) → Inside p s → (c m : ℕ) → inPart g p s ≡ At c m
