@@ -1,18 +1,10 @@
 -- Where things lie in an application section. Bytes count from the section's byte 0, things from 0.
 use Prim.Native.Nat.{ℕ, _+_}
-use mathlib.Core.Bool.{Bool, cond}
 use mathlib.Core.List as L
-use lib.Dec.{eqb}
-use lib.ListN.{length}
-use Rattle.wire.specs.declared.Place.{Place}
-use Rattle.wire.specs.declared.Place.the-variants.{Nothing}
-use Rattle.wire.specs.Fields.{byteAt, sixteenAt}
-use Rattle.wire.specs.Items.{Size, count}
-use Rattle.wire.specs.Places.{Finder, onPlace, itemAt, after, bytes, inner, inPart, within, partAt}
+use Rattle.wire.specs.Places.{Finder, itemAt, after, bytes, inner, within}
 use Rattle.ait_descriptors.specs.declared.Kind.{Kind}
-use Rattle.ait_descriptors.specs.declared.Kind.the-variants.{Application, Descriptor, Profile, Label, Name, Base, Extension, Identifier}
+use Rattle.ait_descriptors.specs.declared.Kind.the-variants.{Application, Descriptor, Extension}
 use Rattle.ait_descriptors.specs.Kinds.{sizeOf}
-use Rattle.ait_descriptors.specs.Descriptor.{tagOf}
 use Rattle.ait_descriptors.specs.Contents.{listIn, kindOf}
 use Rattle.ait_descriptors.specs.Tag02.{extensionsIn}
 use Rattle.ait_body.specs.Body.{commonLength}
@@ -21,7 +13,7 @@ use Rattle.ait_read.specs.declared.Scope.the-variants as scope
 use Rattle.ait_read.specs.declared.steps.Step.{Step}
 use Rattle.ait_read.specs.declared.steps.Step.the-variants.{CommonLoop, ApplicationLoop, OwnLoop, List, Extensions, Item}
 use Rattle.ait_descriptors.specs.declared.Repeated.{Repeated}
-use Rattle.ait_descriptors.specs.declared.Repeated.the-variants.{Profiles, Labels, Names, Bases, Identifiers}
+use Rattle.ait_descriptors.specs.declared.Repeated.the-variants.{Bases}
 
 -- in a body: the common descriptors, and the applications
 unfoldable pub commonIn : Finder

@@ -1,32 +1,17 @@
--- What is read of each thing, from its own bytes; and for what lies in it, the place a where it begins. 01, "The application section".
-use Prim.Native.Nat.{ℕ, _+_, _-_}
-use mathlib.Core.Bool.{Bool, cond}
+-- What is read of an application, from its own bytes. 01, "The application section".
+use Prim.Native.Nat.{ℕ}
+use mathlib.Core.Bool.{cond}
 use mathlib.Core.List.{List}
 use lib.Dec.{ltb, eqb}
-use lib.ListN.{length}
-use Rattle.wire.specs.Fields.{byteAt, sixteenAt, thirtyTwoAt, bits}
+use Rattle.wire.specs.Fields.{byteAt, sixteenAt, thirtyTwoAt}
 use Rattle.wire.specs.Places.{after}
 use Rattle.ait_descriptors.specs.declared.Kind.the-variants.{Descriptor}
-use Rattle.ait_descriptors.specs.Tag02.{extensionCount}
-use Rattle.ait_descriptors.specs.Descriptor.{tagOf}
 use Rattle.ait_read.specs.declared.Class.{Class}
 use Rattle.ait_read.specs.declared.Class.the-variants.{Unsigned, Signed, Other, Wildcard}
 use Rattle.ait_read.specs.declared.Control.{Control}
 use Rattle.ait_read.specs.declared.Control.the-variants.{Autostart, Present, Destroy, Kill, Remote, Reserved}
-use Rattle.ait_descriptors.specs.declared.Span.{Span}
 use Rattle.ait_read.specs.declared.Application.{Application}
-use Rattle.ait_descriptors.specs.declared.Profile.{Profile}
-use Rattle.ait_descriptors.specs.declared.Name.{Name}
-use Rattle.ait_descriptors.specs.declared.Base.{Base}
-use Rattle.ait_descriptors.specs.declared.Identifier.{Identifier}
-use Rattle.ait_descriptors.specs.declared.Described.{Described}
-use Rattle.ait_descriptors.specs.declared.Described.the-variants as described
-use Rattle.ait_descriptors.specs.declared.Item.{Item}
-use Rattle.ait_descriptors.specs.declared.Item.the-variants as item
-use Rattle.ait_descriptors.specs.declared.Repeated.{Repeated}
-use Rattle.ait_descriptors.specs.declared.Repeated.the-variants.{Profiles, Labels, Names, Bases, Identifiers}
 use Rattle.ait_descriptors.specs.Kinds.{countAt}
-use Rattle.ait_descriptors.specs.Contents.{repeatedCount}
 
 -- "0x0000 to 0x3FFF unsigned, 0x4000 to 0x7FFF signed, 0x8000 to 0xFFFD other, 0xFFFE and 0xFFFF wildcards"
 unfoldable pub classOf : ℕ → Class

@@ -36,7 +36,8 @@ use Rattle.ait_read.specs.declared.Located.the-variants as located
 use Rattle.ait_read.specs.Acceptance.{applicationTests, tableJudged, FormedTable}
 use Rattle.ait_read.specs.Places.{loopAt, applicationAt, scopeAt, descriptorAt, listAt, repeatedAt, extensionsAt, extensionAt}
 use Rattle.ait_descriptors.specs.Contents.{kindOf}
-use Rattle.ait_read.specs.Answers.{locatedOf, onLocated, placeNumber, applicationAnswer, descriptorAnswer, itemAnswer, extensionAnswer, numberOfApplication, numberOfDescriptor, numberOfItem, numberOfExtension}
+use Rattle.ait_read.specs.Answers.{locatedOf, onLocated, placeNumber, applicationAnswer, descriptorAnswer}
+use Rattle.ait_read.specs.Answers.{itemAnswer, extensionAnswer, numberOfApplication, numberOfDescriptor, numberOfItem, numberOfExtension}
 use Rattle.ait_read.proofs.Laws.Acceptance.{located-none}
 use Rattle.ait_read.proofs.Laws.Exact.{number-is, none-applies, refused-exactly, accepted-exactly}
 use Rattle.ait_read.proofs.Laws.Numbers.{numberOfLocated, located-number, application-number, descriptor-number, item-number, extension-number}
