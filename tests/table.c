@@ -147,7 +147,15 @@ static void say_contents(nebosvar_descriptor_head d)
     }
 }
 
-/* A loop's descriptors, each with its items: by its own kind, and the labels. */
+/* The items of a kind, and that there are no more. */
+static void say_items(size_t application, size_t descriptor, uint8_t kind, size_t count)
+{
+    for (size_t k = 0; k < count; k++)
+        say_item(application, descriptor, kind, k);
+    must(nebosvar_item(section, length, application, descriptor, kind, count).refusal == NEBOSVAR_NO_PLACE, "no item after the last");
+}
+
+/* A loop's descriptors, each with its items: those that it counts by its own kind, and the labels. */
 static void say_loop(size_t application, size_t count)
 {
     for (size_t j = 0; j < count; j++) {
@@ -156,11 +164,8 @@ static void say_loop(size_t application, size_t count)
         begin("descriptor", application, j);
         printf(",%u", d.tag);
         say_contents(d);
-        for (size_t k = 0; k < d.count; k++)
-            say_item(application, j, d.kind, k);
-        for (size_t k = 0; k < d.labels; k++)
-            say_item(application, j, NEBOSVAR_ITEM_LABEL, k);
-        must(nebosvar_item(section, length, application, j, d.kind, d.count).refusal == NEBOSVAR_NO_PLACE, "no item after the last");
+        say_items(application, j, d.kind, d.count);
+        say_items(application, j, NEBOSVAR_ITEM_LABEL, d.labels);
     }
     must(nebosvar_descriptor(section, length, application, count).refusal == NEBOSVAR_NO_PLACE, "no descriptor after the last");
 }
