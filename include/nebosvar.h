@@ -2,8 +2,9 @@
  *
  * Every call is proved to end with its one stated answer, whatever bytes, record and image it is lent:
  * there is nothing to check first. What C can not say is left to the caller: each pointer is to as many
- * bytes as its length says (for a length of 0 it is not read), and the record, the section and the image of
- * one call do not overlap. No call keeps a pointer, allocates, blocks or uses anything but what it is lent.
+ * bytes as its length says (for a length of 0 it is not read); the record, the section and the image of one
+ * call do not overlap; and nothing else changes what is lent while the call runs. No call keeps a pointer,
+ * allocates, blocks or uses anything but what it is lent.
  *
  * A refusal (1 to 20 below) changes neither the record nor the image. */
 #ifndef NEBOSVAR_H
@@ -16,34 +17,34 @@
 extern "C" {
 #endif
 
-/* Refusals: the paper's numbers. */
+/* Refusals: the paper's numbers, in its words. A DII is an announcement, a DDB a block, an AIT an application table; L is the section's length. */
 enum {
     NEBOSVAR_ACCEPTED = 0,
-    NEBOSVAR_BAD_RECORD = 1,     /* the record breaks its rule */
-    NEBOSVAR_BAD_SIZE = 2,       /* under 3 bytes, or not 3 + L */
-    NEBOSVAR_BAD_TABLE = 3,      /* wrong table number */
-    NEBOSVAR_BAD_HEADER = 4,     /* L under 9, or over 1,021 (applications) or 4,093; syntax indicator 0; section number above last */
-    NEBOSVAR_BAD_CRC = 5,
-    NEBOSVAR_NOT_CURRENT = 6,    /* current_next 0 */
-    NEBOSVAR_MALFORMED = 7,      /* a length or fixed field inside does not fit, or bytes are left over */
-    NEBOSVAR_BAD_MESSAGE = 8,    /* first two message bytes or message number */
-    NEBOSVAR_BAD_BLOCK_HEADER = 9, /* extension is not the module number, or section number not the block's */
-    NEBOSVAR_BEYOND_LIMITS = 10, /* an announcement's block size, modules, or sizes */
-    NEBOSVAR_MODULE_TWICE = 11,
-    NEBOSVAR_NOT_ANNOUNCED = 12, /* no announcement, or another download */
-    NEBOSVAR_NO_MODULE = 13,     /* module not announced */
-    NEBOSVAR_OTHER_VERSION = 14,
-    NEBOSVAR_SHORT_IMAGE = 15,   /* image shorter than the record's sizes together */
-    NEBOSVAR_BAD_BLOCK = 16,     /* block number or block length wrong */
-    NEBOSVAR_BYTES_DIFFER = 17,  /* the block has come before with other bytes */
+    NEBOSVAR_BAD_RECORD = 1,                 /* record breaks its rule (carousel calls) */
+    NEBOSVAR_BAD_SIZE = 2,                   /* under 3 bytes, or not 3 + L */
+    NEBOSVAR_BAD_TABLE = 3,                  /* wrong table number */
+    NEBOSVAR_BAD_HEADER = 4,                 /* L under 9, or over 1,021 (AIT) or 4,093; syntax indicator 0; section number above last */
+    NEBOSVAR_BAD_CRC = 5,                    /* CRC */
+    NEBOSVAR_NOT_CURRENT = 6,                /* current_next 0 */
+    NEBOSVAR_MALFORMED = 7,                  /* a length or fixed field inside does not fit, bytes are left over, or known contents malformed */
+    NEBOSVAR_BAD_MESSAGE = 8,                /* first two message bytes or message number not as in the paper */
+    NEBOSVAR_BAD_BLOCK_HEADER = 9,           /* DDB: extension is not the module number, or section number is not block number mod 256 */
+    NEBOSVAR_BEYOND_LIMITS = 10,             /* DII: blockSize 0 or over 4,066; 0 or over 16 modules; a size 0 or over 256 * blockSize; sizes over 65,536 together */
+    NEBOSVAR_MODULE_TWICE = 11,              /* DII: module number twice */
+    NEBOSVAR_NOT_ANNOUNCED = 12,             /* DDB: no announcement, or downloadId differs */
+    NEBOSVAR_NO_MODULE = 13,                 /* module not announced */
+    NEBOSVAR_OTHER_VERSION = 14,             /* version differs */
+    NEBOSVAR_SHORT_IMAGE = 15,               /* DDB, hand-out: image shorter than the record's sizes together (an announcement never looks at the image) */
+    NEBOSVAR_BAD_BLOCK = 16,                 /* block number or block length wrong */
+    NEBOSVAR_BYTES_DIFFER = 17,              /* block marked, bytes differ */
     NEBOSVAR_NO_APPLICATION_DESCRIPTOR = 18, /* an application without exactly one 0x00 descriptor */
-    NEBOSVAR_NO_PLACE = 19,      /* no such place */
-    NEBOSVAR_INCOMPLETE = 20     /* module not complete */
+    NEBOSVAR_NO_PLACE = 19,                  /* no such place */
+    NEBOSVAR_INCOMPLETE = 20                 /* module not complete */
 };
 
 /* What became of a section. */
 enum {
-    NEBOSVAR_KIND_NONE = 0, /* it was refused */
+    NEBOSVAR_KIND_NONE = 0, /* it was refused; also where none was taken: at a stop */
     NEBOSVAR_KIND_TABLE = 1,
     NEBOSVAR_KIND_NEW = 2,
     NEBOSVAR_KIND_SAME = 3,
@@ -61,7 +62,14 @@ enum {
     NEBOSVAR_STOP_STATE = 5 /* the record breaks its rule */
 };
 
-enum { NEBOSVAR_MOST_MODULES = 16, NEBOSVAR_MOST_BLOCKS = 256, NEBOSVAR_MARK_WORDS = 128, NEBOSVAR_MOST_BYTES = 65536 };
+enum { /* limits */
+    NEBOSVAR_LARGEST_BLOCK = 4066,
+    NEBOSVAR_MOST_MODULES = 16,
+    NEBOSVAR_MOST_BLOCKS = 256,  /* of a module */
+    NEBOSVAR_MOST_BYTES = 65536, /* of all modules together */
+    NEBOSVAR_MODULE_WORDS = 8,   /* of marks, for each module */
+    NEBOSVAR_MARK_WORDS = 128    /* of marks, for all */
+};
 
 typedef struct {
     uint16_t number;
@@ -90,7 +98,7 @@ typedef struct {
     size_t length;   /* of the section that was taken; 0 at a stop */
     uint8_t stop;
     uint8_t refusal; /* of the section; 0 at a stop */
-    uint8_t kind;
+    uint8_t kind;    /* of the section; NEBOSVAR_KIND_NONE at a stop */
 } nebosvar_taken;
 
 typedef struct {
@@ -107,8 +115,8 @@ typedef struct {
 } nebosvar_part;
 
 typedef struct {
-    size_t count;  /* of missing blocks: 0 when the module is complete */
-    size_t lowest; /* of them */
+    size_t count;  /* of missing blocks; 0 says that the module is complete only where refusal is 0 */
+    size_t lowest; /* of them; it says nothing where count is 0 */
     uint8_t refusal;
 } nebosvar_lack;
 
@@ -133,23 +141,24 @@ nebosvar_lack nebosvar_missing(const nebosvar_record *record, uint16_t number);
 /* The application section (table 0x74). Things are asked for by place, from 0; each call judges the section first
  * (2 to 7, 18), and a place that is not there is 19. On a refusal all other fields are 0. */
 
-/* Stands for the common descriptors where an application's place is asked for. */
+/* As an application's place it stands for the common descriptors in nebosvar_descriptor, nebosvar_item and
+ * nebosvar_extension. Where an application itself is asked for (nebosvar_application, nebosvar_label) it is 19. */
 #define NEBOSVAR_COMMON SIZE_MAX
 
 enum { /* classes of an application number */
-    NEBOSVAR_UNSIGNED = 1,
-    NEBOSVAR_SIGNED = 2,
-    NEBOSVAR_OTHER = 3,
-    NEBOSVAR_WILDCARD = 4
+    NEBOSVAR_CLASS_UNSIGNED = 1,
+    NEBOSVAR_CLASS_SIGNED = 2,
+    NEBOSVAR_CLASS_OTHER = 3,
+    NEBOSVAR_CLASS_WILDCARD = 4
 };
 
-enum { /* classes of a control code */
-    NEBOSVAR_AUTOSTART = 1,
-    NEBOSVAR_PRESENT = 2,
-    NEBOSVAR_DESTROY = 3,
-    NEBOSVAR_KILL = 4,
-    NEBOSVAR_REMOTE = 5,
-    NEBOSVAR_RESERVED = 6
+enum { /* classes of a control code: each bears its code. Every other code is reserved; 255 is such a code itself */
+    NEBOSVAR_CONTROL_AUTOSTART = 1,
+    NEBOSVAR_CONTROL_PRESENT = 2,
+    NEBOSVAR_CONTROL_DESTROY = 3,
+    NEBOSVAR_CONTROL_KILL = 4,
+    NEBOSVAR_CONTROL_REMOTE = 6,
+    NEBOSVAR_CONTROL_RESERVED = 255
 };
 
 enum { /* kinds of descriptors: each has its tag and, under 0x02, its protocol; a field beside these that the list does not give is 0 */
@@ -164,18 +173,20 @@ enum { /* kinds of descriptors: each has its tag and, under 0x02, its protocol; 
     NEBOSVAR_DESCRIPTOR_RAW = 9          /* where the contents lie */
 };
 
-enum { /* kinds of items within a descriptor; a field that the list does not give is 0 */
-    NEBOSVAR_ITEM_PROFILE = 1,   /* number, major, minor, micro */
-    NEBOSVAR_ITEM_LABEL = 2,     /* label */
-    NEBOSVAR_ITEM_NAME = 3,      /* language, and where the name lies */
-    NEBOSVAR_ITEM_BASE = 4,      /* where the base lies, extensions */
-    NEBOSVAR_ITEM_IDENTIFIER = 5 /* organisation, number, priority */
+/* Kinds of items within a descriptor. They are the descriptors' kinds: of a descriptor d the items 0 to d.count - 1 are asked
+ * for by d.kind. A 0x00 has labels too, d.labels of them, with a kind of their own. A field that the list does not give is 0. */
+enum {
+    NEBOSVAR_ITEM_PROFILE = 1,    /* of a 0x00: number, major, minor, micro */
+    NEBOSVAR_ITEM_NAME = 2,       /* language, and where the name lies */
+    NEBOSVAR_ITEM_BASE = 5,       /* where the base lies, extensions */
+    NEBOSVAR_ITEM_IDENTIFIER = 7, /* organisation, number, the number's class, priority */
+    NEBOSVAR_ITEM_LABEL = 10      /* of a 0x00: label */
 };
 
 enum { /* where the descriptor that a label names was found */
     NEBOSVAR_FOUND_OWN = 1,
     NEBOSVAR_FOUND_COMMON = 2,
-    NEBOSVAR_UNRESOLVED = 3
+    NEBOSVAR_FOUND_UNRESOLVED = 3 /* nowhere; it is no refusal */
 };
 
 typedef struct {
@@ -193,7 +204,7 @@ typedef struct {
     size_t descriptors;
     uint32_t organisation;
     uint16_t number;
-    uint8_t class_number;
+    uint8_t class_number; /* the number's class */
     uint8_t code;
     uint8_t control; /* the code's class */
     uint8_t refusal;
@@ -224,6 +235,7 @@ typedef struct {
     size_t extensions;
     uint32_t organisation;
     uint16_t number;
+    uint8_t class_number; /* the number's class */
     uint8_t kind;
     uint8_t label;
     uint8_t major;
@@ -250,13 +262,13 @@ nebosvar_application_head nebosvar_application(const uint8_t *section, size_t le
 /* A descriptor of an application, or of the common loop. */
 nebosvar_descriptor_head nebosvar_descriptor(const uint8_t *section, size_t length, size_t application, size_t descriptor);
 
-/* An item within a descriptor, by its kind. */
+/* An item within a descriptor, by its kind and its place among the items of that kind; 19 for a kind that is none of the five. */
 nebosvar_item_found nebosvar_item(const uint8_t *section, size_t length, size_t application, size_t descriptor, uint8_t kind, size_t item);
 
 /* Where an extension of a base lies in the section. */
 nebosvar_part nebosvar_extension(const uint8_t *section, size_t length, size_t application, size_t descriptor, size_t base, size_t extension);
 
-/* Which descriptor a label of an application names. */
+/* Which 0x02 descriptor a label of an application names. `label` is the label's place in the application's 0x00, from 0, not its value. */
 nebosvar_label_found nebosvar_label(const uint8_t *section, size_t length, size_t application, size_t label);
 
 #ifdef __cplusplus

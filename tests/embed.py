@@ -1,9 +1,10 @@
 #!/usr/bin/env python3
-"""The C side: include/nebosvar.h declares what the source exports, field by field, and the C example, compiled with every warning an error,
-prints what the paper's program in Python prints, and of each module what the Python receiver says.
+"""The C side: include/nebosvar.h declares what the source exports, by name, order, type and number (tests/boundary.py), and the C programs, compiled with
+every warning an error, print what the programs in Python print: examples/receive.c the paper's lines, and of each module what the receiver says;
+tests/table.c the lines of `inspect`.
 
     embed.py          compare the declarations
-    embed.py run      the same, then `make install` into a folder of its own, compile examples/receive.c with what pkg-config says of it, and run it"""
+    embed.py run      the same, then `make install` into a folder of its own, compile both programs with what pkg-config says of it, and run them"""
 import os
 import platform
 import re
@@ -12,112 +13,37 @@ import sys
 import tempfile
 from pathlib import Path
 
+import boundary
 import program
 import receiver
+import test_inspect
 from second import ROOT
-
-SOURCES = [ROOT / "crates" / c / "src" / "lib.rt" for c in ("nebosvar", "ait_numbers", "carousel_record")]
-LIMITS = [ROOT / "crates" / c / "src" / f for c, f in (("carousel_messages", "limits.rt"), ("carousel_record", "marks.rt"))]
-HEADER = ROOT / "include" / "nebosvar.h"
-C_TYPES = {"uint8_t": "u8", "uint16_t": "u16", "uint32_t": "u32", "size_t": "usize"}
-
-
-# ---- declarations: a struct is the list of its fields' types, a function those of its parameters and its answer
-
-
-def text_of(path):
-    return re.sub(r"/\*.*?\*/|//[^\n]*", "", path.read_text(), flags=re.S)
-
-
-def rattle():
-    """The exported functions, and the fields of each struct that is laid out as C does."""
-    text = "".join(text_of(p) for p in SOURCES)
-    structs = {}
-    for name, body in re.findall(r"#\[repr\(C\)\]\s*pub struct (\w+) \{(.*?)\}", text, re.S):
-        structs[name] = [t for _, t in re.findall(r"pub (\w+): ([^,\n]+),", body)]
-    calls = {}
-    for name, parameters, answer in re.findall(r"#\[no_mangle\]\s*pub extern \"C\" fn (\w+)\((.*?)\) -> (\w+)", text, re.S):
-        calls[name] = [t.strip() for t in re.findall(r"\w+: ([^,]+)", parameters)], answer
-    return calls, structs
-
-
-def limits():
-    """The constants that the source gives a number to, in the order in which it does."""
-    numbers = {}
-    for path in LIMITS:
-        for name, value in re.findall(r"^pub const (\w+): \w+ = ([^;]+);", path.read_text(), re.M):
-            numbers[name] = eval(re.sub(r"\w+::", "", value).replace("/", "//"), {}, numbers)
-    return numbers
-
-
-def flat(types, structs):
-    """What lies one after another in memory."""
-    counts = limits()
-    for t in types:
-        array = re.fullmatch(r"\[(\w+); ([\w:]+)\]", t)
-        if array:
-            n = counts.get(array[2].split("::")[-1]) or int(array[2])
-            yield from n * list(flat([array[1]], structs))
-        elif t in structs:
-            yield "{"
-            yield from flat(structs[t], structs)
-            yield "}"
-        else:
-            yield t
-
-
-def crossed(types, structs):
-    """Parameters as C has them: a slice is a pointer and a length."""
-    for t in types:
-        slice_of = re.fullmatch(r"&(mut )?\[u8\]", t)
-        behind = re.fullmatch(r"&(mut )?([A-Z]\w*)", t)
-        if slice_of:
-            yield from ("*mut u8" if slice_of[1] else "*const u8", "usize")
-        elif behind:
-            yield ("*mut" if behind[1] else "*const", *flat([behind[2]], structs))
-        else:
-            yield t
-
-
-def header():
-    """The header's functions and structs, in the same words."""
-    text = text_of(HEADER)
-    numbers = {n: int(v) for n, v in re.findall(r"(NEBOSVAR_\w+) = (\d+)", text)}
-    structs = {}
-    for body, name in re.findall(r"typedef struct \{(.*?)\} (\w+);", text, re.S):
-        fields = []
-        for type_, count in re.findall(r"(\w+) \w+(?:\[(\w+)\])?;", body):
-            one = C_TYPES.get(type_, type_)
-            fields += [one] if not count else [one] * (numbers.get(count) or int(count))
-        structs[name] = fields
-    calls = {}
-    for answer, name, parameters in re.findall(r"^(\w+) (nebosvar_\w+)\((.*?)\);", text, re.M | re.S):
-        types = []
-        for p in parameters.split(", "):
-            const, type_, star = re.fullmatch(r"(const )?(\w+)(?: (\*)?\w+)?", p).groups()
-            if type_ == "void":
-                continue
-            pointer = "*const" if const else "*mut"
-            types.append("%s u8" % pointer if star and type_ == "uint8_t" else (pointer, *flat([type_], structs)) if star else C_TYPES[type_])
-        calls[name] = types, tuple(flat([answer], structs))
-    return calls
 
 
 def compare_declarations():
-    calls, structs = rattle()
-    wanted = {n: (list(crossed(ps, structs)), tuple(flat([a], structs))) for n, (ps, a) in calls.items()}
-    declared = header()
-    assert len(wanted) >= 12 and wanted.keys() == declared.keys(), wanted.keys() ^ declared.keys()
-    for name in wanted:
-        assert wanted[name] == declared[name], (name, wanted[name], declared[name])
-    print("embed.py: include/nebosvar.h declares the %d exported functions as the source has them" % len(wanted))
+    """The header and the Rust crate beside the source; and that the comparison finds every wrong header."""
+    wanted, raw = boundary.source(), boundary.HEADER.read_text()
+    found = list(boundary.faults(wanted, raw))
+    assert not found and len(wanted["calls"]) >= 12, "\n".join(found)
+    counts = tuple(sum(map(len, part)) for part in (wanted["structs"].values(), (ps for ps, _ in wanted["calls"].values()), wanted["constants"]))
+    print("embed.py: include/nebosvar.h has the source's %d calls, %d fields, %d parameters and %d constants" % (len(wanted["calls"]), *counts))
+    declared = boundary.rust()
+    for what in declared:
+        assert declared[what] == wanted[what], (what, declared[what], wanted[what])
+    compare_rust(dict(c for enum in wanted["constants"] for c in enum))
+    tried = [*boundary.swaps(raw), *boundary.others(raw)]
+    passed = [what for what, text in tried if not any(boundary.faults(wanted, text))]
+    assert len(tried) > 700 and not passed, passed
+    print("embed.py: each of %d wrong headers, with two names or values exchanged, is found to be one" % len(tried))
 
 
-def compare_limits():
-    """The header's limits are the source's."""
-    named = {n: int(v) for n, v in re.findall(r"NEBOSVAR_((?:MOST|MARK)_\w+) = (\d+)", text_of(HEADER))}
-    assert named and named == {n: limits()[n] for n in named}, (named, limits())
-    print("embed.py: the header's limits are the source's: %s" % ", ".join("%s %d" % x for x in named.items()))
+def compare_rust(numbers):
+    """Every number that the Rust crate takes for a case, and none left out."""
+    taken = list(boundary.rust_constants())
+    assert all(numbers.get(n) == k for n, k in taken), taken
+    named = {n for n in numbers if n.split("_")[0] in ("KIND", "STOP", "CLASS", "CONTROL", "DESCRIPTOR", "ITEM", "FOUND")}
+    assert {n for n, _ in taken} == named - {"KIND_NONE"}, named ^ {n for n, _ in taken}
+    print("embed.py: the Rust crate has the same structs and calls, and the same number for each of %d cases" % len(set(taken)))
 
 
 def compare_readme():
@@ -156,11 +82,40 @@ def check_modules(command):
     return lines
 
 
+def words_of(line):
+    """The words that tell what kind of line it is."""
+    words = line.split(",")
+    more = {"descriptor": words[4:5], "label": words[-2:-1], "application": words[4:7:2], "section": words[-1:]}
+    where = ["remote-carousel" if words[6] == "1" else "local"] if words[4:5] == ["carousel"] else []
+    return [words[0], *more.get(words[0], []), *where]
+
+
+EVERY_WORD = """application descriptor profile label name base extension identifier stop record module own common unresolved table none
+names local remote-carousel bases selector identifiers path raw
+unsigned signed other wildcard autostart present destroy kill remote reserved"""
+
+
+def check_tables(command):
+    """What `inspect` must print, line by line: of tables whole and damaged, and of the record. Lines of every kind must have come."""
+    met, tables = set(), {"table": 0, "none": 0}
+    sample = program.Input("the sample", "Something of every kind.", test_inspect.sample())
+    for i in [sample, *test_inspect.table_inputs(), *test_inspect.carousel_inputs()]:
+        printed = test_inspect.printed(i.stdin)
+        program.check_same(i.name, program.from_file(command, i), printed)
+        for line in printed.decode().splitlines():
+            met.update(words_of(line))
+            if line.startswith("section,") and line.split(",")[4] == "116":
+                tables[line.split(",")[6]] += 1
+    wanted = set(EVERY_WORD.split())
+    assert wanted <= met and min(tables.values()) >= 300, (wanted - met, tables)
+    print("embed.py: tests/table.c prints the lines of inspect for %d accepted tables and %d refused" % (tables["table"], tables["none"]))
+
+
 def check_needs(archive):
     """The archive defines the exported functions and asks for nothing but these two of the C library."""
     symbols = subprocess.run(["nm", archive], check=True, capture_output=True, text=True).stdout.split("\n")
     asked, defined = ({l.split()[-1] for l in symbols if " %s " % kind in l} for kind in "UT")
-    assert asked <= {"memcpy", "memset"} and defined == set(rattle()[0]), (asked, defined)
+    assert asked <= {"memcpy", "memset"} and defined == set(boundary.source()["calls"]), (asked, defined)
 
 
 def asked_of(prefix, what):
@@ -169,26 +124,26 @@ def asked_of(prefix, what):
     return told.stdout.split()
 
 
-def compile_strictly(source, prefix, receive):
-    """Compiles the example with every warning an error, and gives the command that runs it. Where the machine is no x86-64, gcc
+def compile_strictly(source, prefix, made):
+    """Compiles a program with every warning an error, and gives the command that runs it. Where the machine is no x86-64, gcc
     looks at it, and the kit's own compiler makes it for the kit's emulator, with the machine's C headers."""
     strict = ["-Wall", "-Wextra", "-Werror", *asked_of(prefix, "--cflags")]
     subprocess.run(["g++", *strict, "-fsyntax-only", "-x", "c++", prefix / "include" / "nebosvar.h"], check=True)
     if platform.machine() == "x86_64":
-        subprocess.run(["gcc", *strict, source, *asked_of(prefix, "--libs"), "-o", receive], check=True)
-        return [receive]
+        subprocess.run(["gcc", *strict, source, *asked_of(prefix, "--libs"), "-o", made], check=True)
+        return [made]
     subprocess.run(["gcc", *strict, "-fsyntax-only", source], check=True)
     asked = [subprocess.run(["gcc", w], check=True, capture_output=True, text=True).stdout.strip() for w in ("-print-file-name=include", "-dumpmachine")]
     headers = ["-nostdinc", "-isystem", asked[0], "-isystem", "/usr/include/" + asked[1], "-isystem", "/usr/include"]
-    made = receive.with_suffix(".o")
+    object_ = made.with_suffix(".o")
     clang, lld = (program.kit() / "bin" / f for f in ("clang", "ld.lld"))
-    subprocess.run([clang, "--target=x86_64-unknown-linux-gnu", *strict, *headers, "-c", source, "-o", made], check=True)
+    subprocess.run([clang, "--target=x86_64-unknown-linux-gnu", *strict, *headers, "-c", source, "-o", object_], check=True)
     first, last = (
         [program.kit() / "lib" / f for f in files]
         for files in (("Scrt1.o", "crti.o", "crtbeginS.o"), ("libc.so.6", "libc_nonshared.a", "libgcc.a", "crtendS.o", "crtn.o"))
     )
-    subprocess.run([lld, "-pie", "--dynamic-linker", "/lib64/ld-linux-x86-64.so.2", *first, made, *asked_of(prefix, "--libs"), *last, "-o", receive], check=True)
-    return program.under_the_kit(receive)
+    subprocess.run([lld, "-pie", "--dynamic-linker", "/lib64/ld-linux-x86-64.so.2", *first, object_, *asked_of(prefix, "--libs"), *last, "-o", made], check=True)
+    return program.under_the_kit(made)
 
 
 def install(prefix):
@@ -209,11 +164,11 @@ def run_example():
         check_needs(prefix / "lib" / "libnebosvar.a")
         command = compile_strictly(ROOT / "examples" / "receive.c", prefix, Path(folder) / "receive")
         print("embed.py: the C example over %d modules" % check_modules(command))
+        check_tables(compile_strictly(ROOT / "tests" / "table.c", prefix, Path(folder) / "table"))
         subprocess.run([sys.executable, ROOT / "tests" / "program.py", "run", *command], check=True)
 
 
 compare_declarations()
-compare_limits()
 compare_readme()
 if sys.argv[1:] == ["run"]:
     run_example()

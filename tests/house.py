@@ -44,7 +44,7 @@ def faults():
 
 def long_lines():
     """Of the programs around the crates."""
-    for pattern in ("tests/*.py", "tools/*.py", "rust/*/src/**/*.rs", "rust/*/tests/**/*.rs", "include/*.h", "examples/*.c"):
+    for pattern in ("tests/*.py", "tools/*.py", "rust/*/src/**/*.rs", "rust/*/tests/**/*.rs", "include/*.h", "examples/*.c", "tests/*.c"):
         for path in sorted(ROOT.glob(pattern)):
             for i, line in enumerate(path.read_text().split("\n"), 1):
                 if len(line) > MOST:

@@ -29,6 +29,7 @@ use Rattle.ait_read.specs.declared.ExtensionAnswer.the-variants as extension
 use Rattle.ait_read.specs.declared.Resolved.{Resolved}
 use Rattle.ait_read.specs.declared.Resolved.the-variants as resolved
 use Rattle.ait_read.specs.Answers.{readAnswer, itemAnswer}
+use Rattle.ait_read.specs.Records.{classOf}
 use Rattle.ait_numbers.specs.declared.PartOut.{PartOut}
 use Rattle.ait_numbers.specs.declared.TableOut.{TableOut}
 use Rattle.ait_numbers.specs.declared.ApplicationOut.{ApplicationOut}
@@ -58,14 +59,14 @@ classNumber class.Signed = 2
 classNumber class.Other = 3
 classNumber class.Wildcard = 4
 
--- classes of a control code: autostart 1, present 2, destroy 3, kill 4, remote 5, reserved 6
-abbrev pub controlNumber : Control → ℕ
+-- classes of a control code, by the paper's codes: "AUTOSTART 1, PRESENT 2, DESTROY 3, KILL 4, REMOTE 6, else reserved". Reserved is 255, a reserved code itself.
+unfoldable pub controlNumber : Control → ℕ
 controlNumber control.Autostart = 1
 controlNumber control.Present = 2
 controlNumber control.Destroy = 3
 controlNumber control.Kill = 4
-controlNumber control.Remote = 5
-controlNumber control.Reserved = 6
+controlNumber control.Remote = 6
+controlNumber control.Reserved = 255
 
 abbrev pub applicationOut : ApplicationAnswer → ApplicationOut
 applicationOut (application.Refused r) = record { descriptors = 0; organisation = 0; number = 0; «class_number» = 0; code = 0; control = 0; refusal = r .number }
@@ -214,14 +215,14 @@ abbrev pub noPlace : ReadAnswer → ItemAnswer
 noPlace (reading.Refused r) = items.Refused r
 noPlace (reading.Accepted t) = items.Refused (refused 19)
 
--- items by kind: profiles 1, labels 2, names 3, bases 4, identifiers 5; of any other kind there is no place
+-- an item's kind is its descriptor's: profiles (of a 0x00) 1, names 2, bases 5, identifiers 7. A 0x00 has labels too, 10. Of any other kind there is no place.
 unfoldable pub itemAsked : List ℕ → Scope → (j kind k : ℕ) → ItemAnswer
 itemAsked s o j kind k =
     cond (eqb kind 1) (itemAnswer s o j repeated.Profiles k)
-    (cond (eqb kind 2) (itemAnswer s o j repeated.Labels k)
-    (cond (eqb kind 3) (itemAnswer s o j repeated.Names k)
-    (cond (eqb kind 4) (itemAnswer s o j repeated.Bases k)
-    (cond (eqb kind 5) (itemAnswer s o j repeated.Identifiers k)
+    (cond (eqb kind 2) (itemAnswer s o j repeated.Names k)
+    (cond (eqb kind 5) (itemAnswer s o j repeated.Bases k)
+    (cond (eqb kind 7) (itemAnswer s o j repeated.Identifiers k)
+    (cond (eqb kind 10) (itemAnswer s o j repeated.Labels k)
     (noPlace (readAnswer s))))))
 
 abbrev pub noItem : (refusal : ℕ) → ItemOut
@@ -232,6 +233,7 @@ noItem refusal =
       extensions = 0;
       organisation = 0;
       number = 0;
+      «class_number» = 0;
       kind = 0;
       label = 0;
       major = 0;
@@ -252,6 +254,7 @@ foundOut (item.Profile p) =
       extensions = 0;
       organisation = 0;
       number = p .number;
+      «class_number» = 0;
       kind = 1;
       label = 0;
       major = p .major;
@@ -270,7 +273,8 @@ foundOut (item.Label l) =
       extensions = 0;
       organisation = 0;
       number = 0;
-      kind = 2;
+      «class_number» = 0;
+      kind = 10;
       label = l;
       major = 0;
       minor = 0;
@@ -288,7 +292,8 @@ foundOut (item.Name n) =
       extensions = 0;
       organisation = 0;
       number = 0;
-      kind = 3;
+      «class_number» = 0;
+      kind = 2;
       label = 0;
       major = 0;
       minor = 0;
@@ -306,7 +311,8 @@ foundOut (item.Base b) =
       extensions = b .extensions;
       organisation = 0;
       number = 0;
-      kind = 4;
+      «class_number» = 0;
+      kind = 5;
       label = 0;
       major = 0;
       minor = 0;
@@ -324,7 +330,8 @@ foundOut (item.Identifier i) =
       extensions = 0;
       organisation = i .organisation;
       number = i .number;
-      kind = 5;
+      «class_number» = classNumber (classOf (i .number));
+      kind = 7;
       label = 0;
       major = 0;
       minor = 0;

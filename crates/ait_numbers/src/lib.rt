@@ -99,6 +99,7 @@ pub struct ItemOut {
     pub extensions: usize,
     pub organisation: u32,
     pub number: u16,
+    pub class_number: u8,
     pub kind: u8,
     pub label: u8,
     pub major: u8,
@@ -153,6 +154,7 @@ const BLANK_ITEM: ItemOut = ItemOut {
     extensions: 0,
     organisation: 0,
     number: 0,
+    class_number: 0,
     kind: 0,
     label: 0,
     major: 0,
@@ -304,6 +306,7 @@ fn class_number(c: Class) -> u8
     }
 }
 
+// A class bears its code; reserved is 255, which is a reserved code itself.
 fn control_number(c: Control) -> u8
     ensures { λ r. ⌜ r ≡ controlNumber c ⌝ }
 {
@@ -312,8 +315,8 @@ fn control_number(c: Control) -> u8
         Control::Present => 2,
         Control::Destroy => 3,
         Control::Kill => 4,
-        Control::Remote => 5,
-        Control::Reserved => 6,
+        Control::Remote => 6,
+        Control::Reserved => 255,
     }
 }
 
@@ -441,15 +444,16 @@ fn placed(kind: u8, tag: u8, protocol: u16, label: u8, part: Span) -> Descriptor
     }
 }
 
+// An item's kind is its descriptor's; of the two that a 0x00 has, labels are 10.
 fn item_asked(s: &[u8], scope: Scope, j: usize, kind: u8, k: usize) -> ItemAnswer
     ensures { λ r. ⌜ r ≡ itemAsked (now (s .entry)) scope j kind k ⌝ }
 {
     match kind {
         1 => ait_read::item_at(s, scope, j, Repeated::Profiles, k),
-        2 => ait_read::item_at(s, scope, j, Repeated::Labels, k),
-        3 => ait_read::item_at(s, scope, j, Repeated::Names, k),
-        4 => ait_read::item_at(s, scope, j, Repeated::Bases, k),
-        5 => ait_read::item_at(s, scope, j, Repeated::Identifiers, k),
+        2 => ait_read::item_at(s, scope, j, Repeated::Names, k),
+        5 => ait_read::item_at(s, scope, j, Repeated::Bases, k),
+        7 => ait_read::item_at(s, scope, j, Repeated::Identifiers, k),
+        10 => ait_read::item_at(s, scope, j, Repeated::Labels, k),
         _ => no_place(s),
     }
 }
@@ -502,7 +506,7 @@ fn label_out(label: u8) -> ItemOut
     ensures { λ r. ⌜ r ≡ foundOut (item.Label label) ⌝ }
 {
     ItemOut {
-        kind: 2,
+        kind: 10,
         label,
         ..BLANK_ITEM
     }
@@ -515,7 +519,7 @@ fn name_out(n: Name) -> ItemOut
     ItemOut {
         at: text.start,
         length: text.size,
-        kind: 3,
+        kind: 2,
         first: n.first,
         second: n.second,
         third: n.third,
@@ -531,7 +535,7 @@ fn base_out(b: Base) -> ItemOut
         at: text.start,
         length: text.size,
         extensions: b.extensions,
-        kind: 4,
+        kind: 5,
         ..BLANK_ITEM
     }
 }
@@ -539,10 +543,12 @@ fn base_out(b: Base) -> ItemOut
 fn identifier_out(i: Identifier) -> ItemOut
     ensures { λ r. ⌜ r ≡ foundOut (item.Identifier i) ⌝ }
 {
+    let class = ait_read::class_of(i.number);
     ItemOut {
         organisation: i.organisation,
         number: i.number,
-        kind: 5,
+        class_number: class_number(class),
+        kind: 7,
         priority: i.priority,
         ..BLANK_ITEM
     }

@@ -219,10 +219,10 @@ module _ (s : List ℕ) where
   abbrev pub askedAt : Scope → (j kind k : ℕ) → Place
   askedAt o j kind k =
       cond (eqb kind 1) (repeatedAt o j repeated.Profiles k s)
-      (cond (eqb kind 2) (repeatedAt o j repeated.Labels k s)
-      (cond (eqb kind 3) (repeatedAt o j repeated.Names k s)
-      (cond (eqb kind 4) (repeatedAt o j repeated.Bases k s)
-      (cond (eqb kind 5) (repeatedAt o j repeated.Identifiers k s) Nothing))))
+      (cond (eqb kind 2) (repeatedAt o j repeated.Names k s)
+      (cond (eqb kind 5) (repeatedAt o j repeated.Bases k s)
+      (cond (eqb kind 7) (repeatedAt o j repeated.Identifiers k s)
+      (cond (eqb kind 10) (repeatedAt o j repeated.Labels k s) Nothing))))
 
   none-asked : numberOfItem (noPlace (readAnswer s)) ≡ placeNumber s Nothing
   unfolding placeNumber readNumber firstMet
@@ -234,17 +234,17 @@ module _ (s : List ℕ) where
 
   pub item-refusal : (o : Scope) (j kind k : ℕ) → itemOut (itemAsked s o j kind k) .refusal ≡ placeNumber s (askedAt o j kind k)
   unfolding itemAsked
-  item-refusal o j kind k = item-told (itemAsked s o j kind k) ∙ go (eqb kind 1) (eqb kind 2) (eqb kind 3) (eqb kind 4) (eqb kind 5)
+  item-refusal o j kind k = item-told (itemAsked s o j kind k) ∙ go (eqb kind 1) (eqb kind 2) (eqb kind 5) (eqb kind 7) (eqb kind 10)
     where
-      go : (a b c d e : Bool) → numberOfItem (cond a (itemAnswer s o j repeated.Profiles k) (cond b (itemAnswer s o j repeated.Labels k)
-          (cond c (itemAnswer s o j repeated.Names k) (cond d (itemAnswer s o j repeated.Bases k) (cond e (itemAnswer s o j repeated.Identifiers k) (noPlace (readAnswer s)))))))
-          ≡ placeNumber s (cond a (repeatedAt o j repeated.Profiles k s) (cond b (repeatedAt o j repeated.Labels k s)
-          (cond c (repeatedAt o j repeated.Names k s) (cond d (repeatedAt o j repeated.Bases k s) (cond e (repeatedAt o j repeated.Identifiers k s) Nothing)))))
+      go : (a b c d e : Bool) → numberOfItem (cond a (itemAnswer s o j repeated.Profiles k) (cond b (itemAnswer s o j repeated.Names k)
+          (cond c (itemAnswer s o j repeated.Bases k) (cond d (itemAnswer s o j repeated.Identifiers k) (cond e (itemAnswer s o j repeated.Labels k) (noPlace (readAnswer s)))))))
+          ≡ placeNumber s (cond a (repeatedAt o j repeated.Profiles k s) (cond b (repeatedAt o j repeated.Names k s)
+          (cond c (repeatedAt o j repeated.Bases k s) (cond d (repeatedAt o j repeated.Identifiers k s) (cond e (repeatedAt o j repeated.Labels k s) Nothing)))))
       go true b c d e = item-number s o j repeated.Profiles k
-      go false true c d e = item-number s o j repeated.Labels k
-      go false false true d e = item-number s o j repeated.Names k
-      go false false false true e = item-number s o j repeated.Bases k
-      go false false false false true = item-number s o j repeated.Identifiers k
+      go false true c d e = item-number s o j repeated.Names k
+      go false false true d e = item-number s o j repeated.Bases k
+      go false false false true e = item-number s o j repeated.Identifiers k
+      go false false false false true = item-number s o j repeated.Labels k
       go false false false false false = none-asked
 
   pub extension-refusal : (o : Scope) (j k m : ℕ) → extensionOut (extensionAnswer s o j k m) .refusal ≡ placeNumber s (extensionAt o j k m s)

@@ -82,12 +82,12 @@ pub extern "C" fn nebosvar_start() -> Carousel
 
 // One section of the carousel.
 #[no_mangle]
-pub extern "C" fn nebosvar_step(c: &mut Carousel, s: &[u8], image: &mut [u8]) -> FateOut
-    ensures { λ r. ⌜ (r ≡ stepOut (now (c .entry)) (now (s .entry)) (now (image .entry)) .answer)
-        × (now (c .exit) ≡ stepOut (now (c .entry)) (now (s .entry)) (now (image .entry)) .state)
-        × (now (image .exit) ≡ imageOf (now (c .entry)) (now (s .entry)) (now (image .entry))) ⌝ }
+pub extern "C" fn nebosvar_step(c: &mut Carousel, section: &[u8], image: &mut [u8]) -> FateOut
+    ensures { λ r. ⌜ (r ≡ stepOut (now (c .entry)) (now (section .entry)) (now (image .entry)) .answer)
+        × (now (c .exit) ≡ stepOut (now (c .entry)) (now (section .entry)) (now (image .entry)) .state)
+        × (now (image .exit) ≡ imageOf (now (c .entry)) (now (section .entry)) (now (image .entry))) ⌝ }
 {
-    let st = step(*c, s, image);
+    let st = step(*c, section, image);
     *c = st.state;
     st.answer
 }
@@ -145,50 +145,66 @@ pub extern "C" fn nebosvar_missing(c: &Carousel, number: u16) -> LackOut
 
 // The section's header, and how many common descriptors and applications it has.
 #[no_mangle]
-pub extern "C" fn nebosvar_table(s: &[u8]) -> TableOut
-    ensures { λ r. ⌜ r ≡ tableOut (readAnswer (now (s .entry))) ⌝ }
+pub extern "C" fn nebosvar_table(section: &[u8]) -> TableOut
+    ensures { λ r. ⌜ r ≡ tableOut (readAnswer (now (section .entry))) ⌝ }
 {
-    ait_numbers::table(s)
+    ait_numbers::table(section)
 }
 
-// The application at place i.
+// The application at a place.
 #[no_mangle]
-pub extern "C" fn nebosvar_application(s: &[u8], i: usize) -> ApplicationOut
-    ensures { λ r. ⌜ r ≡ applicationOut (applicationAnswer (now (s .entry)) i) ⌝ }
+pub extern "C" fn nebosvar_application(section: &[u8], application: usize) -> ApplicationOut
+    ensures { λ r. ⌜ r ≡ applicationOut (applicationAnswer (now (section .entry)) application) ⌝ }
 {
-    ait_numbers::application(s, i)
+    ait_numbers::application(section, application)
 }
 
-// The descriptor at place j of the application at place i, or of the common loop.
+// A descriptor of the application at a place, or of the common loop.
 #[no_mangle]
-pub extern "C" fn nebosvar_descriptor(s: &[u8], i: usize, j: usize) -> DescriptorOut
-    ensures { λ r. ⌜ r ≡ descriptorOut (descriptorAnswer (now (s .entry)) (scopeOf i) j) ⌝ }
+pub extern "C" fn nebosvar_descriptor(
+    section: &[u8],
+    application: usize,
+    descriptor: usize,
+) -> DescriptorOut
+    ensures { λ r. ⌜ r ≡ descriptorOut (descriptorAnswer (now (section .entry)) (scopeOf application) descriptor) ⌝ }
 {
-    ait_numbers::descriptor(s, i, j)
+    ait_numbers::descriptor(section, application, descriptor)
 }
 
-// The item at place k of those of a kind in that descriptor. A kind that is none of the five has no place.
+// An item of a kind in that descriptor, by its place among those of the kind. A kind that is none of the five has no place.
 #[no_mangle]
-pub extern "C" fn nebosvar_item(s: &[u8], i: usize, j: usize, kind: u8, k: usize) -> ItemOut
-    ensures { λ r. ⌜ r ≡ itemOut (itemAsked (now (s .entry)) (scopeOf i) j kind k) ⌝ }
+pub extern "C" fn nebosvar_item(
+    section: &[u8],
+    application: usize,
+    descriptor: usize,
+    kind: u8,
+    item: usize,
+) -> ItemOut
+    ensures { λ r. ⌜ r ≡ itemOut (itemAsked (now (section .entry)) (scopeOf application) descriptor kind item) ⌝ }
 {
-    ait_numbers::item(s, i, j, kind, k)
+    ait_numbers::item(section, application, descriptor, kind, item)
 }
 
-// The extension at place m of the base at place k in that descriptor.
+// An extension of a base in that descriptor.
 #[no_mangle]
-pub extern "C" fn nebosvar_extension(s: &[u8], i: usize, j: usize, k: usize, m: usize) -> PartOut
-    ensures { λ r. ⌜ r ≡ extensionOut (extensionAnswer (now (s .entry)) (scopeOf i) j k m) ⌝ }
+pub extern "C" fn nebosvar_extension(
+    section: &[u8],
+    application: usize,
+    descriptor: usize,
+    base: usize,
+    extension: usize,
+) -> PartOut
+    ensures { λ r. ⌜ r ≡ extensionOut (extensionAnswer (now (section .entry)) (scopeOf application) descriptor base extension) ⌝ }
 {
-    ait_numbers::extension(s, i, j, k, m)
+    ait_numbers::extension(section, application, descriptor, base, extension)
 }
 
-// Where the descriptor stands that label k of the application at place i names.
+// Where the descriptor stands that the label at a place of the application's 0x00 names.
 #[no_mangle]
-pub extern "C" fn nebosvar_label(s: &[u8], i: usize, k: usize) -> LabelOut
-    ensures { λ r. ⌜ r ≡ labelOut (resolveAnswer (now (s .entry)) i k) ⌝ }
+pub extern "C" fn nebosvar_label(section: &[u8], application: usize, label: usize) -> LabelOut
+    ensures { λ r. ⌜ r ≡ labelOut (resolveAnswer (now (section .entry)) application label) ⌝ }
 {
-    ait_numbers::label(s, i, k)
+    ait_numbers::label(section, application, label)
 }
 
 fn step(c: Carousel, s: &[u8], image: &mut [u8]) -> SteppedOut

@@ -4,6 +4,8 @@ use std::fmt::{self, Display};
 
 use nebosvar::{Kind, Stop};
 
+use crate::fence::Edge;
+
 /// The calls that can refuse.
 #[derive(Clone, Copy, PartialEq, Eq, Debug)]
 pub enum Call {
@@ -33,6 +35,8 @@ const REFUSALS: usize = 20;
 pub struct Counts {
     /// Sections walked over.
     pub sections: u64,
+    /// Stretches of which all that is lent ended at a fence, and began at one.
+    pub fenced: [u64; 2],
     refusals: [[u64; CALLS.len()]; REFUSALS],
     kinds: [u64; KINDS.len()],
     stops: [u64; STOPS.len()],
@@ -60,6 +64,13 @@ impl Counts {
         self.stops[stop as usize] += 1;
     }
 
+    /// A stretch is lent at this edge, if at any.
+    pub fn lent(&mut self, edge: Option<Edge>) {
+        if let Some(edge) = edge {
+            self.fenced[edge as usize] += 1;
+        }
+    }
+
     /// A module was handed out.
     pub fn handed_out(&mut self) {
         self.handouts += 1;
@@ -75,6 +86,7 @@ impl Counts {
         self.sections += other.sections;
         self.handouts += other.handouts;
         self.places += other.places;
+        add(&mut self.fenced, &other.fenced);
         add(&mut self.kinds, &other.kinds);
         add(&mut self.stops, &other.stops);
         for (counts, others) in self.refusals.iter_mut().zip(&other.refusals) {

@@ -4,18 +4,19 @@
 //! * Making: [`random`], sections by the crate `make`, [`tables`], [`carousels`], [`damage`], [`starts`] (records and
 //!   images to start from), [`stretches`] (all of it put together).
 //! * Comparing: [`pair`] (both receivers side by side), [`walk`] (a whole stretch), [`reading`] (a table),
-//!   [`threads`] (all stretches).
+//!   [`threads`] (all stretches), [`fence`] (for some of them, memory that may not be touched beside what is lent).
 //! * Telling: [`counts`] (what was answered how often), [`difference`].
 //!
 //! What the makers mean a section to be decides nothing: a section that was not spoilt as intended is still
 //! compared, and only the counts at the end say whether every answer was reached.
 
-#![forbid(unsafe_code)]
+#![deny(unsafe_code)] // but in `fence`
 
 pub mod carousels;
 pub mod counts;
 pub mod damage;
 pub mod difference;
+pub mod fence;
 pub mod pair;
 pub mod random;
 pub mod reading;

@@ -37,6 +37,8 @@ fn conclude(counts: &Counts, stretches: u64) -> ExitCode {
         println!("compare: fewer than {LEAST} times: {}", rare.join(", "));
         return ExitCode::FAILURE;
     }
+    let [ends, begins] = counts.fenced;
+    println!("compare: all that is lent ends at a page that may not be touched in {ends} stretches, and begins after one in {begins}");
     let sections = counts.sections;
     println!("compare: {stretches} stretches, {sections} sections, 0 differences");
     ExitCode::SUCCESS

@@ -5,31 +5,53 @@ use nebosvar::{Kind, Stop};
 
 use crate::counts::{Call, Counts};
 use crate::difference::{same, same_bytes, Same};
+use crate::fence::{Edge, Fenced};
 
-/// Bytes before and after each image. They are compared as the image is, so that a byte written outside shows.
+/// Bytes before and after each image that lies at no fence: a byte written outside shows in them.
 const GUARD: usize = 64;
 
-/// The bytes that a receiver is lent as its image, guarded.
+const GUARDS: [u8; GUARD] = [0xA5; GUARD];
+
+/// The bytes that a receiver is lent as its image.
 #[derive(Clone)]
-struct Image(Vec<u8>);
+enum Image {
+    Guarded(Vec<u8>),
+    Fenced(Fenced),
+}
 
 impl Image {
-    fn new(bytes: &[u8]) -> Image {
-        let guard = [0xA5; GUARD];
-        Image([&guard, bytes, &guard].concat())
-    }
-
-    fn room(&self) -> std::ops::Range<usize> {
-        GUARD..self.0.len() - GUARD
+    fn new(bytes: &[u8], edge: Option<Edge>) -> Image {
+        let Some(edge) = edge else {
+            return Image::Guarded([&GUARDS, bytes, &GUARDS].concat());
+        };
+        let mut fenced = Fenced::new(edge, bytes.len());
+        fenced.put(bytes);
+        Image::Fenced(fenced)
     }
 
     fn bytes(&self) -> &[u8] {
-        &self.0[self.room()]
+        match self {
+            Image::Guarded(all) => &all[GUARD..all.len() - GUARD],
+            Image::Fenced(fenced) => fenced.bytes(),
+        }
     }
 
     fn bytes_mut(&mut self) -> &mut [u8] {
-        let room = self.room();
-        &mut self.0[room]
+        match self {
+            Image::Guarded(all) => {
+                let end = all.len() - GUARD;
+                &mut all[GUARD..end]
+            }
+            Image::Fenced(fenced) => fenced.bytes_mut(),
+        }
+    }
+
+    /// The bytes before and after it are as they were. A fence needs no look.
+    fn is_guarded(&self) -> bool {
+        match self {
+            Image::Guarded(all) => all.starts_with(&GUARDS) && all.ends_with(&GUARDS),
+            Image::Fenced(_) => true,
+        }
     }
 }
 
@@ -51,27 +73,44 @@ pub struct Passage {
 pub struct Pair {
     ours: nebosvar::Record,
     our_image: Image,
+    /// Where our record is lent, if at a fence.
+    fence: Option<Fenced>,
     theirs: baseline::Record,
     their_image: Image,
 }
 
 impl Pair {
-    /// Both with this record and these bytes.
-    pub fn new(record: &baseline::Record, image: &[u8]) -> Pair {
+    /// Both with this record and these bytes; ours lie at a fence, if there is an edge.
+    pub fn new(record: &baseline::Record, image: &[u8], edge: Option<Edge>) -> Pair {
         Pair {
             ours: ours(record),
-            our_image: Image::new(image),
+            our_image: Image::new(image, edge),
+            fence: edge.map(|edge| Fenced::new(edge, size_of::<nebosvar::Record>())),
             theirs: *record,
-            their_image: Image::new(image),
+            their_image: Image::new(image, None),
         }
+    }
+
+    /// A call of ours, which is lent the record and the image.
+    fn lent<T>(&mut self, call: impl FnOnce(&mut nebosvar::Record, &mut [u8]) -> T) -> T {
+        let image = self.our_image.bytes_mut();
+        let Some(fence) = &mut self.fence else {
+            return call(&mut self.ours, image);
+        };
+        let record = fence.put_value(self.ours);
+        let answer = call(record, image);
+        self.ours = *record;
+        answer
     }
 
     /// Becomes a copy of another pair whose images have the same room.
     pub fn copy_from(&mut self, other: &Pair) {
         self.ours = other.ours;
         self.theirs = other.theirs;
-        self.our_image.0.copy_from_slice(&other.our_image.0);
-        self.their_image.0.copy_from_slice(&other.their_image.0);
+        let image = self.our_image.bytes_mut();
+        image.copy_from_slice(other.our_image.bytes());
+        let image = self.their_image.bytes_mut();
+        image.copy_from_slice(other.their_image.bytes());
     }
 
     /// The record, all of whose fields are the same on both sides.
@@ -81,8 +120,7 @@ impl Pair {
 
     /// Takes what stands at the head of the stretch.
     pub fn take(&mut self, stretch: &[u8], budget: usize, counts: &mut Counts) -> Same<Taken> {
-        let image = self.our_image.bytes_mut();
-        let ours = our_taken(self.ours.take(stretch, image, budget));
+        let ours = our_taken(self.lent(|record, image| record.take(stretch, image, budget)));
         let image = self.their_image.bytes_mut();
         let theirs = their_taken(self.theirs.take(stretch, image, budget));
         same("take", &ours, &theirs)?;
@@ -96,7 +134,7 @@ impl Pair {
 
     /// Takes one section of the carousel.
     pub fn step(&mut self, section: &[u8], counts: &mut Counts) -> Same<Fate> {
-        let answer = self.ours.step(section, self.our_image.bytes_mut());
+        let answer = self.lent(|record, image| record.step(section, image));
         let ours = answer.map_err(|refusal| refusal.number());
         let theirs = self.theirs.step(section, self.their_image.bytes_mut());
         same("step", &ours, &their_fate(theirs.into()))?;
@@ -107,7 +145,7 @@ impl Pair {
 
     /// Runs over a stretch.
     pub fn run(&mut self, stretch: &[u8], budget: usize, counts: &mut Counts) -> Same<Passage> {
-        let ours = self.ours.run(stretch, self.our_image.bytes_mut(), budget);
+        let ours = self.lent(|record, image| record.run(stretch, image, budget));
         let ours = Passage {
             taken: ours.taken,
             passed: ours.passed,
@@ -128,22 +166,21 @@ impl Pair {
     }
 
     /// The hand-out and the missing report of the module with this number.
-    pub fn module(&self, number: u16, counts: &mut Counts) -> Same {
+    pub fn module(&mut self, number: u16, counts: &mut Counts) -> Same {
         self.handout(number, counts)?;
         self.missing(number, counts)
     }
 
     /// The hand-out's number, its bytes, and where in the image they lie.
-    fn handout(&self, number: u16, counts: &mut Counts) -> Same {
-        let image = self.our_image.bytes();
-        let ours = match self.ours.handout(image, number) {
-            Ok(part) => Ok((offset(part, image), part)),
+    fn handout(&mut self, number: u16, counts: &mut Counts) -> Same {
+        let ours = self.lent(|record, image| match record.handout(image, number) {
+            Ok(part) => Ok((offset(part, image), part.to_vec())),
             Err(refusal) => Err(refusal.number()),
-        };
+        });
         let image = self.their_image.bytes();
         let part = self.theirs.handout(image, number);
         let theirs = match self.theirs.handout_number(image, number) {
-            0 => Ok((offset(part, image), part)),
+            0 => Ok((offset(part, image), part.to_vec())),
             number => Err(number),
         };
         same(&format!("hand-out of {number}"), &ours, &theirs)?;
@@ -156,8 +193,8 @@ impl Pair {
     }
 
     /// How many blocks are missing and the lowest of them, or none.
-    fn missing(&self, number: u16, counts: &mut Counts) -> Same {
-        let ours = match self.ours.missing(number) {
+    fn missing(&mut self, number: u16, counts: &mut Counts) -> Same {
+        let ours = match self.lent(|record, _| record.missing(number)) {
             Ok(missing) => Ok(missing.map(|missing| (missing.count, missing.lowest))),
             Err(refusal) => Err(refusal.number()),
         };
@@ -181,9 +218,11 @@ impl Pair {
         )?;
         same_bytes(
             &format!("image after {call}"),
-            &self.our_image.0,
-            &self.their_image.0,
-        )
+            self.our_image.bytes(),
+            self.their_image.bytes(),
+        )?;
+        let guarded = self.our_image.is_guarded() && self.their_image.is_guarded();
+        same(&format!("guards after {call}"), &guarded, &true)
     }
 
     /// Neither record has changed since.
@@ -194,9 +233,9 @@ impl Pair {
 
     /// Neither image has changed since.
     pub fn same_images(&self, before: &Pair) -> Same {
-        let (ours, before_ours) = (&self.our_image.0, &before.our_image.0);
+        let (ours, before_ours) = (self.our_image.bytes(), before.our_image.bytes());
         same_bytes("image unchanged, nebosvar's", ours, before_ours)?;
-        let (theirs, before_theirs) = (&self.their_image.0, &before.their_image.0);
+        let (theirs, before_theirs) = (self.their_image.bytes(), before.their_image.bytes());
         same_bytes("image unchanged, baseline's", theirs, before_theirs)
     }
 }

@@ -208,12 +208,7 @@ fn our_application(application: &tree::Application) -> Application {
     Application {
         organisation: application.organisation,
         number: application.number,
-        class: match application.number_class() {
-            NumberClass::Unsigned => Class::Unsigned,
-            NumberClass::Signed => Class::Signed,
-            NumberClass::Other => Class::Other,
-            NumberClass::Wildcard => Class::Wildcard,
-        },
+        class: our_class(application.number_class()),
         code: application.code,
         control: match application.code_class() {
             CodeClass::Autostart => Control::Autostart,
@@ -224,6 +219,15 @@ fn our_application(application: &tree::Application) -> Application {
             CodeClass::Reserved => Control::Reserved,
         },
         descriptors: application.descriptors.len(),
+    }
+}
+
+fn our_class(class: NumberClass) -> Class {
+    match class {
+        NumberClass::Unsigned => Class::Unsigned,
+        NumberClass::Signed => Class::Signed,
+        NumberClass::Other => Class::Other,
+        NumberClass::Wildcard => Class::Wildcard,
     }
 }
 
@@ -355,6 +359,7 @@ fn our_identifier(identifier: &tree::Identifier) -> Item {
     Item::Identifier {
         organisation: identifier.organisation,
         number: identifier.number,
+        class: our_class(tree::number_class(identifier.number)),
         priority: identifier.priority,
     }
 }

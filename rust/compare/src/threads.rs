@@ -6,6 +6,7 @@ use std::thread;
 
 use crate::counts::Counts;
 use crate::difference::{hex, Difference, Same};
+use crate::fence::Edge;
 use crate::random::Random;
 use crate::stretches::Case;
 use crate::walk;
@@ -50,7 +51,9 @@ fn share(seed: u64, stretches: impl Iterator<Item = u64>) -> Result<Counts, Told
 fn one(seed: u64, stretch: u64, counts: &mut Counts) -> Result<(), Told> {
     let mut random = Random::of(seed, stretch);
     let case = Case::any(&mut random);
-    compared(&case, &mut random, counts).map_err(|difference| {
+    let edge = Edge::of(stretch);
+    counts.lent(edge);
+    compared(&case, edge, &mut random, counts).map_err(|difference| {
         let told = format!(
             "compare: a difference; seed {seed}, stretch {stretch}, {difference}\n\
              image of {}, budget {}\nrecord: {:?}\nstretch: {}",
@@ -64,8 +67,10 @@ fn one(seed: u64, stretch: u64, counts: &mut Counts) -> Result<(), Told> {
 }
 
 /// A receiver that panics has given no answer: that is a difference too.
-fn compared(case: &Case, random: &mut Random, counts: &mut Counts) -> Same {
-    let caught = catch_unwind(AssertUnwindSafe(|| walk::compare(case, random, counts)));
+fn compared(case: &Case, edge: Option<Edge>, random: &mut Random, counts: &mut Counts) -> Same {
+    let caught = catch_unwind(AssertUnwindSafe(|| {
+        walk::compare(case, edge, random, counts)
+    }));
     caught.unwrap_or_else(|_| {
         Err(Difference {
             place: 0,

@@ -6,6 +6,7 @@ use nebosvar::{Kind, Stop};
 
 use crate::counts::Counts;
 use crate::difference::{same, Same};
+use crate::fence::{Edge, Lender};
 use crate::pair::{Pair, Passage};
 use crate::random::Random;
 use crate::reading;
@@ -13,8 +14,9 @@ use crate::stretches::{sections, Case};
 use make::APPLICATIONS;
 
 /// Compares both receivers over a case. `random` says how sections are cut and where runs are split.
-pub fn compare(case: &Case, random: &mut Random, counts: &mut Counts) -> Same {
-    let start = Pair::new(&case.record, &case.image);
+/// Where there is an edge, all that our receiver is lent lies at a fence.
+pub fn compare(case: &Case, edge: Option<Edge>, random: &mut Random, counts: &mut Counts) -> Same {
+    let start = Pair::new(&case.record, &case.image, edge);
     let mut walk = Walk {
         case,
         random,
@@ -22,6 +24,8 @@ pub fn compare(case: &Case, random: &mut Random, counts: &mut Counts) -> Same {
         pair: start.clone(),
         before: start.clone(),
         scratch: start.clone(),
+        // A section may be lent twice over, or with a byte more.
+        lender: Lender::new(edge, 2 * case.stretch.len() + 1),
     };
     let walked = walk.walk()?;
     walk.run(&start, walked)?;
@@ -37,6 +41,8 @@ struct Walk<'a> {
     before: Pair,
     /// A copy of that, for calls that are only tried.
     scratch: Pair,
+    /// Of sections and stretches.
+    lender: Lender,
 }
 
 impl Walk<'_> {
@@ -80,9 +86,8 @@ impl Walk<'_> {
         self.step(section)?;
         self.step(&other)?;
         self.read(section, &other)?;
-        let taken = self
-            .pair
-            .take(&stretch[place.start..], budget, self.counts)?;
+        let rest = self.lender.lend(&stretch[place.start..]);
+        let taken = self.pair.take(rest, budget, self.counts)?;
         self.counts.sections += u64::from(taken.is_ok());
         let kind = taken.ok().and_then(|(_, fate)| fate.ok());
         unchanged(&self.pair, &self.before, kind)?;
@@ -113,6 +118,7 @@ impl Walk<'_> {
 
     /// A step, only tried.
     fn step(&mut self, section: &[u8]) -> Same {
+        let section = self.lender.lend(section);
         let kind = self.scratch.step(section, self.counts)?.ok();
         unchanged(&self.scratch, &self.before, kind)?;
         if may_change(kind) {
@@ -124,8 +130,8 @@ impl Walk<'_> {
     /// Every table is read, and now and then what is none.
     fn read(&mut self, section: &[u8], other: &[u8]) -> Same {
         if section.first() == Some(&APPLICATIONS) || self.random.one_in(20) {
-            reading::compare(section, self.counts)?;
-            reading::compare(other, self.counts)?;
+            reading::compare(self.lender.lend(section), self.counts)?;
+            reading::compare(self.lender.lend(other), self.counts)?;
         }
         Ok(())
     }
@@ -149,6 +155,7 @@ impl Walk<'_> {
     fn run(&mut self, start: &Pair, walked: Passage) -> Same {
         self.scratch.copy_from(start);
         let (stretch, budget) = (&self.case.stretch, self.case.budget);
+        let stretch = self.lender.lend(stretch);
         let ran = self.scratch.run(stretch, budget, self.counts)?;
         same("run beside the walk", &ran, &walked)?;
         self.scratch.same_records(&self.pair)?;
@@ -160,8 +167,9 @@ impl Walk<'_> {
         self.scratch.copy_from(start);
         let (stretch, budget) = (&self.case.stretch, self.case.budget);
         let first = self.random.within(0..=walked.taken);
-        let some = self.scratch.run(stretch, first, self.counts)?;
-        let rest = &stretch[some.passed..];
+        let lent = self.lender.lend(stretch);
+        let some = self.scratch.run(lent, first, self.counts)?;
+        let rest = self.lender.lend(&stretch[some.passed..]);
         let rest = self.scratch.run(rest, budget - first, self.counts)?;
         let both = Passage {
             taken: some.taken + rest.taken,

@@ -91,6 +91,7 @@ pub struct ItemFound {
     pub extensions: usize,
     pub organisation: u32,
     pub number: u16,
+    pub class_number: u8,
     pub kind: u8,
     pub label: u8,
     pub major: u8,
@@ -198,6 +199,6 @@ const _: () = {
     assert!(size_of::<TableHead>() == 24);
     assert!(size_of::<ApplicationHead>() == 24);
     assert!(size_of::<DescriptorHead>() == 48);
-    assert!(size_of::<ItemFound>() == 40);
+    assert!(size_of::<ItemFound>() == 48);
     assert!(size_of::<LabelFound>() == 24);
 };

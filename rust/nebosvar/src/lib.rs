@@ -11,8 +11,8 @@
 //! * No call allocates, blocks, keeps a reference, or uses anything but what it is lent.
 //!
 //! The proofs leave it to the caller that a length is its pointer's, and that record, section and image
-//! do not overlap. Rust's types see to that: a slice has its length, and what is lent to be changed is
-//! lent to no one else. This crate itself is not proved, but it only passes arguments and answers on.
+//! do not overlap or change while the call runs. Rust's types see to that: a slice has its length, what is
+//! lent to be changed is lent to no one else, and what is lent to be read nobody changes. This crate itself is not proved, but it only passes arguments and answers on.
 //!
 //! ```
 //! use nebosvar::{Kind, Record, Refusal};

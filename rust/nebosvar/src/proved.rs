@@ -21,16 +21,20 @@ pub fn range(at: usize, length: usize) -> Range<usize> {
 #[cfg(test)]
 mod tests {
     use super::range;
-    use crate::{Kind, Refusal, Stop};
+    use crate::{Class, Control, Kind, Refusal, Stop};
 
     #[test]
     fn what_the_header_does_not_have_is_excluded() {
-        let calls: [fn(); 6] = [
+        let calls: [fn(); 10] = [
             || assert!(Refusal::check(21).is_ok()),
             || assert!(Kind::check(0, 0).is_ok()),
             || assert!(Kind::check(0, 6).is_ok()),
             || assert_eq!(Stop::of(0), Stop::End),
             || assert_eq!(Stop::of(6), Stop::End),
+            || assert_eq!(Class::of(0), Class::Unsigned),
+            || assert_eq!(Class::of(5), Class::Unsigned),
+            || assert_eq!(Control::of(0), Control::Reserved),
+            || assert_eq!(Control::of(5), Control::Reserved), // a reserved code, told as 255
             || assert!(range(1, usize::MAX).is_empty()),
         ];
         for call in calls {

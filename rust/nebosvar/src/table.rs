@@ -37,6 +37,18 @@ pub enum Class {
     Wildcard,
 }
 
+impl Class {
+    pub(crate) fn of(number: u8) -> Class {
+        match number {
+            1 => Class::Unsigned,
+            2 => Class::Signed,
+            3 => Class::Other,
+            4 => Class::Wildcard,
+            _ => excluded(),
+        }
+    }
+}
+
 /// The class of a control code.
 #[derive(Clone, Copy, PartialEq, Eq, Debug)]
 pub enum Control {
@@ -52,6 +64,21 @@ pub enum Control {
     Remote,
     /// Any other; it is no refusal.
     Reserved,
+}
+
+impl Control {
+    /// Each class bears its code; 255, a reserved code, stands for all that are reserved.
+    pub(crate) fn of(number: u8) -> Control {
+        match number {
+            1 => Control::Autostart,
+            2 => Control::Present,
+            3 => Control::Destroy,
+            4 => Control::Kill,
+            6 => Control::Remote,
+            255 => Control::Reserved,
+            _ => excluded(),
+        }
+    }
 }
 
 /// An application.
@@ -158,19 +185,20 @@ pub enum Descriptor {
     },
 }
 
-/// Which of the things that repeat within a descriptor is asked for.
+/// Which of the things that repeat within a descriptor is asked for. The numbers are the archive's: a descriptor's
+/// own, and 10 for the labels, which a 0x00 has beside its profiles.
 #[derive(Clone, Copy, PartialEq, Eq, Debug)]
 pub enum ItemKind {
     /// A profile of a 0x00.
     Profile = 1,
-    /// A transport label of a 0x00.
-    Label = 2,
     /// A name of a 0x01.
-    Name = 3,
+    Name = 2,
     /// A base of a 0x02 of protocol 3.
-    Base = 4,
+    Base = 5,
     /// An identifier of a 0x05.
-    Identifier = 5,
+    Identifier = 7,
+    /// A transport label of a 0x00.
+    Label = 10,
 }
 
 /// Something that repeats within a descriptor. A range is one of the section's bytes.
@@ -209,6 +237,8 @@ pub enum Item {
         organisation: u32,
         /// The application number.
         number: u16,
+        /// The number's class.
+        class: Class,
         /// The priority.
         priority: u8,
     },
@@ -286,23 +316,9 @@ pub fn application(section: &[u8], i: usize) -> Result<Application, Refusal> {
     Ok(Application {
         organisation: head.organisation,
         number: head.number,
-        class: match head.class_number {
-            1 => Class::Unsigned,
-            2 => Class::Signed,
-            3 => Class::Other,
-            4 => Class::Wildcard,
-            _ => excluded(),
-        },
+        class: Class::of(head.class_number),
         code: head.code,
-        control: match head.control {
-            1 => Control::Autostart,
-            2 => Control::Present,
-            3 => Control::Destroy,
-            4 => Control::Kill,
-            5 => Control::Remote,
-            6 => Control::Reserved,
-            _ => excluded(),
-        },
+        control: Control::of(head.control),
         descriptors: head.descriptors,
     })
 }
@@ -374,20 +390,21 @@ pub fn item(
             minor: found.minor,
             micro: found.micro,
         },
-        2 => Item::Label(found.label),
-        3 => Item::Name {
+        2 => Item::Name {
             language: found.language,
             text: part,
         },
-        4 => Item::Base {
+        5 => Item::Base {
             text: part,
             extensions: found.extensions,
         },
-        5 => Item::Identifier {
+        7 => Item::Identifier {
             organisation: found.organisation,
             number: found.number,
+            class: Class::of(found.class_number),
             priority: found.priority,
         },
+        10 => Item::Label(found.label),
         _ => excluded(),
     })
 }
@@ -408,7 +425,7 @@ pub fn extension(
 }
 
 /// Which 0x02 descriptor label `k` of application `i` names: the first among its own, else the first
-/// among the common ones. 19 where there is no such application or label.
+/// among the common ones. `k` is the label's place in the application's 0x00, not its value. 19 where there is no such application or label.
 pub fn label(section: &[u8], i: usize, k: usize) -> Result<Label, Refusal> {
     // SAFETY: the slice lends as many bytes as its length says; no precondition.
     let found = unsafe { ffi::nebosvar_label(section.as_ptr(), section.len(), i, k) };

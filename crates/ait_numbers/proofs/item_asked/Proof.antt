@@ -48,7 +48,7 @@ unfolding itemAsked
 returns-6 c =
     let k = c .before .before .before .args .kind in
     let other = c .before .match .rest in
-    rw (ne-eqb k 1 (other .0 .0 .0 .0 .1), ne-eqb k 2 (other .0 .0 .0 .1), ne-eqb k 3 (other .0 .0 .1), ne-eqb k 4 (other .0 .1), ne-eqb k 5 (other .1)) (c .no-place .ensures)
+    rw (ne-eqb k 1 (other .0 .0 .0 .0 .1), ne-eqb k 2 (other .0 .0 .0 .1), ne-eqb k 5 (other .0 .0 .1), ne-eqb k 7 (other .0 .1), ne-eqb k 10 (other .1)) (c .no-place .ensures)
 
 pub item-asked-spec : {M : Type 1} → statement M
 item-asked-spec =

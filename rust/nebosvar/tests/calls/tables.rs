@@ -231,6 +231,7 @@ fn the_other_descriptors() {
         Ok(Item::Identifier {
             organisation: 1,
             number: 0x4000,
+            class: Class::Signed,
             priority: 3
         })
     );
@@ -239,6 +240,7 @@ fn the_other_descriptors() {
         Ok(Item::Identifier {
             organisation: 0xFFFE_FDFC,
             number: 0xFBFA,
+            class: Class::Other,
             priority: 0xF9
         })
     );

@@ -1,0 +1,229 @@
+//! Memory between two fences: bytes that may not be touched. Whoever reads or writes one byte past what is lent
+//! at a fence is ended by the machine, at once.
+
+#![allow(unsafe_code)] // Only the machine's own calls can make a fence.
+
+use std::ffi::{c_int, c_void};
+use std::mem::{align_of, size_of};
+use std::ptr::{null_mut, NonNull};
+use std::slice;
+
+/// On which side what is lent meets a fence.
+#[derive(Clone, Copy, PartialEq, Eq, Debug)]
+pub enum Edge {
+    /// It ends where a fence begins.
+    Ends,
+    /// It begins where a fence ends.
+    Begins,
+}
+
+impl Edge {
+    /// Of every fifty stretches one is lent at each edge.
+    pub fn of(stretch: u64) -> Option<Edge> {
+        match stretch % 50 {
+            0 => Some(Edge::Ends),
+            25 => Some(Edge::Begins),
+            _ => None,
+        }
+    }
+}
+
+/// Bytes that lie at one of two fences.
+pub struct Fenced {
+    /// The first fence begins here; the room follows it, and then the second.
+    base: NonNull<u8>,
+    room: usize,
+    edge: Edge,
+    length: usize,
+}
+
+/// A fence's size: a page, of whatever size a page is.
+const FENCE: usize = 65_536;
+
+// Of the machine's C library, on Linux.
+const NO_ACCESS: c_int = 0;
+const READ_AND_WRITE: c_int = 1 | 2;
+const PRIVATE_AND_ANONYMOUS: c_int = 0x02 | 0x20;
+
+extern "C" {
+    fn mmap(
+        at: *mut c_void,
+        length: usize,
+        access: c_int,
+        flags: c_int,
+        file: c_int,
+        offset: i64,
+    ) -> *mut c_void;
+    fn mprotect(at: *mut c_void, length: usize, access: c_int) -> c_int;
+    fn munmap(at: *mut c_void, length: usize) -> c_int;
+}
+
+impl Fenced {
+    /// No bytes yet; there is room for so many.
+    pub fn new(edge: Edge, most: usize) -> Fenced {
+        let room = most.next_multiple_of(FENCE).max(FENCE);
+        let (none, flags) = (null_mut(), PRIVATE_AND_ANONYMOUS);
+        // SAFETY: a new mapping at a place that the machine chooses.
+        let at = unsafe { mmap(none, room + 2 * FENCE, NO_ACCESS, flags, -1, 0) };
+        assert_ne!(at as isize, -1, "no memory for a fence");
+        let base = NonNull::new(at.cast::<u8>()).expect("a mapping is not at 0");
+        // SAFETY: the room is a part of that mapping, and no one has it yet.
+        let answer = unsafe { mprotect(at.add(FENCE), room, READ_AND_WRITE) };
+        assert_eq!(answer, 0, "no room between the fences");
+        Fenced {
+            base,
+            room,
+            edge,
+            length: 0,
+        }
+    }
+
+    /// Where so many bytes lie, at the edge.
+    fn place(&self, length: usize) -> *mut u8 {
+        assert!(length <= self.room, "{length} bytes");
+        let before = match self.edge {
+            Edge::Ends => FENCE + self.room - length,
+            Edge::Begins => FENCE,
+        };
+        // SAFETY: the first fence and the room are parts of one mapping.
+        unsafe { self.base.as_ptr().add(before) }
+    }
+
+    /// A copy of these bytes, instead of those before.
+    pub fn put(&mut self, bytes: &[u8]) -> &mut [u8] {
+        self.length = bytes.len();
+        self.bytes_mut().copy_from_slice(bytes);
+        self.bytes_mut()
+    }
+
+    /// A copy of this value, and no bytes any more.
+    pub fn put_value<T: Copy>(&mut self, value: T) -> &mut T {
+        assert_eq!(FENCE % align_of::<T>(), 0);
+        self.length = 0;
+        let at = self.place(size_of::<T>()).cast::<T>();
+        // SAFETY: in the room, and aligned: its ends are, and T's size is a multiple of its alignment.
+        unsafe {
+            at.write(value);
+            &mut *at
+        }
+    }
+
+    pub fn bytes(&self) -> &[u8] {
+        // SAFETY: so many bytes of the room, which all have a value: at first 0.
+        unsafe { slice::from_raw_parts(self.place(self.length), self.length) }
+    }
+
+    pub fn bytes_mut(&mut self) -> &mut [u8] {
+        // SAFETY: as above; and they are borrowed from no one else.
+        unsafe { slice::from_raw_parts_mut(self.place(self.length), self.length) }
+    }
+}
+
+impl Clone for Fenced {
+    fn clone(&self) -> Fenced {
+        let mut other = Fenced::new(self.edge, self.room);
+        other.put(self.bytes());
+        other
+    }
+}
+
+impl Drop for Fenced {
+    fn drop(&mut self) {
+        // SAFETY: the whole mapping, of which nothing is borrowed any more.
+        unsafe { munmap(self.base.as_ptr().cast(), self.room + 2 * FENCE) };
+    }
+}
+
+/// Lends bytes, at a fence if there is one.
+pub struct Lender(Option<Fenced>);
+
+impl Lender {
+    /// A lender of slices of at most so many bytes.
+    pub fn new(edge: Option<Edge>, most: usize) -> Lender {
+        Lender(edge.map(|edge| Fenced::new(edge, most)))
+    }
+
+    pub fn lend<'a>(&'a mut self, bytes: &'a [u8]) -> &'a [u8] {
+        match &mut self.0 {
+            None => bytes,
+            Some(fenced) => fenced.put(bytes),
+        }
+    }
+}
+
+#[cfg(test)]
+mod tests {
+    use super::*;
+    use std::os::unix::process::ExitStatusExt;
+    use std::process::Command;
+
+    /// A fault of memory, by its signal.
+    const FAULT: i32 = 11;
+    /// A table that lacks its last byte.
+    const SHORT: [u8; 15] = [0x74, 0xB0, 13, 0, 1, 0xC1, 0, 0, 0xF0, 0, 0xF0, 0, 0, 0, 0];
+
+    #[test]
+    #[ignore = "it ends its process: the test below has it done by another"]
+    fn goes_outside() {
+        let (mut after, mut before) = (Fenced::new(Edge::Ends, 9), Fenced::new(Edge::Begins, 9));
+        let at = after.put(b"buoy").as_mut_ptr_range();
+        let first = before.put(b"buoy").as_mut_ptr();
+        let table = after_table();
+        // SAFETY: none, but for the first and the last: these are the faults that a fence is to find.
+        unsafe {
+            match std::env::var("GOES").as_deref() {
+                Ok("inside") => assert_eq!((at.end.sub(1).read(), first.read()), (b'y', b'b')),
+                Ok("reads after") => assert_ne!(at.end.read_volatile(), 1),
+                Ok("writes after") => at.end.write_volatile(1),
+                Ok("reads before") => assert_ne!(first.sub(1).read_volatile(), 1),
+                Ok("writes before") => first.sub(1).write_volatile(1),
+                // The archive, told of a byte that is not there.
+                Ok("table") => {
+                    let told = slice::from_raw_parts(table.bytes().as_ptr(), SHORT.len() + 1);
+                    assert!(nebosvar::table(told).is_err());
+                }
+                _ => assert!(nebosvar::table(table.bytes()).is_err()),
+            }
+        }
+    }
+
+    fn after_table() -> Fenced {
+        let mut table = Fenced::new(Edge::Ends, SHORT.len());
+        table.put(&SHORT);
+        table
+    }
+
+    #[test]
+    fn a_byte_outside_ends_the_process() {
+        for (how, signal) in [
+            ("inside", None),
+            ("reads after", Some(FAULT)),
+            ("writes after", Some(FAULT)),
+            ("reads before", Some(FAULT)),
+            ("writes before", Some(FAULT)),
+            ("table", Some(FAULT)),
+            ("whole table", None),
+        ] {
+            let mut other = Command::new(std::env::current_exe().unwrap());
+            other.args(["--exact", "fence::tests::goes_outside", "--ignored"]);
+            let done = other.env("GOES", how).output().unwrap();
+            assert_eq!(done.status.signal(), signal, "{how}");
+            assert_eq!(done.status.success(), signal.is_none(), "{how}");
+        }
+    }
+
+    #[test]
+    fn values_and_bytes_lie_at_their_edge() {
+        for (edge, ends) in [(Edge::Ends, true), (Edge::Begins, false)] {
+            let mut fenced = Fenced::new(edge, 70_000);
+            let place = |at: usize, length: usize| if ends { at + length } else { at };
+            let bytes = fenced.put(&[7; 70_000]);
+            let first = place(bytes.as_ptr() as usize, bytes.len());
+            assert_eq!(fenced.clone().bytes(), [7; 70_000]);
+            let value = fenced.put_value(0x0102_0304_u32);
+            assert_eq!(place(value as *const u32 as usize, 4), first);
+            assert_eq!(*value, 0x0102_0304);
+            assert_eq!(place(fenced.put(&[]).as_ptr() as usize, 0), first);
+        }
+    }
+}

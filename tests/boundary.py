@@ -1,0 +1,296 @@
+"""The C boundary as it is declared three times: in the Rattle source, in include/nebosvar.h and in rust/nebosvar/src. Each is read into one form,
+
+    structs     name -> [(field, type, count)]
+    calls       name -> ([(parameter, type)], answer)
+    constants   lists of (name, number), one for each enum
+
+with C's names and Rust's types; `faults` tells where the header differs from the source, and `swaps` makes wrong headers to try that on."""
+import itertools
+import re
+
+from second import ROOT
+
+CRATES = ROOT / "crates"
+RUST = ROOT / "rust" / "nebosvar" / "src"
+HEADER = ROOT / "include" / "nebosvar.h"
+SOURCES = [CRATES / c / "src" / "lib.rt" for c in ("nebosvar", "ait_numbers", "carousel_record")]
+LIMITS = [CRATES / c / "src" / f for c, f in (("carousel_messages", "limits.rt"), ("carousel_record", "marks.rt"))]
+
+# ---- names that differ, and why
+
+# In C a call and a type can not both be `nebosvar_table`.
+STRUCTS = {
+    "Module": "module",
+    "Carousel": "record",
+    "FateOut": "fate",
+    "TakenOut": "taken",
+    "PassageOut": "passage",
+    "PartOut": "part",
+    "LackOut": "lack",
+    "TableOut": "table_head",
+    "ApplicationOut": "application_head",
+    "DescriptorOut": "descriptor_head",
+    "ItemOut": "item_found",
+    "LabelOut": "label_found",
+}
+PARAMETERS = {"c": "record"}  # `record` is a word of the contracts' language
+LENGTHS = {"image": "room"}  # a slice is a pointer and a length; that of the image has a name of its own
+ARRAYS = {"language": ["first", "second", "third"]}  # three fields are an array
+VARIANTS = {"KIND_REFUSED": "KIND_NONE"}  # the section's kind where it was refused
+WORDS = {"×": "*", "not as above": "not as in the paper"}  # of the paper's table, in a header
+C_TYPES = {"uint8_t": "u8", "uint16_t": "u16", "uint32_t": "u32", "size_t": "usize"}
+
+
+def blank(text):
+    """Comments as spaces: every place stays what it is."""
+    return re.sub(r"/\*.*?\*/|//[^\n]*", lambda m: re.sub(r"[^\n]", " ", m[0]), text, flags=re.S)
+
+
+def c_type(t):
+    """A type of the source, as it crosses: a struct by its C name."""
+    return "nebosvar_" + STRUCTS[t] if t in STRUCTS else t
+
+
+# ---- the Rattle source
+
+
+def body(path, function):
+    return re.search(r"fn %s\(.*?\n\{\n(.*?)\n\}\n" % function, blank(path.read_text()), re.S)[1]
+
+
+def limits():
+    """The constants that the source gives a number to, in the order in which it does."""
+    numbers = {}
+    for path in LIMITS:
+        for name, value in re.findall(r"^pub const (\w+): \w+ = ([^;]+);", path.read_text(), re.M):
+            numbers[name] = eval(re.sub(r"\w+::", "", value).replace("/", "//"), {}, numbers)
+    return numbers
+
+
+def field(name, type_):
+    array = re.fullmatch(r"\[(\w+); ([\w:]+)\]", type_)
+    if not array:
+        return name, c_type(type_), 1
+    count = array[2].split("::")[-1]
+    return name, c_type(array[1]), limits().get(count) or int(count)
+
+
+def source_structs(text):
+    for name, inside in re.findall(r"#\[repr\(C\)\]\s*pub struct (\w+) \{(.*?)\}", text, re.S):
+        yield c_type(name), [field(*f) for f in re.findall(r"pub (\w+): ([^,\n]+),", inside)]
+
+
+def crossed(name, type_):
+    """A parameter as C has it."""
+    behind = re.fullmatch(r"&(mut )?(\[u8\]|[A-Z]\w*)", type_)
+    if not behind:
+        return [(name, type_)]
+    pointer = "*mut " if behind[1] else "*const "
+    if behind[2] != "[u8]":
+        return [(PARAMETERS[name], pointer + c_type(behind[2]))]
+    return [(name, pointer + "u8"), (LENGTHS.get(name, "length"), "usize")]
+
+
+def source_calls(text):
+    for name, parameters, answer in re.findall(r"#\[no_mangle\]\s*pub extern \"C\" fn (\w+)\((.*?)\) -> (\w+)", text, re.S):
+        yield name, ([c for p in re.findall(r"(\w+): ([^,]+)", parameters) for c in crossed(p[0], p[1].strip())], c_type(answer))
+
+
+def variants(prefix, told):
+    return [(VARIANTS.get(n, n), int(k)) for n, k in (("%s_%s" % (prefix, v.upper()), k) for v, k in told)]
+
+
+def matched(path, function):
+    """A function that is a match with a number for each case."""
+    return re.findall(r"\w+::(\w+)[^=]*=> (\d+),", body(path, function))
+
+
+def descriptor_kinds(path):
+    for variant, builder, kind in re.findall(r"Described::(\w+)[^=]*=> (\w+)\((\d*)", body(path, "described_out")):
+        yield variant, kind or re.search(r"\bkind: (\d+)", body(path, builder))[1]
+
+
+def item_kinds(path):
+    """By what is asked for, which must be what is told."""
+    asked = [(v, k) for k, v in re.findall(r"(\d+) => [^;]*?Repeated::(\w+)s,", body(path, "item_asked"))]
+    told = {(v, re.search(r"\bkind: (\d+)", body(path, f))[1]) for v, f in re.findall(r"Item::(\w+)\(\w+\) => (\w+)\(", body(path, "found_out"))}
+    assert set(asked) == told, (asked, told)
+    return asked
+
+
+def refusals():
+    """Numbers and words by docs/NUMBERS.md, which tests/numbers.py holds to the definitions; names by the Rust crate."""
+    words = dict(re.findall(r"^\| (\d+) \| ([^|]+) \|", (ROOT / "docs" / "NUMBERS.md").read_text(), re.M))
+    for there, here in WORDS.items():
+        words = {n: w.replace(there, here) for n, w in words.items()}
+    names = re.findall(r"pub const (\w+): Refusal = Refusal\((\d+)\);", (RUST / "refusal.rs").read_text())
+    assert [n for _, n in names] == list(words), (names, list(words))
+    return [("ACCEPTED", 0)] + [(name, int(n)) for name, n in names], {name: words[n] for name, n in names}
+
+
+def source_constants():
+    box, numbers, _ = SOURCES
+    receiver = CRATES / "receiver" / "src" / "lib.rt"
+    taken = re.search(r"What::Taken.*\bstop: (\d+)", body(box, "what_out"), re.S)[1]
+    found = re.findall(r"Resolved::(\w+)[^=]*=> LabelOut \{[^}]*found: (\d+)", body(numbers, "label"))
+    assert found[0] == ("Refused", "0")
+    common = re.search(r"const COMMON: usize = (\w+);", numbers.read_text())[1]
+    return [
+        refusals()[0],
+        variants("KIND", matched(receiver, "kind_number")),
+        [("TAKEN", int(taken))] + variants("STOP", matched(receiver, "stop_number")),
+        list(limits().items()),
+        variants("CLASS", matched(numbers, "class_number")),
+        variants("CONTROL", matched(numbers, "control_number")),
+        variants("DESCRIPTOR", descriptor_kinds(numbers)),
+        variants("ITEM", item_kinds(numbers)),
+        variants("FOUND", found[1:]),
+        [("COMMON", int(common, 16))],
+    ]
+
+
+def source():
+    text = "".join(blank(p.read_text()) for p in SOURCES)
+    return {"structs": dict(source_structs(text)), "calls": dict(source_calls(text)), "constants": source_constants(), "words": refusals()[1], "unread": {}}
+
+
+# ---- the header
+
+STRUCT = re.compile(r"typedef struct \{(?P<inside>.*?)\} (\w+);", re.S)
+FIELD = re.compile(r"(?P<type>\w+) (?P<name>\w+)(?:\[(?P<count>\w+)\])?;")
+CALL = re.compile(r"^(\w+) (nebosvar_\w+)\((?P<inside>.*?)\);", re.M | re.S)
+PARAMETER = re.compile(r"(?P<type>(?:const )?\w+ \*?)(?P<name>\w+)(?=,|$)")
+ENUM = re.compile(r"enum \{(?P<inside>.*?)\}", re.S)
+CONSTANT = re.compile(r"NEBOSVAR_(?P<name>\w+) = (?P<value>\d+)")
+
+
+def header_field(m, numbers):
+    type_ = C_TYPES.get(m["type"], m["type"])
+    if m["name"] in ARRAYS:
+        assert int(m["count"]) == len(ARRAYS[m["name"]]), m[0]
+        return [(n, type_, 1) for n in ARRAYS[m["name"]]]
+    count = m["count"] or "1"
+    return [(m["name"], type_, int(numbers.get(count.removeprefix("NEBOSVAR_"), count)))]
+
+
+def header_parameter(m):
+    const, type_, star = re.fullmatch(r"(const )?(\w+) (\*)?", m["type"]).groups()
+    return m["name"], ("*const " if const else "*mut ") * bool(star) + C_TYPES.get(type_, type_)
+
+
+def unread(text):
+    """What none of the forms above reads; a header should have nothing of that."""
+    rest = text
+    for whole, part in ((STRUCT, FIELD), (CALL, PARAMETER), (ENUM, CONSTANT)):
+        yield from (part.sub("", w["inside"]) for w in whole.finditer(text) if w["inside"] != "void")
+        rest = whole.sub("", rest)
+    yield re.sub(r"^#.*$|extern \"C\" \{|^\}$", "", rest, flags=re.M)
+
+
+def header(raw):
+    text = blank(raw)
+    left = [u for u in unread(text) if u.strip(" \n,;")]
+    constants = [[(m["name"], int(m["value"])) for m in CONSTANT.finditer(e["inside"])] for e in ENUM.finditer(text)]
+    numbers = dict(c for e in constants for c in e)
+    constants += [[(name, 2**64 - 1 if value == "SIZE_MAX" else value)] for name, value in re.findall(r"^#define (?:NEBOSVAR_)?(\w+) (.+)$", text, re.M)]
+    structs = {s[2]: [f for m in FIELD.finditer(s["inside"]) for f in header_field(m, numbers)] for s in STRUCT.finditer(text)}
+    calls = {c[2]: ([header_parameter(m) for m in PARAMETER.finditer(c["inside"])], c[1]) for c in CALL.finditer(text)}
+    refused = re.search(r"NEBOSVAR_ACCEPTED.*?\}", raw, re.S)[0]
+    words = dict(re.findall(r"NEBOSVAR_(\w+) = \d+,? +/\* (.*) \*/", refused))
+    return {"structs": structs, "calls": calls, "constants": constants, "words": words, "unread": {u: u for u in left}}
+
+
+def faults(wanted, raw):
+    """Where these declarations are not the wanted ones; both ways, and in order."""
+    declared = header(raw)
+    for what in wanted:
+        a, b = ({e[0][0]: e for e in x[what]} if what == "constants" else x[what] for x in (wanted, declared))
+        for name in a.keys() | b.keys():
+            if a.get(name) != b.get(name):
+                yield "%s %s: %s in the source, %s in the header" % (what, name, a.get(name), b.get(name))
+
+
+# ---- wrong headers
+
+
+def exchanged(text, a, b):
+    """With what stands at two places exchanged."""
+    (i, j), (k, l) = sorted((a, b))
+    return text[:i] + text[k:l] + text[j:k] + text[i:j] + text[l:]
+
+
+def swaps(raw):
+    """Two names of fields or parameters of one type, two values or two names of an enum, exchanged."""
+    text = blank(raw)
+    for whole, part, alike, exchange in (
+        (STRUCT, FIELD, ("type", "count"), ["name"]),
+        (CALL, PARAMETER, ("type",), ["name"]),
+        (ENUM, CONSTANT, (), ["value", "name"]),
+    ):
+        for w in whole.finditer(text):
+            parts = part.finditer(text, w.start("inside"), w.end("inside"))
+            for a, b in itertools.combinations(parts, 2):
+                if all(a[g] == b[g] for g in alike):
+                    for g in exchange:
+                        yield "%s and %s exchanged" % (a[0], b[0]), exchanged(raw, a.span(g), b.span(g))
+
+
+def others(raw):
+    """Other wrong headers: (what is wrong, text)."""
+    for old, new in (
+        ("const uint8_t *image", "uint8_t *image"),
+        ("uint16_t application_type;", "uint32_t application_type;"),
+        ("    uint8_t tag;\n", ""),
+        ("    uint8_t tag;\n", "    uint8_t tag;\n    uint8_t extra;\n"),
+        ("    NEBOSVAR_CLASS_OTHER = 3,\n", ""),
+        ("    NEBOSVAR_CLASS_OTHER = 3,\n", "    NEBOSVAR_CLASS_OTHER = 3,\n    NEBOSVAR_CLASS_MORE = 5,\n"),
+        ("nebosvar_module modules[NEBOSVAR_MOST_MODULES]", "nebosvar_module modules[NEBOSVAR_MODULE_WORDS]"),
+        ("uint8_t language[3];", "uint8_t language[3], spare;"),
+        ("    uint8_t bound;\n", "    uint8_t bound : 1;\n"),
+        ("uint8_t *image, size_t room, size_t budget);\n\n/* Where", "uint8_t *image, size_t room, size_t budget, ...);\n\n/* Where"),
+        ("NEBOSVAR_COMMON SIZE_MAX", "NEBOSVAR_COMMON 0xFFFFFFFF"),
+        ("NEBOSVAR_COMMON SIZE_MAX\n", "NEBOSVAR_COMMON SIZE_MAX\n#define NEBOSVAR_FAR 7\n"),
+        ("/* Which 0x02", "extern int nebosvar_more;\n/* Which 0x02"),
+        ("nebosvar_part nebosvar_extension", "nebosvar_lack nebosvar_extension"),
+        ("/* no such place */", "/* module not complete */"),
+    ):
+        assert raw.count(old) == 1, old
+        yield "%r for %r" % (new, old), raw.replace(old, new)
+
+
+# ---- the Rust crate
+
+
+def snake(name):
+    return "nebosvar_" + re.sub(r"(?<!^)(?=[A-Z])", "_", name).lower()
+
+
+def rust_type(t):
+    pointer, name = re.fullmatch(r"(\*\w+ )?(\w+)", t).groups()
+    return (pointer or "") + (snake(name) if name[0].isupper() else name)
+
+
+def rust():
+    """The structs and calls of the Rust crate's declarations."""
+    text = "".join(blank((RUST / f).read_text()) for f in ("ffi.rs", "record.rs"))
+    structs = {}
+    for name, inside in re.findall(r"#\[repr\(C\)\][^{]*pub struct (\w+) \{(.*?)\}", text, re.S):
+        fields = structs[snake(name)] = []
+        for n, t in re.findall(r"pub (\w+): ([^,\n]+),", inside):
+            one, count = re.fullmatch(r"\[?(\w+)(?:; (\d+)\])?", t).groups()
+            fields += [(m, one, 1) for m in ARRAYS[n]] if n in ARRAYS else [(n, rust_type(one), int(count or 1))]
+    calls = {}
+    for name, parameters, answer in re.findall(r"pub fn (nebosvar_\w+)\((.*?)\) -> (\w+);", text, re.S):
+        calls[name] = [(n, rust_type(t)) for n, t in re.findall(r"(\w+): ([^,\n]+?)(?=,|$)", parameters)], rust_type(answer)
+    return {"structs": structs, "calls": calls}
+
+
+def rust_constants():
+    """The numbers that the Rust crate takes for each case, by C's names."""
+    prefix = {"Kind": "KIND", "Stop": "STOP", "Class": "CLASS", "Control": "CONTROL", "Descriptor": "DESCRIPTOR", "Item": "ITEM", "Label": "FOUND"}
+    text = "".join(blank((RUST / f).read_text()) for f in ("answer.rs", "table.rs"))
+    for n, enum, variant in re.findall(r"(\d+) => (?:Ok\()?(\w+)::(\w+)", text):
+        if enum in prefix:
+            yield "%s_%s" % (prefix[enum], variant.upper()), int(n)
+    for variant, n in re.findall(r"(\w+) = (\d+),", re.search(r"pub enum ItemKind \{(.*?)\}", text, re.S)[1]):
+        yield "ITEM_" + variant.upper(), int(n)
