@@ -47,7 +47,7 @@ def renamed(text, names):
 def contract(source, name):
     """The equations of a call's contract, in the theorem's names."""
     said = re.search(r"\bfn %s\([^{]*?ensures \{ λ r\. ⌜(.*?)⌝ \}" % name, source, re.S)[1]
-    said = re.sub(r"\(now \((\w+) \.entry\)\)", lambda m: {"stretch": "s"}.get(m[1], m[1]), said)
+    said = re.sub(r"\(now \((\w+) \.entry\)\)", lambda m: {"stretch": "s", "section": "s"}.get(m[1], m[1]), said)
     said = re.sub(r"now \((\w+) \.exit\)", lambda m: {"c": "d", "image": "l"}[m[1]], said)
     return parts(bare(said), "×")
 

@@ -16,21 +16,27 @@ use Rattle.wire.specs.Places.{inPart, partAt, first, firstFrom}
 use Rattle.wire.proofs.Laws.Parts.{item-past}
 use Rattle.section.specs.declared.Header.{Header}
 use Rattle.section.specs.declared.Checked.the-variants.{Accepted}
+use Rattle.ait_descriptors.specs.Tag15.{described15}
+use Rattle.ait_descriptors.specs.Tag05.{described05}
+use Rattle.ait_descriptors.specs.Tag01.{described01}
 use Rattle.ait_descriptors.specs.declared.Kind.the-variants as kind
-use Rattle.ait_descriptors.specs.Kinds.{sizeOf}
-use Rattle.ait_descriptors.specs.Contents.{tagOf}
+use Rattle.ait_descriptors.specs.Kinds.{sizeOf, countAt}
+use Rattle.ait_descriptors.specs.Descriptor.{tagOf}
 use Rattle.ait_descriptors.proofs.Laws.Kinds.{kind-of}
 use Rattle.ait_read.specs.declared.Control.the-variants as control
 use Rattle.ait_read.specs.Acceptance.{tableJudged}
 use Rattle.ait_read.specs.declared.Scope.{Scope}
-use Rattle.ait_read.specs.declared.Repeated.{Repeated}
-use Rattle.ait_read.specs.declared.Repeated.the-variants as repeated
-use Rattle.ait_read.specs.declared.Described.{Described}
-use Rattle.ait_read.specs.Records.{controlOf, described00, described1, described02, describedOf}
-use Rattle.ait_read.specs.declared.Item.{Item}
+use Rattle.ait_descriptors.specs.declared.Repeated.{Repeated}
+use Rattle.ait_descriptors.specs.declared.Repeated.the-variants as repeated
+use Rattle.ait_descriptors.specs.declared.Described.{Described}
+use Rattle.ait_read.specs.Records.{controlOf}
+use Rattle.ait_descriptors.specs.Tag00.{described00}
+use Rattle.ait_descriptors.specs.Tag02.{described1, described02}
+use Rattle.ait_descriptors.specs.Contents.{describedOf, repeatedCount, kindOf, listIn}
+use Rattle.ait_descriptors.specs.declared.Item.{Item}
 use Rattle.ait_read.specs.declared.ItemAnswer.the-variants as items
 use Rattle.ait_read.specs.Labels.{labelAt}
-use Rattle.ait_read.specs.Places.{loopAt, applicationAt, ownAt, descriptorAt, repeatedCount}
+use Rattle.ait_read.specs.Places.{loopAt, applicationAt, ownAt, descriptorAt}
 use Rattle.ait_read.specs.Answers.{applicationAnswer, descriptorAnswer, itemAnswer, resolveAnswer}
 use Rattle.ait_read.proofs.Laws.Acceptance.{sized, judged-has, located-none, located-at}
 use Rattle.ait_read.proofs.Laws.Counts.{item-there, list-count}
@@ -111,7 +117,7 @@ module _ (x : List ℕ) (a k : ℕ) where
   never l = absurd (omega (arith, l))
 
   counted : Counts (describedOf x a)
-  unfolding describedOf described00 described02 described1
+  unfolding describedOf described00 described01 described02 described1 described05 described15 repeatedCount countAt sizeOf kindOf listIn
   counted =
       either (eqb (tagOf x) 0x00) _ _ ((λ l. (repeated.Profiles, refl, l)), λ l. l)
       (either (eqb (tagOf x) 0x01) _ _ ((λ l. (repeated.Names, refl, l)), never)
