@@ -3,7 +3,8 @@
 //
 // Every call judges the section first and answers its refusal (2 to 7, 18); a place that is not
 // there is 19. What each answer is, is said in specs/Answers.antt, over specs/Places.antt (where
-// things lie) and specs/Records.antt (what is read of each).
+// things lie) and what is read of each: specs/Records.antt for applications, and for descriptors and
+// their items the files of ait_descriptors, one for each tag.
 mod acceptance;
 mod classes;
 mod labels;
