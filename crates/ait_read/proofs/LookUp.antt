@@ -48,6 +48,7 @@ use Rattle.ait_read.specs.Places.{loopAt, applicationAt, ownAt, commonAt
 use Rattle.ait_descriptors.specs.Tag00.{described00, labelsIn}
 use Rattle.ait_read.specs.Labels.{firstTo, hitAmong, resolvedIn, labelAt}
 use Rattle.ait_read.specs.Answers.{onLocated, descriptorAnswer, itemAnswer, resolveAnswer, numberOfResolved}
+use Rattle.ait_read.specs.Resolved.{Bears, Shows, First, None, IsLabel, NoLabel, Says}
 use Rattle.ait_descriptors.proofs.Laws.Records.{cases-02, cases}
 use Rattle.ait_read.proofs.Laws.Places.{sound-loop}
 use Rattle.ait_read.proofs.Laws.Labels.{own-hit, common-hit, no-hit, label-none, label-is}
@@ -58,44 +59,6 @@ use Rattle.ait_read.proofs.Laws.Exact.{accepted-exactly, resolve-refuse
 use Rattle.ait_read.proofs.Laws.Numbers.{resolve-number}
 use Rattle.ait_read.proofs.Laws.Located.{accepted-good, located-cases, nineteen-exactly, found-at, nowhere-exactly, refused-descriptor, refused-item}
 use Rattle.ait_read.proofs.Laws.Sole.{twelve, sole-place, first-descriptor, no-descriptor}
-
--- what `descriptor_at` shows is a 0x02 descriptor with the label l
-abbrev pub Bears : ℕ → Described → Type 0
-Bears l (described.Application p b v r n) = ⊥
-Bears l (described.Names n) = ⊥
-Bears l (described.Local m c) = m ≡ l
-Bears l (described.Remote m w t v c) = m ≡ l
-Bears l (described.Bases m b) = m ≡ l
-Bears l (described.Selector p m x) = m ≡ l
-Bears l (described.Identifiers n) = ⊥
-Bears l (described.Path x) = ⊥
-Bears l (described.Raw t x) = ⊥
-
--- `descriptor_at` shows one at place j of a scope; the first of the scope is at place j; the scope has none
-abbrev pub Shows : L.List ℕ → Scope → ℕ → ℕ → Type 0
-Shows s o l j = (x : Described) × (descriptorAnswer s o j ≡ descriptor.Found x) × Bears l x
-
-abbrev pub First : L.List ℕ → Scope → ℕ → ℕ → Type 0
-First s o l j = Shows s o l j × ((m : ℕ) → m < j → Shows s o l m → ⊥)
-
-abbrev pub None : L.List ℕ → Scope → ℕ → Type 0
-None s o l = (m : ℕ) → Shows s o l m → ⊥
-
--- the label at place k of application i is l: `item_at` shows it in one of the application's own descriptors (only a 0x00 has labels, and there is one: `sole-place`)
-abbrev pub IsLabel : L.List ℕ → ℕ → ℕ → ℕ → Type 0
-IsLabel s i k l = (j : ℕ) × (itemAnswer s (scope.Own i) j Labels k ≡ items.Found (item.Label l))
-
--- application i has no label at place k: there is no such application, or its one 0x00 descriptor (`sole-place`) has no more than k labels
-abbrev pub NoLabel : L.List ℕ → ℕ → ℕ → Type 0
-NoLabel s i k = (countAt kind.Application (loopAt s) s ≤ i)
-    ⊎ ((j : ℕ) × (a : ℕ) × (n : ℕ) × (descriptorAt (scope.Own i) j s ≡ At a n) × (tagOf (take n (drop a s)) ≡ 0x00) × (repeatedCount Labels (take n (drop a s)) ≤ k))
-
--- what each answer of `resolve` says
-abbrev pub Says : L.List ℕ → ℕ → ℕ → Resolved → Type 0
-Says s i k (resolved.Refused r) = (tableJudged s ≡ Refused r) ⊎ ((r ≡ refused 19) × FormedTable s × NoLabel s i k)
-Says s i k (resolved.Own j) = (l : ℕ) × IsLabel s i k l × First s (scope.Own i) l j
-Says s i k (resolved.Common n j) = (l : ℕ) × IsLabel s i k l × (n ≡ 0) × None s (scope.Own i) l × First s scope.Common l j
-Says s i k resolved.Unresolved = (l : ℕ) × IsLabel s i k l × None s (scope.Own i) l × None s scope.Common l
 
 -- a descriptor is shown as a 0x02 with the label l exactly where the look-up's test is met
 pub bears-exactly : (l : ℕ) (d : L.List ℕ) (a : ℕ) → Bears l (describedOf d a) ↔ (testOf (Labelled l) d ≡ true)

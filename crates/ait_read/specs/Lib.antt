@@ -3,3 +3,5 @@ pub mod Places
 pub mod Records
 pub mod Labels
 pub mod Answers
+pub mod Resolved
+pub mod Handed
