@@ -55,7 +55,9 @@ def c_type(t):
 
 
 def body(path, function):
-    return re.search(r"fn %s\(.*?\n\{\n(.*?)\n\}\n" % function, blank(path.read_text()), re.S)[1]
+    """What a function does that stands in a file, or in one of a crate's files."""
+    text = "".join(p.read_text() for p in (sorted(path.glob("*.rt")) if path.is_dir() else [path]))
+    return re.search(r"fn %s\(.*?\n\{\n(.*?)\n\}\n" % function, blank(text), re.S)[1]
 
 
 def limits():
@@ -105,15 +107,19 @@ def matched(path, function):
     return re.findall(r"\w+::(\w+)[^=]*=> (\d+),", body(path, function))
 
 
+def kind_told(path, builder):
+    return re.search(r"\b(?:kind: |counted\(|placed\()(\d+)", body(path, builder))[1]
+
+
 def descriptor_kinds(path):
-    for variant, builder, kind in re.findall(r"Described::(\w+)[^=]*=> (\w+)\((\d*)", body(path, "described_out")):
-        yield variant, kind or re.search(r"\bkind: (\d+)", body(path, builder))[1]
+    for variant, builder in re.findall(r"Described::(\w+)\(\w+\) => (\w+)\(", body(path, "described_out")):
+        yield variant, kind_told(path, builder)
 
 
 def item_kinds(path):
     """By what is asked for, which must be what is told."""
-    asked = [(v, k) for k, v in re.findall(r"(\d+) => [^;]*?Repeated::(\w+)s,", body(path, "item_asked"))]
-    told = {(v, re.search(r"\bkind: (\d+)", body(path, f))[1]) for v, f in re.findall(r"Item::(\w+)\(\w+\) => (\w+)\(", body(path, "found_out"))}
+    asked = [(v, k) for k, v in re.findall(r"(\d+) => Asked::Items\(Repeated::(\w+)s\),", body(path, "asked_by"))]
+    told = {(v, kind_told(path, f)) for v, f in re.findall(r"Item::(\w+)\(\w+\) => (\w+)\(", body(path, "found_out"))}
     assert set(asked) == told, (asked, told)
     return asked
 
@@ -129,12 +135,12 @@ def refusals():
 
 
 def source_constants():
-    box, numbers, _ = SOURCES
+    box, numbers = SOURCES[0], SOURCES[1].parent
     receiver = CRATES / "receiver" / "src" / "lib.rt"
     taken = re.search(r"What::Taken.*\bstop: (\d+)", body(box, "what_out"), re.S)[1]
     found = re.findall(r"Resolved::(\w+)[^=]*=> LabelOut \{[^}]*found: (\d+)", body(numbers, "label"))
     assert found[0] == ("Refused", "0")
-    common = re.search(r"const COMMON: usize = (\w+);", numbers.read_text())[1]
+    common = re.search(r"const COMMON: usize = (\w+);", SOURCES[1].read_text())[1]
     return [
         refusals()[0],
         variants("KIND", matched(receiver, "kind_number")),

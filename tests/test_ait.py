@@ -45,9 +45,9 @@ def descriptor(r):
                 raise Malformed
         elif protocol == 3:
             d["bases"] = repeated(c.rest(), lambda q: (q.take(q.number(1)), [q.take(q.number(1)) for _ in range(q.number(1))]))
-            d["line"] = "http %d %d" % (d["label"], len(d["bases"]))
+            d["line"] = "bases %d %d" % (d["label"], len(d["bases"]))
         else:
-            d["line"] = "transport %d %d <%s>" % (protocol, d["label"], c.rest().hex())
+            d["line"] = "selector %d %d <%s>" % (protocol, d["label"], c.rest().hex())
     elif tag == 0x05:
         d["identifiers"] = repeated(c.rest(), lambda q: [q.number(4), q.number(2), q.number(1)])
         d["line"] = "identifiers %d" % len(d["identifiers"])

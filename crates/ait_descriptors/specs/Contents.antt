@@ -12,6 +12,7 @@ use Rattle.ait_descriptors.specs.declared.Test.{Test}
 use Rattle.ait_descriptors.specs.declared.Test.the-variants.{Malformed, Tagged, Labelled}
 use Rattle.ait_descriptors.specs.declared.Repeated.{Repeated}
 use Rattle.ait_descriptors.specs.declared.Repeated.the-variants.{Profiles, Labels, Names, Bases, Identifiers}
+use Rattle.ait_descriptors.specs.declared.Raw.{Raw}
 use Rattle.ait_descriptors.specs.declared.Described.{Described}
 use Rattle.ait_descriptors.specs.declared.Described.the-variants as described
 use Rattle.ait_descriptors.specs.declared.Item.{Item}
@@ -36,6 +37,10 @@ contentsGood tag c =
 abbrev pub wellMade : List ℕ → Bool
 wellMade d = contentsGood (tagOf d) (contentsOf d)
 
+-- "other tags are kept raw": the tag, and all that follows the length
+abbrev pub rawFields : List ℕ → ℕ → Raw
+rawFields d a = record { tag = tagOf d; contents = restOf 2 d a }
+
 -- "A descriptor answer is an enum whose cases carry fields and places, one case for raw"
 unfoldable pub describedOf : List ℕ → ℕ → Described
 describedOf d a =
@@ -44,7 +49,7 @@ describedOf d a =
     (cond (eqb (tagOf d) 0x02) (described02 d a)
     (cond (eqb (tagOf d) 0x05) (described05 d)
     (cond (eqb (tagOf d) 0x15) (described15 d a)
-    (described.Raw (tagOf d) (restOf 2 d a))))))
+    (described.Raw (rawFields d a))))))
 
 -- "the items repeated within a descriptor (in 0x00 profiles and labels apart; ..)": where they lie in it; their kind; and what is read of one that
 -- begins at a. A descriptor of another tag has no such items.

@@ -9,7 +9,8 @@ use Rattle.wire.specs.declared.Place.the-variants.{Nothing}
 use Rattle.wire.specs.Fields.{byteAt, sixteenAt, bits}
 use Rattle.wire.specs.Items.{Size, fixed, count}
 use Rattle.wire.specs.Places.{Finder, bytes, partAt}
-use Rattle.ait_descriptors.specs.declared.Profile.{Profile}
+use Rattle.ait_descriptors.specs.declared.tag00.Profile.{Profile}
+use Rattle.ait_descriptors.specs.declared.tag00.ApplicationDescriptor.{ApplicationDescriptor}
 use Rattle.ait_descriptors.specs.declared.Described.{Described}
 use Rattle.ait_descriptors.specs.declared.Described.the-variants as described
 use Rattle.ait_descriptors.specs.Descriptor.{tagOf, taggedRest}
@@ -41,8 +42,11 @@ profileOf x = record { number = sixteenAt x 0; major = byteAt x 2; minor = byteA
 -- ITS FIELDS
 unfoldable pub described00 : List ℕ → Described
 described00 d =
-    described.Application (count profile (partAt (profilesIn d) d))
-    (bits 7 1 (byteAt d (3 + byteAt d 2)))
-    (bits 5 2 (byteAt d (3 + byteAt d 2)))
-    (byteAt d (4 + byteAt d 2))
-    (count label (partAt (labelsIn d) d))
+    described.Application
+    (record {
+      profiles = count profile (partAt (profilesIn d) d);
+      bound = bits 7 1 (byteAt d (3 + byteAt d 2));
+      visibility = bits 5 2 (byteAt d (3 + byteAt d 2));
+      priority = byteAt d (4 + byteAt d 2);
+      labels = count label (partAt (labelsIn d) d);
+    })

@@ -5,7 +5,7 @@ use mathlib.Core.List.{List}
 use Rattle.wire.specs.Fields.{byteAt}
 use Rattle.wire.specs.Items.{Size, measured, fills, count}
 use Rattle.wire.specs.Places.{Finder, partAt}
-use Rattle.ait_descriptors.specs.declared.Name.{Name}
+use Rattle.ait_descriptors.specs.declared.tag01.Name.{Name}
 use Rattle.ait_descriptors.specs.declared.Described.{Described}
 use Rattle.ait_descriptors.specs.declared.Described.the-variants as described
 use Rattle.ait_descriptors.specs.Descriptor.{taggedRest, restOf}

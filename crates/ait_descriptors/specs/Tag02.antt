@@ -9,7 +9,11 @@ use Rattle.wire.specs.Fields.{byteAt, sixteenAt, bits}
 use Rattle.wire.specs.Items.{Size, measured, items, endOf, fills, count}
 use Rattle.wire.specs.Places.{Finder, after, partAt}
 use Rattle.ait_descriptors.specs.declared.Span.{Span}
-use Rattle.ait_descriptors.specs.declared.Base.{Base}
+use Rattle.ait_descriptors.specs.declared.tag02.Base.{Base}
+use Rattle.ait_descriptors.specs.declared.tag02.Local.{Local}
+use Rattle.ait_descriptors.specs.declared.tag02.Remote.{Remote}
+use Rattle.ait_descriptors.specs.declared.tag02.Bases.{Bases}
+use Rattle.ait_descriptors.specs.declared.tag02.Selector.{Selector}
 use Rattle.ait_descriptors.specs.declared.Described.{Described}
 use Rattle.ait_descriptors.specs.declared.Described.the-variants as described
 use Rattle.ait_descriptors.specs.Descriptor.{tagOf, contentsOf, taggedRest, restOf}
@@ -67,17 +71,33 @@ unfoldable pub extensionRead : List ℕ → ℕ → Span
 extensionRead x a = restOf 1 x a
 
 -- ITS FIELDS, by protocol
+abbrev pub localFields : List ℕ → Local
+localFields d = record { label = byteAt d 4; component = byteAt d 6 }
+
+abbrev pub remoteFields : List ℕ → Remote
+remoteFields d =
+    record {
+      label = byteAt d 4;
+      network = sixteenAt d 6;
+      transport = sixteenAt d 8;
+      service = sixteenAt d 10;
+      component = byteAt d 12;
+    }
+
+abbrev pub basesFields : List ℕ → Bases
+basesFields d = record { label = byteAt d 4; bases = count base (partAt (basesIn d) d) }
+
+abbrev pub selectorFields : List ℕ → ℕ → Selector
+selectorFields d a = record { protocol = sixteenAt d 2; label = byteAt d 4; selector = restOf 5 d a }
+
 unfoldable pub described1 : List ℕ → Described
-described1 d =
-    cond (eqb (bits 7 1 (byteAt d 5)) 1)
-    (described.Remote (byteAt d 4) (sixteenAt d 6) (sixteenAt d 8) (sixteenAt d 10) (byteAt d 12))
-    (described.Local (byteAt d 4) (byteAt d 6))
+described1 d = cond (eqb (bits 7 1 (byteAt d 5)) 1) (described.Remote (remoteFields d)) (described.Local (localFields d))
 
 unfoldable pub described02 : List ℕ → ℕ → Described
 described02 d a =
     cond (eqb (sixteenAt d 2) 1) (described1 d)
-    (cond (eqb (sixteenAt d 2) 3) (described.Bases (byteAt d 4) (count base (partAt (basesIn d) d)))
-    (described.Selector (sixteenAt d 2) (byteAt d 4) (restOf 5 d a)))
+    (cond (eqb (sixteenAt d 2) 3) (described.Bases (basesFields d))
+    (described.Selector (selectorFields d a)))
 
 -- whether it has a label
 abbrev pub labelled : ℕ → List ℕ → Bool

@@ -6,7 +6,7 @@ use mathlib.Core.List.{List}
 use Rattle.wire.specs.Fields.{byteAt, sixteenAt, thirtyTwoAt}
 use Rattle.wire.specs.Items.{Size, fixed, fills, count}
 use Rattle.wire.specs.Places.{Finder, partAt}
-use Rattle.ait_descriptors.specs.declared.Identifier.{Identifier}
+use Rattle.ait_descriptors.specs.declared.tag05.Identifier.{Identifier}
 use Rattle.ait_descriptors.specs.declared.Described.{Described}
 use Rattle.ait_descriptors.specs.declared.Described.the-variants as described
 use Rattle.ait_descriptors.specs.Descriptor.{taggedRest}

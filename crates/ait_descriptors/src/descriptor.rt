@@ -2,6 +2,7 @@
 use crate::Described;
 use crate::Item;
 use crate::Kind;
+use crate::Raw;
 use crate::Repeated;
 use crate::Test;
 use crate::parts::rest_of;
@@ -16,7 +17,7 @@ ghost use mathlib.Core.Path.{_≡_};
 ghost use Prim.Native.Nat.{_+_, _≤_};
 ghost use lib.ListN.{length, take, drop};
 ghost use Rattle.ait_descriptors.specs.Descriptor.{contentsOf};
-ghost use Rattle.ait_descriptors.specs.Contents.{contentsGood, wellMade, describedOf, listIn, kindOf, itemOf, testOf};
+ghost use Rattle.ait_descriptors.specs.Contents.{contentsGood, wellMade, rawFields, describedOf, listIn, kindOf, itemOf, testOf};
 
 // Whether the contents that go with a tag are well formed.
 fn is_good(tag: u8, c: &[u8]) -> bool
@@ -42,10 +43,17 @@ pub fn describe(d: &[u8], a: u16) -> Described
         0x02 => described_02(d, a),
         0x05 => described_05(d),
         0x15 => described_15(d, a),
-        _ => Described::Raw {
-            tag,
-            contents: rest_of(d, 2, a),
-        },
+        _ => Described::Raw(raw_of(d, a)),
+    }
+}
+
+// A descriptor of any other tag, its contents as they are.
+fn raw_of(d: &[u8], a: u16) -> Raw
+    ensures { λ r. ⌜ r ≡ rawFields (now (d .entry)) a ⌝ }
+{
+    Raw {
+        tag: byte_at(d, 0),
+        contents: rest_of(d, 2, a),
     }
 }
 

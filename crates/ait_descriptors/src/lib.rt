@@ -1,9 +1,10 @@
 // The kinds of descriptor, their contents, and what is read of each.
 //
-// Each tag that is known has a file of its own, src/tag00.rt and so on, beside specs/Tag00.antt: when its
-// contents are well formed, its items and where they lie, its fields. src/descriptor.rt has a line for
-// each tag. A kind of item is its size function (specs/Kinds.antt); one loop for each question goes
-// over items of every kind (src/kinds.rt, src/lists.rt).
+// Each tag that is known has a file of its own, src/tag00.rt and so on, beside specs/Tag00.antt: its
+// fields, its items and where they lie, when its contents are well formed. This file and
+// src/descriptor.rt have a line for each tag in each list. A kind of item is its size function
+// (specs/Kinds.antt); one loop for each question goes over items of every kind (src/kinds.rt,
+// src/lists.rt).
 mod descriptor;
 mod kinds;
 mod lists;
@@ -25,8 +26,17 @@ pub use lists::find;
 pub use lists::item_place;
 pub use lists::number_of;
 pub use parts::count_within;
+pub use tag00::ApplicationDescriptor;
+pub use tag00::Profile;
+pub use tag01::Name;
+pub use tag02::Base;
+pub use tag02::Bases;
+pub use tag02::Local;
+pub use tag02::Remote;
+pub use tag02::Selector;
 pub use tag02::extension_of;
 pub use tag02::extensions_in;
+pub use tag05::Identifier;
 
 // The kinds of item that repeat.
 pub enum Kind {
@@ -63,75 +73,24 @@ pub struct Span {
     pub size: usize,
 }
 
-pub struct Profile {
-    pub number: u16,
-    pub major: u8,
-    pub minor: u8,
-    pub micro: u8,
+// A descriptor whose tag is not known.
+pub struct Raw {
+    pub tag: u8,
+    pub contents: Span,
 }
 
-// A name, and the three bytes of its language.
-pub struct Name {
-    pub first: u8,
-    pub second: u8,
-    pub third: u8,
-    pub text: Span,
-}
-
-pub struct Base {
-    pub text: Span,
-    pub extensions: usize,
-}
-
-pub struct Identifier {
-    pub organisation: u32,
-    pub number: u16,
-    pub priority: u8,
-}
-
-// A descriptor, by its tag. A 0x02 is Local or Remote (protocol 1), Bases (protocol 3) or Selector
-// (any other, its selector raw); Raw is every other tag.
+// A descriptor, by its tag: its fields; where it has none but its items, how many of them; where it has
+// but bytes, those. A 0x02 is Local or Remote (protocol 1), Bases (protocol 3) or Selector (any other).
 pub enum Described {
-    Application {
-        profiles: usize,
-        bound: u8,
-        visibility: u8,
-        priority: u8,
-        labels: usize,
-    },
-    Names {
-        names: usize,
-    },
-    Local {
-        label: u8,
-        component: u8,
-    },
-    Remote {
-        label: u8,
-        network: u16,
-        transport: u16,
-        service: u16,
-        component: u8,
-    },
-    Bases {
-        label: u8,
-        bases: usize,
-    },
-    Selector {
-        protocol: u16,
-        label: u8,
-        selector: Span,
-    },
-    Identifiers {
-        identifiers: usize,
-    },
-    Path {
-        path: Span,
-    },
-    Raw {
-        tag: u8,
-        contents: Span,
-    },
+    Application(ApplicationDescriptor),
+    Names(usize),
+    Local(Local),
+    Remote(Remote),
+    Bases(Bases),
+    Selector(Selector),
+    Identifiers(usize),
+    Path(Span),
+    Raw(Raw),
 }
 
 // What repeats within a descriptor: one case for each of `Repeated`.

@@ -1,7 +1,6 @@
 // 0x00, the application descriptor.
 use crate::Described;
 use crate::Kind;
-use crate::Profile;
 use crate::parts::count_within;
 use crate::parts::tagged_rest;
 use wire::Place;
@@ -10,6 +9,22 @@ use wire::eight_at;
 use wire::sixteen_at;
 ghost use mathlib.Core.Path.{_≡_};
 ghost use Rattle.ait_descriptors.specs.Tag00.{good00, profilesIn, labelsIn, profileOf, described00};
+
+pub struct Profile {
+    pub number: u16,
+    pub major: u8,
+    pub minor: u8,
+    pub micro: u8,
+}
+
+// How many profiles and labels it has, and what stands between them.
+pub struct ApplicationDescriptor {
+    pub profiles: usize,
+    pub bound: u8,
+    pub visibility: u8,
+    pub priority: u8,
+    pub labels: usize,
+}
 
 pub fn is_good00(c: &[u8]) -> bool
     ensures { λ r. ⌜ r ≡ good00 (now (c .entry)) ⌝ }
@@ -52,11 +67,11 @@ pub fn described_00(d: &[u8]) -> Described
 {
     let n = eight_at(d, 2);
     let flags = byte_at(d, 3 + n);
-    Described::Application {
+    Described::Application(ApplicationDescriptor {
         profiles: count_within(d, profiles_in(d), Kind::Profile),
         bound: flags >> 7,
         visibility: (flags >> 5) & 0x03,
         priority: byte_at(d, 4 + n),
         labels: count_within(d, labels_in(d), Kind::Label),
-    }
+    })
 }

@@ -1,7 +1,7 @@
 // 0x01, the application name descriptor.
 use crate::Described;
 use crate::Kind;
-use crate::Name;
+use crate::Span;
 use crate::kinds::fills;
 use crate::parts::count_within;
 use crate::parts::rest_of;
@@ -10,6 +10,14 @@ use wire::Place;
 use wire::byte_at;
 ghost use mathlib.Core.Path.{_≡_};
 ghost use Rattle.ait_descriptors.specs.Tag01.{good01, namesIn, nameOf, described01};
+
+// A name, and the three bytes of its language.
+pub struct Name {
+    pub first: u8,
+    pub second: u8,
+    pub third: u8,
+    pub text: Span,
+}
 
 pub fn is_good01(c: &[u8]) -> bool
     ensures { λ r. ⌜ r ≡ good01 (now (c .entry)) ⌝ }
@@ -38,7 +46,5 @@ pub fn name_of(x: &[u8], a: u16) -> Name
 pub fn described_01(d: &[u8]) -> Described
     ensures { λ r. ⌜ r ≡ described01 (now (d .entry)) ⌝ }
 {
-    Described::Names {
-        names: count_within(d, names_in(d), Kind::Name),
-    }
+    Described::Names(count_within(d, names_in(d), Kind::Name))
 }

@@ -1,5 +1,4 @@
 // 0x02, the transport protocol descriptor, by its protocol.
-use crate::Base;
 use crate::Described;
 use crate::Kind;
 use crate::Span;
@@ -13,6 +12,38 @@ use wire::eight_at;
 use wire::sixteen_at;
 ghost use mathlib.Core.Path.{_≡_};
 ghost use Rattle.ait_descriptors.specs.Tag02.{selector1, selector, good02, basesIn, extensionsIn, baseOf, extensionRead, described1, described02};
+
+// Protocol 1, a carousel, without a remote connection and with one.
+pub struct Local {
+    pub label: u8,
+    pub component: u8,
+}
+
+pub struct Remote {
+    pub label: u8,
+    pub network: u16,
+    pub transport: u16,
+    pub service: u16,
+    pub component: u8,
+}
+
+// Protocol 3, how many bases there are.
+pub struct Bases {
+    pub label: u8,
+    pub bases: usize,
+}
+
+pub struct Base {
+    pub text: Span,
+    pub extensions: usize,
+}
+
+// Any other protocol, its selector as it is.
+pub struct Selector {
+    pub protocol: u16,
+    pub label: u8,
+    pub selector: Span,
+}
 
 pub fn is_good02(c: &[u8]) -> bool
     ensures { λ r. ⌜ r ≡ good02 (now (c .entry)) ⌝ }
@@ -84,15 +115,15 @@ pub fn described_02(d: &[u8], a: u16) -> Described
     let protocol = sixteen_at(d, 2);
     match protocol {
         1 => described_1(d),
-        3 => Described::Bases {
+        3 => Described::Bases(Bases {
             label: byte_at(d, 4),
             bases: count_within(d, bases_in(d), Kind::Base),
-        },
-        _ => Described::Selector {
+        }),
+        _ => Described::Selector(Selector {
             protocol,
             label: byte_at(d, 4),
             selector: rest_of(d, 5, a),
-        },
+        }),
     }
 }
 
@@ -102,16 +133,16 @@ fn described_1(d: &[u8]) -> Described
 {
     let label = byte_at(d, 4);
     if byte_at(d, 5) >> 7 == 1 {
-        return Described::Remote {
+        return Described::Remote(Remote {
             label,
             network: sixteen_at(d, 6),
             transport: sixteen_at(d, 8),
             service: sixteen_at(d, 10),
             component: byte_at(d, 12),
-        };
+        });
     }
-    Described::Local {
+    Described::Local(Local {
         label,
         component: byte_at(d, 6),
-    }
+    })
 }

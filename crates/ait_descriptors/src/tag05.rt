@@ -1,6 +1,5 @@
 // 0x05, the external application authorisation descriptor.
 use crate::Described;
-use crate::Identifier;
 use crate::Kind;
 use crate::kinds::fills;
 use crate::parts::count_within;
@@ -11,6 +10,12 @@ use wire::sixteen_at;
 use wire::thirty_two_at;
 ghost use mathlib.Core.Path.{_≡_};
 ghost use Rattle.ait_descriptors.specs.Tag05.{good05, identifiersIn, identifierOf, described05};
+
+pub struct Identifier {
+    pub organisation: u32,
+    pub number: u16,
+    pub priority: u8,
+}
 
 pub fn is_good05(c: &[u8]) -> bool
     ensures { λ r. ⌜ r ≡ good05 (now (c .entry)) ⌝ }
@@ -37,7 +42,5 @@ pub fn identifier_of(x: &[u8]) -> Identifier
 pub fn described_05(d: &[u8]) -> Described
     ensures { λ r. ⌜ r ≡ described05 (now (d .entry)) ⌝ }
 {
-    Described::Identifiers {
-        identifiers: count_within(d, identifiers_in(d), Kind::Identifier),
-    }
+    Described::Identifiers(count_within(d, identifiers_in(d), Kind::Identifier))
 }

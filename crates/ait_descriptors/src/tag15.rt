@@ -7,7 +7,5 @@ ghost use Rattle.ait_descriptors.specs.Tag15.{described15};
 pub fn described_15(d: &[u8], a: u16) -> Described
     ensures { λ r. ⌜ r ≡ described15 (now (d .entry)) a ⌝ }
 {
-    Described::Path {
-        path: rest_of(d, 2, a),
-    }
+    Described::Path(rest_of(d, 2, a))
 }

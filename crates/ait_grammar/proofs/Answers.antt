@@ -54,7 +54,12 @@ use Rattle.ait_grammar.specs.Tag05.{IdentifierValue, spellIdentifier, Fi
 use Rattle.ait_grammar.specs.Contents.{ContentsValue, DescriptorValue, of00, of01, of02, of05, spellContents, spellDescriptor, FitsContents, FitsDescriptor}
 use Rattle.ait_grammar.specs.Table.{ApplicationValue, TableValue, FitsApplication, Sole00, Spells, spellApplication}
 use Rattle.ait_grammar.specs.Good.{GoodTable}
-use Rattle.ait_grammar.specs.Shown.{ValueAt, DescriptorsOf, span, applicationShown, descriptorShown, profileShown, nameShown, baseShown, identifierShown}
+use Rattle.ait_grammar.specs.Span.{span}
+use Rattle.ait_grammar.specs.Shown00.{profileShown}
+use Rattle.ait_grammar.specs.Shown01.{nameShown}
+use Rattle.ait_grammar.specs.Shown02.{baseShown}
+use Rattle.ait_grammar.specs.Shown05.{identifierShown}
+use Rattle.ait_grammar.specs.Shown.{ValueAt, DescriptorsOf, applicationShown, descriptorShown}
 use Rattle.ait_grammar.proofs.Laws.Placed.{value-found}
 use Rattle.ait_grammar.proofs.Laws.Contents.{loop-items}
 use Rattle.ait_grammar.proofs.Laws.Sole.{soleGood, sole-form}
@@ -66,8 +71,11 @@ use Rattle.ait_grammar.proofs.Laws.Tag00.{profile-form}
 use Rattle.ait_grammar.proofs.Laws.Tag01.{name-form}
 use Rattle.ait_grammar.proofs.Laws.Bases.{base-kind, base-form, extension-form}
 use Rattle.ait_grammar.proofs.Laws.Tag05.{identifier-form}
-use Rattle.ait_grammar.proofs.Laws.Described.{alone, label-form, profiles-listed, labels-listed, names-listed, bases-listed, identifiers-listed, descriptor-read}
-use Rattle.ait_grammar.proofs.Laws.ItemsRead.{profile-read, label-read, name-read, base-read, extensions-listed, extension-read, identifier-read}
+use Rattle.ait_grammar.proofs.Laws.Read00.{alone, label-form, profiles-listed, labels-listed, profile-read, label-read}
+use Rattle.ait_grammar.proofs.Laws.Read01.{names-listed, name-read}
+use Rattle.ait_grammar.proofs.Laws.Read02.{bases-listed, base-read, extensions-listed, extension-read}
+use Rattle.ait_grammar.proofs.Laws.Read05.{identifiers-listed, identifier-read}
+use Rattle.ait_grammar.proofs.Laws.Described.{descriptor-read}
 use Rattle.ait_grammar.proofs.Exact.{good-formed}
 
 -- the one at a place keeps what each keeps

@@ -16,5 +16,8 @@ pub mod Applications
 pub mod Loops
 pub mod Placed
 pub mod Shown
+pub mod Read00
+pub mod Read01
+pub mod Read02
+pub mod Read05
 pub mod Described
-pub mod ItemsRead

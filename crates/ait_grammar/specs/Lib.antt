@@ -6,4 +6,9 @@ pub mod Tag05
 pub mod Contents
 pub mod Table
 pub mod Good
+pub mod Span
+pub mod Shown00
+pub mod Shown01
+pub mod Shown02
+pub mod Shown05
 pub mod Shown

@@ -1,6 +1,6 @@
 -- What the numbers mean: a class bears its code; an item is of the kind that was asked for; the number of the common loop is no application's.
 use Prim.Native.Nat.{ℕ, zero, suc, _≤_, _<_}
-use mathlib.Core.Path.{_≡_, refl, sym, _∙_}
+use mathlib.Core.Path.{_≡_, refl, sym, ap, _∙_}
 use mathlib.Core.Bool.{Bool, true, false, cond}
 use mathlib.Core.List.{List, [], _∷_}
 use native.Mathlib.Omega.{arith}
@@ -41,7 +41,9 @@ use Rattle.ait_read.specs.Answers.{applicationAnswer, descriptorAnswer, itemAns
 use Rattle.ait_read.proofs.Laws.Acceptance.{sized, judged-has, located-none, located-at}
 use Rattle.ait_read.proofs.Laws.Counts.{item-there, list-count}
 use Rattle.ait_numbers.specs.declared.DescriptorOut.{DescriptorOut}
-use Rattle.ait_numbers.specs.Reading.{controlNumber, applicationOut, describedOut, descriptorOut, itemAsked, labelOut}
+use Rattle.ait_numbers.specs.declared.kinds.Asked.the-variants.{Items}
+use Rattle.ait_numbers.specs.Classes.{controlNumber}
+use Rattle.ait_numbers.specs.Reading.{applicationOut, describedOut, descriptorOut, askedBy, answerAsked, itemAsked, labelOut}
 
 -- "AUTOSTART 1, PRESENT 2, DESTROY 3, KILL 4, REMOTE 6, else reserved": a code that is not reserved is its class's number
 pub bears-its-code : (code : ℕ) → (controlOf code ≡ control.Reserved → ⊥) → controlNumber (controlOf code) ≡ code
@@ -95,13 +97,13 @@ numberOf repeated.Bases = 5
 numberOf repeated.Identifiers = 7
 numberOf repeated.Labels = 10
 
-asked : (s : List ℕ) (o : Scope) (j k : ℕ) (w : Repeated) → itemAsked s o j (numberOf w) k ≡ itemAnswer s o j w k
-unfolding itemAsked
-asked s o j k repeated.Profiles = refl
-asked s o j k repeated.Names = refl
-asked s o j k repeated.Bases = refl
-asked s o j k repeated.Identifiers = refl
-asked s o j k repeated.Labels = refl
+asked : (w : Repeated) → askedBy (numberOf w) ≡ Items w
+unfolding askedBy
+asked repeated.Profiles = refl
+asked repeated.Names = refl
+asked repeated.Bases = refl
+asked repeated.Identifiers = refl
+asked repeated.Labels = refl
 
 -- what a descriptor counts are the items of its own kind, and its labels those of a kind of their own
 module _ (x : List ℕ) (a k : ℕ) where
@@ -134,7 +136,7 @@ module _ (s : List ℕ) (h : Header) (e : tableJudged s ≡ Accepted h) where
   listed o j a n k f w l =
       let c = list-count s o j w a n f in
       let t = item-there s h e o j w k (rw c l) in
-      (t .0, asked s o j k w ∙ t .1)
+      (t .0, ap (answerAsked s o j k) (asked w) ∙ t .1)
 
   -- what the answer d for a descriptor promises of its items
   abbrev Promised : Scope → (j k : ℕ) → DescriptorOut → Type 0

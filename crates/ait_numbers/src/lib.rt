@@ -1,17 +1,26 @@
 // What is read of an application section, as structs of numbers: what `nebosvar` hands to programs in C and Rust.
 //
-// Nothing is decided here. Each call is one of `ait_read`, its answer laid out; specs/Reading.antt says how.
-use ait_descriptors::Base;
-use ait_descriptors::Described;
-use ait_descriptors::Identifier;
-use ait_descriptors::Item;
-use ait_descriptors::Name;
-use ait_descriptors::Profile;
-use ait_descriptors::Repeated;
-use ait_descriptors::Span;
+// Nothing is decided here. Each call is one of `ait_read`, its answer laid out; specs/Reading.antt says how. Each
+// tag has a file of its own, src/tag00.rt and so on, beside specs/Tag00.antt: its numbers and its items'.
+// src/kinds.rt has a line for each kind in each list.
+mod classes;
+mod kinds;
+mod shapes;
+mod tag00;
+mod tag01;
+mod tag02;
+mod tag05;
+mod tag15;
+
+use crate::classes::class_number;
+use crate::classes::control_number;
+use crate::kinds::Asked;
+use crate::kinds::asked_by;
+use crate::kinds::described_out;
+use crate::kinds::found_out;
+use crate::shapes::no_descriptor;
+use crate::shapes::no_item;
 use ait_read::ApplicationAnswer;
-use ait_read::Class;
-use ait_read::Control;
 use ait_read::DescriptorAnswer;
 use ait_read::ExtensionAnswer;
 use ait_read::ItemAnswer;
@@ -20,29 +29,8 @@ use ait_read::Resolved;
 use ait_read::Scope;
 use section::Refusal;
 ghost use mathlib.Core.Path.{_≡_};
-ghost use Rattle.ait_descriptors.specs.declared.Item.the-variants as item;
 ghost use Rattle.ait_read.specs.Answers.{readAnswer, applicationAnswer, descriptorAnswer, extensionAnswer, resolveAnswer};
-ghost use Rattle.ait_numbers.specs.Reading.{
-  tableOut,
-  applicationOut,
-  classNumber,
-  controlNumber,
-  descriptorOut,
-  describedOut,
-  itemAsked,
-  itemOut,
-  foundOut,
-  extensionOut,
-  labelOut,
-  scopeOf,
-  noDescriptor,
-  describedBy,
-  countedBy,
-  carriedBy,
-  placedBy,
-  noPlace,
-  noItem,
-};
+ghost use Rattle.ait_numbers.specs.Reading.{tableOut, applicationOut, descriptorOut, itemAsked, itemOut, extensionOut, labelOut, scopeOf, noPlace};
 
 // Stands for the common loop where an application's place is asked for.
 const COMMON: usize = 0xFFFF_FFFF_FFFF_FFFF;
@@ -127,45 +115,6 @@ pub struct LabelOut {
     pub found: u8,
     pub refusal: u8,
 }
-
-// What a kind does not have is 0.
-const BLANK_DESCRIPTOR: DescriptorOut = DescriptorOut {
-    count: 0,
-    labels: 0,
-    at: 0,
-    length: 0,
-    protocol: 0,
-    network: 0,
-    transport: 0,
-    service: 0,
-    kind: 0,
-    tag: 0,
-    label: 0,
-    component: 0,
-    bound: 0,
-    visibility: 0,
-    priority: 0,
-    refusal: 0,
-};
-
-const BLANK_ITEM: ItemOut = ItemOut {
-    at: 0,
-    length: 0,
-    extensions: 0,
-    organisation: 0,
-    number: 0,
-    class_number: 0,
-    kind: 0,
-    label: 0,
-    major: 0,
-    minor: 0,
-    micro: 0,
-    priority: 0,
-    first: 0,
-    second: 0,
-    third: 0,
-    refusal: 0,
-};
 
 // The section's header, and how many common descriptors and applications it has.
 pub fn table(s: &[u8]) -> TableOut
@@ -295,31 +244,6 @@ pub fn label(s: &[u8], i: usize, k: usize) -> LabelOut
     }
 }
 
-fn class_number(c: Class) -> u8
-    ensures { λ r. ⌜ r ≡ classNumber c ⌝ }
-{
-    match c {
-        Class::Unsigned => 1,
-        Class::Signed => 2,
-        Class::Other => 3,
-        Class::Wildcard => 4,
-    }
-}
-
-// A class bears its code; reserved is 255, which is a reserved code itself.
-fn control_number(c: Control) -> u8
-    ensures { λ r. ⌜ r ≡ controlNumber c ⌝ }
-{
-    match c {
-        Control::Autostart => 1,
-        Control::Present => 2,
-        Control::Destroy => 3,
-        Control::Kill => 4,
-        Control::Remote => 6,
-        Control::Reserved => 255,
-    }
-}
-
 fn scope_of(i: usize) -> Scope
     ensures { λ r. ⌜ r ≡ scopeOf i ⌝ }
 {
@@ -329,132 +253,12 @@ fn scope_of(i: usize) -> Scope
     Scope::Own(i)
 }
 
-fn no_descriptor(refusal: u8) -> DescriptorOut
-    ensures { λ r. ⌜ r ≡ noDescriptor refusal ⌝ }
-{
-    DescriptorOut {
-        refusal,
-        ..BLANK_DESCRIPTOR
-    }
-}
-
-fn described_out(d: Described) -> DescriptorOut
-    ensures { λ r. ⌜ r ≡ describedOut d ⌝ }
-{
-    match d {
-        Described::Application {
-            profiles,
-            bound,
-            visibility,
-            priority,
-            labels,
-        } => described(profiles, bound, visibility, priority, labels),
-        Described::Names { names } => counted(2, 0x01, 0, 0, names),
-        Described::Local { label, component } => carried(3, label, 0, 0, 0, component),
-        Described::Remote {
-            label,
-            network,
-            transport,
-            service,
-            component,
-        } => carried(4, label, network, transport, service, component),
-        Described::Bases { label, bases } => counted(5, 0x02, 3, label, bases),
-        Described::Selector {
-            protocol,
-            label,
-            selector,
-        } => placed(6, 0x02, protocol, label, selector),
-        Described::Identifiers { identifiers } => counted(7, 0x05, 0, 0, identifiers),
-        Described::Path { path } => placed(8, 0x15, 0, 0, path),
-        Described::Raw { tag, contents } => placed(9, tag, 0, 0, contents),
-    }
-}
-
-// A 0x00.
-fn described(
-    profiles: usize,
-    bound: u8,
-    visibility: u8,
-    priority: u8,
-    labels: usize,
-) -> DescriptorOut
-    ensures { λ r. ⌜ r ≡ describedBy profiles bound visibility priority labels ⌝ }
-{
-    DescriptorOut {
-        count: profiles,
-        labels,
-        kind: 1,
-        bound,
-        visibility,
-        priority,
-        ..BLANK_DESCRIPTOR
-    }
-}
-
-// A descriptor of so many items.
-fn counted(kind: u8, tag: u8, protocol: u16, label: u8, count: usize) -> DescriptorOut
-    ensures { λ r. ⌜ r ≡ countedBy kind tag protocol label count ⌝ }
-{
-    DescriptorOut {
-        count,
-        protocol,
-        kind,
-        tag,
-        label,
-        ..BLANK_DESCRIPTOR
-    }
-}
-
-// A 0x02 of a carousel.
-fn carried(
-    kind: u8,
-    label: u8,
-    network: u16,
-    transport: u16,
-    service: u16,
-    component: u8,
-) -> DescriptorOut
-    ensures { λ r. ⌜ r ≡ carriedBy kind label network transport service component ⌝ }
-{
-    DescriptorOut {
-        protocol: 1,
-        network,
-        transport,
-        service,
-        kind,
-        tag: 0x02,
-        label,
-        component,
-        ..BLANK_DESCRIPTOR
-    }
-}
-
-// A descriptor that names a part of the section.
-fn placed(kind: u8, tag: u8, protocol: u16, label: u8, part: Span) -> DescriptorOut
-    ensures { λ r. ⌜ r ≡ placedBy kind tag protocol label part ⌝ }
-{
-    DescriptorOut {
-        at: part.start,
-        length: part.size,
-        protocol,
-        kind,
-        tag,
-        label,
-        ..BLANK_DESCRIPTOR
-    }
-}
-
-// An item's kind is its descriptor's; of the two that a 0x00 has, labels are 10.
 fn item_asked(s: &[u8], scope: Scope, j: usize, kind: u8, k: usize) -> ItemAnswer
     ensures { λ r. ⌜ r ≡ itemAsked (now (s .entry)) scope j kind k ⌝ }
 {
-    match kind {
-        1 => ait_read::item_at(s, scope, j, Repeated::Profiles, k),
-        2 => ait_read::item_at(s, scope, j, Repeated::Names, k),
-        5 => ait_read::item_at(s, scope, j, Repeated::Bases, k),
-        7 => ait_read::item_at(s, scope, j, Repeated::Identifiers, k),
-        10 => ait_read::item_at(s, scope, j, Repeated::Labels, k),
-        _ => no_place(s),
+    match asked_by(kind) {
+        Asked::Items(what) => ait_read::item_at(s, scope, j, what, k),
+        Asked::Nothing => no_place(s),
     }
 }
 
@@ -465,91 +269,5 @@ fn no_place(s: &[u8]) -> ItemAnswer
     match ait_read::read(s) {
         ReadAnswer::Refused(r) => ItemAnswer::Refused(r),
         ReadAnswer::Accepted(_) => ItemAnswer::Refused(Refusal { number: 19 }),
-    }
-}
-
-fn no_item(refusal: u8) -> ItemOut
-    ensures { λ r. ⌜ r ≡ noItem refusal ⌝ }
-{
-    ItemOut {
-        refusal,
-        ..BLANK_ITEM
-    }
-}
-
-fn found_out(x: Item) -> ItemOut
-    ensures { λ r. ⌜ r ≡ foundOut x ⌝ }
-{
-    match x {
-        Item::Profile(p) => profile_out(p),
-        Item::Label(label) => label_out(label),
-        Item::Name(n) => name_out(n),
-        Item::Base(b) => base_out(b),
-        Item::Identifier(i) => identifier_out(i),
-    }
-}
-
-fn profile_out(p: Profile) -> ItemOut
-    ensures { λ r. ⌜ r ≡ foundOut (item.Profile p) ⌝ }
-{
-    ItemOut {
-        number: p.number,
-        kind: 1,
-        major: p.major,
-        minor: p.minor,
-        micro: p.micro,
-        ..BLANK_ITEM
-    }
-}
-
-fn label_out(label: u8) -> ItemOut
-    ensures { λ r. ⌜ r ≡ foundOut (item.Label label) ⌝ }
-{
-    ItemOut {
-        kind: 10,
-        label,
-        ..BLANK_ITEM
-    }
-}
-
-fn name_out(n: Name) -> ItemOut
-    ensures { λ r. ⌜ r ≡ foundOut (item.Name n) ⌝ }
-{
-    let text = n.text;
-    ItemOut {
-        at: text.start,
-        length: text.size,
-        kind: 2,
-        first: n.first,
-        second: n.second,
-        third: n.third,
-        ..BLANK_ITEM
-    }
-}
-
-fn base_out(b: Base) -> ItemOut
-    ensures { λ r. ⌜ r ≡ foundOut (item.Base b) ⌝ }
-{
-    let text = b.text;
-    ItemOut {
-        at: text.start,
-        length: text.size,
-        extensions: b.extensions,
-        kind: 5,
-        ..BLANK_ITEM
-    }
-}
-
-fn identifier_out(i: Identifier) -> ItemOut
-    ensures { λ r. ⌜ r ≡ foundOut (item.Identifier i) ⌝ }
-{
-    let class = ait_read::class_of(i.number);
-    ItemOut {
-        organisation: i.organisation,
-        number: i.number,
-        class_number: class_number(class),
-        kind: 7,
-        priority: i.priority,
-        ..BLANK_ITEM
     }
 }

@@ -17,15 +17,15 @@ handed s x = spanPart s (x .start) (x .size)
 
 -- of a descriptor d: 0x15 "path, any bytes" and a raw one after tag and length; a selector after tag, length, "protocol 16, label 8"
 abbrev pub OfDescriptor : L.List ℕ → L.List ℕ → Described → Type 0
-OfDescriptor s d (described.Application p b v r l) = Unit {0}
+OfDescriptor s d (described.Application x) = Unit {0}
 OfDescriptor s d (described.Names k) = Unit {0}
-OfDescriptor s d (described.Local l c) = Unit {0}
-OfDescriptor s d (described.Remote l w t v c) = Unit {0}
-OfDescriptor s d (described.Bases l b) = Unit {0}
-OfDescriptor s d (described.Selector p l x) = handed s x ≡ drop 5 d
+OfDescriptor s d (described.Local x) = Unit {0}
+OfDescriptor s d (described.Remote x) = Unit {0}
+OfDescriptor s d (described.Bases x) = Unit {0}
+OfDescriptor s d (described.Selector x) = handed s (x .selector) ≡ drop 5 d
 OfDescriptor s d (described.Identifiers k) = Unit {0}
 OfDescriptor s d (described.Path x) = handed s x ≡ drop 2 d
-OfDescriptor s d (described.Raw t x) = handed s x ≡ drop 2 d
+OfDescriptor s d (described.Raw x) = handed s (x .contents) ≡ drop 2 d
 
 -- of an item x: a name after "language 3 bytes, length"; a base after its length, as long as that says
 abbrev pub OfItem : L.List ℕ → L.List ℕ → Item → Type 0

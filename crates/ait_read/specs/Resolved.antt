@@ -28,15 +28,15 @@ use Rattle.ait_read.specs.Answers.{descriptorAnswer, itemAnswer}
 
 -- what `descriptor_at` shows is a 0x02 descriptor with the label l
 abbrev pub Bears : ℕ → Described → Type 0
-Bears l (described.Application p b v r n) = ⊥
+Bears l (described.Application x) = ⊥
 Bears l (described.Names n) = ⊥
-Bears l (described.Local m c) = m ≡ l
-Bears l (described.Remote m w t v c) = m ≡ l
-Bears l (described.Bases m b) = m ≡ l
-Bears l (described.Selector p m x) = m ≡ l
+Bears l (described.Local x) = x .label ≡ l
+Bears l (described.Remote x) = x .label ≡ l
+Bears l (described.Bases x) = x .label ≡ l
+Bears l (described.Selector x) = x .label ≡ l
 Bears l (described.Identifiers n) = ⊥
 Bears l (described.Path x) = ⊥
-Bears l (described.Raw t x) = ⊥
+Bears l (described.Raw x) = ⊥
 
 -- `descriptor_at` shows one at place j of a scope; the first of the scope is at place j; the scope has none
 abbrev pub Shows : L.List ℕ → Scope → ℕ → ℕ → Type 0

@@ -4,9 +4,16 @@
 // tests/test_inspect.py, an independent second program, which makes an input and says what must come
 // out.
 mod items;
+mod kinds;
+mod lines;
 mod page;
 mod record;
 mod table;
+mod tag00;
+mod tag01;
+mod tag02;
+mod tag05;
+mod tag15;
 mod words;
 
 use crate::page::CLOSED;

@@ -1,13 +1,12 @@
 // An accepted table: its header, its common descriptors and its applications.
 use crate::Buffer;
-use crate::items::Holder;
-use crate::items::first_items;
-use crate::items::held_line;
-use crate::items::label_items;
 use crate::items::put_items;
+use crate::kinds::described_shown;
+use crate::lines::Holder;
+use crate::lines::held_line;
 use crate::page::put_line;
 use crate::words::*;
-use ait_descriptors::Described;
+use ait_descriptors::Repeated;
 use ait_read::Application;
 use ait_read::ApplicationAnswer;
 use ait_read::Class;
@@ -104,7 +103,6 @@ fn control_word(control: Control) -> usize {
 }
 
 // The descriptors of a loop, the common one or an application's, each with its items below it.
-
 fn put_descriptors(out: &mut Buffer, at: usize, s: &[u8], scope: Scope, count: usize) -> usize {
     let mut end = at;
     let mut j: usize = 0;
@@ -116,118 +114,18 @@ fn put_descriptors(out: &mut Buffer, at: usize, s: &[u8], scope: Scope, count: u
     end
 }
 
-// A descriptor's line, and its items. Labels come after profiles: no other has two kinds of them.
+// A descriptor's line, and its items.
 fn put_descriptor(out: &mut Buffer, at: usize, s: &[u8], holder: Holder) -> usize {
     let scope = holder.scope;
     match ait_read::descriptor_at(s, scope, holder.place) {
         DescriptorAnswer::Refused(_) => at,
         DescriptorAnswer::Found(d) => {
-            let line = held_line(DESCRIPTOR, holder, descriptor_fields(d));
-            let mut end = put_line(out, at, line);
-            end = put_items(out, end, s, holder, first_items(d));
-            put_items(out, end, s, holder, label_items(d))
+            let shown = described_shown(d);
+            let fields = shown.fields;
+            let what = shown.what;
+            let mut end = put_line(out, at, held_line(DESCRIPTOR, holder, fields));
+            end = put_items(out, end, s, holder, what, shown.count);
+            put_items(out, end, s, holder, Repeated::Labels, shown.labels)
         }
-    }
-}
-
-// The tag, the kind, and what is read of it.
-fn descriptor_fields(d: Described) -> Fields {
-    match d {
-        Described::Application {
-            profiles,
-            bound,
-            visibility,
-            priority,
-            labels,
-        } => [
-            0x00,
-            KIND_APPLICATION,
-            profiles,
-            bound as usize,
-            visibility as usize,
-            priority as usize,
-            labels,
-            NIL,
-        ],
-        Described::Names { names } => [0x01, NAMES, names, NIL, NIL, NIL, NIL, NIL],
-        Described::Identifiers { identifiers } => [
-            0x05,
-            IDENTIFIERS,
-            identifiers,
-            NIL,
-            NIL,
-            NIL,
-            NIL,
-            NIL,
-        ],
-        Described::Path { path } => [0x15, PATH, path.start, path.size, NIL, NIL, NIL, NIL],
-        Described::Raw { tag, contents: at } => {
-            [tag as usize, RAW, at.start, at.size, NIL, NIL, NIL, NIL]
-        }
-        _ => transport_fields(d),
-    }
-}
-
-// A 0x02 descriptor, by its protocol.
-fn transport_fields(d: Described) -> Fields {
-    match d {
-        Described::Bases { label, bases } => [
-            0x02,
-            BASES,
-            label as usize,
-            bases,
-            NIL,
-            NIL,
-            NIL,
-            NIL,
-        ],
-        Described::Selector {
-            protocol,
-            label,
-            selector,
-        } => [
-            0x02,
-            SELECTOR,
-            protocol as usize,
-            label as usize,
-            selector.start,
-            selector.size,
-            NIL,
-            NIL,
-        ],
-        _ => carousel_fields(d),
-    }
-}
-
-// A carousel's three numbers are there only where it is remote.
-fn carousel_fields(d: Described) -> Fields {
-    match d {
-        Described::Local { label, component } => [
-            0x02,
-            CAROUSEL,
-            label as usize,
-            0,
-            EMPTY,
-            EMPTY,
-            EMPTY,
-            component as usize,
-        ],
-        Described::Remote {
-            label,
-            network,
-            transport,
-            service,
-            component,
-        } => [
-            0x02,
-            CAROUSEL,
-            label as usize,
-            1,
-            network as usize,
-            transport as usize,
-            service as usize,
-            component as usize,
-        ],
-        _ => [NIL; 8],
     }
 }

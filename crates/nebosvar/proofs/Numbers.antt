@@ -25,7 +25,6 @@ use Rattle.carousel_handout.specs.Calls.{handoutNumber, handoutPlace, missingNu
 use Rattle.carousel_step.proofs.Exact.{step-number}
 use Rattle.carousel_handout.proofs.Laws.Calls.{report-number}
 use Rattle.ait_read.specs.declared.Scope.{Scope}
-use Rattle.ait_descriptors.specs.declared.Repeated.the-variants as repeated
 use Rattle.ait_read.specs.declared.ReadAnswer.{ReadAnswer}
 use Rattle.ait_read.specs.declared.ReadAnswer.the-variants as reading
 use Rattle.ait_read.specs.declared.ApplicationAnswer.{ApplicationAnswer}
@@ -75,7 +74,9 @@ use Rattle.receiver.proofs.Laws.Fates.{fate-tells}
 use Rattle.receiver.proofs.Laws.Refusals.{step-refused, step-some, table-some, take-some}
 use Rattle.receiver.specs.Kinds.{kindNumber, stopNumber}
 use Rattle.nebosvar.specs.Box.{stepOut, whatOut, takeOut, partOut, lackOut}
-use Rattle.ait_numbers.specs.Reading.{tableOut, applicationOut, describedOut, descriptorOut, noPlace, itemAsked, foundOut, itemOut, extensionOut, labelOut}
+use Rattle.ait_numbers.specs.declared.kinds.Asked.{Asked}
+use Rattle.ait_numbers.specs.declared.kinds.Asked.the-variants as asked
+use Rattle.ait_numbers.specs.Reading.{tableOut, applicationOut, describedOut, descriptorOut, noPlace, askedBy, answerAsked, itemAsked, foundOut, itemOut, extensionOut, labelOut}
 
 -- exactly one of refusal and kind is 0, where no refusal is
 abbrev pub OneOfTwo : (refusal kind : ℕ) → Type 0
@@ -187,15 +188,15 @@ module _ (s : List ℕ) where
       told (application.Found x) = refl
 
   described-is-none : (d : Described) → describedOut d .refusal ≡ 0
-  described-is-none (described.Application profiles bound visibility priority labels) = refl
-  described-is-none (described.Names names) = refl
-  described-is-none (described.Local label component) = refl
-  described-is-none (described.Remote label network transport service component) = refl
-  described-is-none (described.Bases label bases) = refl
-  described-is-none (described.Selector protocol label selector) = refl
-  described-is-none (described.Identifiers identifiers) = refl
-  described-is-none (described.Path path) = refl
-  described-is-none (described.Raw tag contents) = refl
+  described-is-none (described.Application x) = refl
+  described-is-none (described.Names n) = refl
+  described-is-none (described.Local x) = refl
+  described-is-none (described.Remote x) = refl
+  described-is-none (described.Bases x) = refl
+  described-is-none (described.Selector x) = refl
+  described-is-none (described.Identifiers n) = refl
+  described-is-none (described.Path p) = refl
+  described-is-none (described.Raw x) = refl
 
   pub descriptor-refusal : (o : Scope) (j : ℕ) → descriptorOut (descriptorAnswer s o j) .refusal ≡ placeNumber s (descriptorAt o j s)
   descriptor-refusal o j = told (descriptorAnswer s o j) ∙ descriptor-number s o j
@@ -215,14 +216,10 @@ module _ (s : List ℕ) where
   item-told (items.Refused r) = refl
   item-told (items.Found x) = found-is-none x
 
-  -- where an item of a kind lies; of a kind that is none of the five, nowhere
-  abbrev pub askedAt : Scope → (j kind k : ℕ) → Place
-  askedAt o j kind k =
-      cond (eqb kind 1) (repeatedAt o j repeated.Profiles k s)
-      (cond (eqb kind 2) (repeatedAt o j repeated.Names k s)
-      (cond (eqb kind 5) (repeatedAt o j repeated.Bases k s)
-      (cond (eqb kind 7) (repeatedAt o j repeated.Identifiers k s)
-      (cond (eqb kind 10) (repeatedAt o j repeated.Labels k s) Nothing))))
+  -- where an item lies that is asked for; of a kind that is none of the five, nowhere
+  abbrev pub askedAt : Scope → (j k : ℕ) → Asked → Place
+  askedAt o j k (asked.Items what) = repeatedAt o j what k s
+  askedAt o j k asked.Nothing = Nothing
 
   none-asked : numberOfItem (noPlace (readAnswer s)) ≡ placeNumber s Nothing
   unfolding placeNumber readNumber firstMet
@@ -232,20 +229,12 @@ module _ (s : List ℕ) where
       go (reading.Refused r) e = let n = sym (ap numberOfRead e) ∙ read-number s in rw (ne-eqb (readNumber s) 0 (λ z. table-some s r e (n ∙ z))) n
       go (reading.Accepted t) e = rw (eq-eqb (readNumber s) 0 (sym (read-number s) ∙ ap numberOfRead e))
 
-  pub item-refusal : (o : Scope) (j kind k : ℕ) → itemOut (itemAsked s o j kind k) .refusal ≡ placeNumber s (askedAt o j kind k)
-  unfolding itemAsked
-  item-refusal o j kind k = item-told (itemAsked s o j kind k) ∙ go (eqb kind 1) (eqb kind 2) (eqb kind 5) (eqb kind 7) (eqb kind 10)
+  pub item-refusal : (o : Scope) (j kind k : ℕ) → itemOut (itemAsked s o j kind k) .refusal ≡ placeNumber s (askedAt o j k (askedBy kind))
+  item-refusal o j kind k = item-told (itemAsked s o j kind k) ∙ go (askedBy kind)
     where
-      go : (a b c d e : Bool) → numberOfItem (cond a (itemAnswer s o j repeated.Profiles k) (cond b (itemAnswer s o j repeated.Names k)
-          (cond c (itemAnswer s o j repeated.Bases k) (cond d (itemAnswer s o j repeated.Identifiers k) (cond e (itemAnswer s o j repeated.Labels k) (noPlace (readAnswer s)))))))
-          ≡ placeNumber s (cond a (repeatedAt o j repeated.Profiles k s) (cond b (repeatedAt o j repeated.Names k s)
-          (cond c (repeatedAt o j repeated.Bases k s) (cond d (repeatedAt o j repeated.Identifiers k s) (cond e (repeatedAt o j repeated.Labels k s) Nothing)))))
-      go true b c d e = item-number s o j repeated.Profiles k
-      go false true c d e = item-number s o j repeated.Names k
-      go false false true d e = item-number s o j repeated.Bases k
-      go false false false true e = item-number s o j repeated.Identifiers k
-      go false false false false true = item-number s o j repeated.Labels k
-      go false false false false false = none-asked
+      go : (a : Asked) → numberOfItem (answerAsked s o j k a) ≡ placeNumber s (askedAt o j k a)
+      go (asked.Items what) = item-number s o j what k
+      go asked.Nothing = none-asked
 
   pub extension-refusal : (o : Scope) (j k m : ℕ) → extensionOut (extensionAnswer s o j k m) .refusal ≡ placeNumber s (extensionAt o j k m s)
   extension-refusal o j k m = told (extensionAnswer s o j k m) ∙ extension-number s o j k m

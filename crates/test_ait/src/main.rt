@@ -2,22 +2,29 @@
 // section, and writes all that can be asked of it by place, up to the first refusal of each list.
 // tests/test_ait.py, an independent second program, makes the input and says what must
 // come out.
+mod kinds;
+mod print;
+mod tag00;
+mod tag01;
+mod tag02;
+mod tag05;
+mod tag15;
 
-use ait_descriptors::Described;
+use crate::kinds::print_described;
+use crate::kinds::print_item;
+use crate::print::*;
+use crate::tag02::print_extensions;
 use ait_descriptors::Item;
 use ait_descriptors::Repeated;
-use ait_descriptors::Span;
 use ait_read::Application;
 use ait_read::ApplicationAnswer;
 use ait_read::Class;
 use ait_read::Control;
 use ait_read::DescriptorAnswer;
-use ait_read::ExtensionAnswer;
 use ait_read::ItemAnswer;
 use ait_read::ReadAnswer;
 use ait_read::Resolved;
 use ait_read::Scope;
-use section::Refusal;
 
 fn main() {
     let mut buffer = io::large_buffer();
@@ -120,24 +127,6 @@ fn print_items(s: &[u8], scope: Scope, j: usize, what: Repeated) {
     }
 }
 
-fn print_extensions(s: &[u8], scope: Scope, j: usize, k: usize) {
-    let mut m: usize = 0;
-    while m < 1024 {
-        match ait_read::extension_at(s, scope, j, k, m) {
-            ExtensionAnswer::Refused(r) => {
-                print_end(r);
-                return;
-            }
-            ExtensionAnswer::Found(x) => {
-                io::write_all(1, b"extension");
-                print_span(s, x);
-                io::write_all(1, b"\n");
-            }
-        }
-        m += 1;
-    }
-}
-
 fn print_labels(s: &[u8], i: usize) {
     let mut k: usize = 0;
     while k < 1024 {
@@ -148,34 +137,6 @@ fn print_labels(s: &[u8], i: usize) {
         }
         k += 1;
     }
-}
-
-// A line for each answer.
-fn print_number(n: u64) {
-    io::write_all(1, b" ");
-    io::print_decimal(1, n);
-}
-
-fn print_end(r: Refusal) {
-    io::write_all(1, b"end");
-    print_number(r.number as u64);
-    io::write_all(1, b"\n");
-}
-
-// The bytes of a span, in hexadecimal.
-fn print_span(s: &[u8], x: Span) {
-    io::write_all(1, b" ");
-    print_bytes(ait_read::part(s, x.start, x.size));
-}
-
-fn print_bytes(b: &[u8]) {
-    io::write_all(1, b"<");
-    let mut i = 0;
-    while i < b.len() {
-        io::print_hex(1, b[i] as u64, 2);
-        i += 1;
-    }
-    io::write_all(1, b">");
 }
 
 fn print_application(a: Application) {
@@ -229,124 +190,6 @@ fn print_control(c: Control) {
             io::write_all(1, b" reserved");
         }
     }
-}
-
-fn print_described(s: &[u8], d: Described) {
-    io::write_all(1, b"descriptor");
-    match d {
-        Described::Application {
-            profiles,
-            bound,
-            visibility,
-            priority,
-            labels,
-        } => {
-            io::write_all(1, b" application");
-            print_number(profiles as u64);
-            print_number(bound as u64);
-            print_number(visibility as u64);
-            print_number(priority as u64);
-            print_number(labels as u64);
-        }
-        Described::Names { names } => {
-            io::write_all(1, b" names");
-            print_number(names as u64);
-        }
-        Described::Identifiers { identifiers } => {
-            io::write_all(1, b" identifiers");
-            print_number(identifiers as u64);
-        }
-        Described::Path { path } => {
-            io::write_all(1, b" path");
-            print_span(s, path);
-        }
-        Described::Raw { tag, contents } => {
-            io::write_all(1, b" raw");
-            print_number(tag as u64);
-            print_span(s, contents);
-        }
-        _ => {
-            print_transport(s, d);
-        }
-    }
-    io::write_all(1, b"\n");
-}
-
-fn print_transport(s: &[u8], d: Described) {
-    match d {
-        Described::Local { label, component } => {
-            io::write_all(1, b" local");
-            print_number(label as u64);
-            print_number(component as u64);
-        }
-        Described::Remote {
-            label,
-            network,
-            transport,
-            service,
-            component,
-        } => {
-            io::write_all(1, b" remote");
-            print_number(label as u64);
-            print_number(network as u64);
-            print_number(transport as u64);
-            print_number(service as u64);
-            print_number(component as u64);
-        }
-        Described::Bases { label, bases } => {
-            io::write_all(1, b" http");
-            print_number(label as u64);
-            print_number(bases as u64);
-        }
-        Described::Selector {
-            protocol,
-            label,
-            selector,
-        } => {
-            io::write_all(1, b" transport");
-            print_number(protocol as u64);
-            print_number(label as u64);
-            print_span(s, selector);
-        }
-        _ => {}
-    }
-}
-
-fn print_item(s: &[u8], x: Item) {
-    match x {
-        Item::Profile(p) => {
-            io::write_all(1, b"profile");
-            print_number(p.number as u64);
-            print_number(p.major as u64);
-            print_number(p.minor as u64);
-            print_number(p.micro as u64);
-        }
-        Item::Label(l) => {
-            io::write_all(1, b"label");
-            print_number(l as u64);
-        }
-        Item::Name(n) => {
-            io::write_all(1, b"name");
-            print_number(n.first as u64);
-            print_number(n.second as u64);
-            print_number(n.third as u64);
-            let text = n.text;
-            print_span(s, text);
-        }
-        Item::Base(b) => {
-            io::write_all(1, b"base");
-            let text = b.text;
-            print_span(s, text);
-            print_number(b.extensions as u64);
-        }
-        Item::Identifier(i) => {
-            io::write_all(1, b"identifier");
-            print_number(i.organisation as u64);
-            print_number(i.number as u64);
-            print_number(i.priority as u64);
-        }
-    }
-    io::write_all(1, b"\n");
 }
 
 fn print_resolved(r: Resolved) {

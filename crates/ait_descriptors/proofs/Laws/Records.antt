@@ -7,15 +7,13 @@ use native.Mathlib.Omega.{arith}
 use lib.Dec.{eqb}
 use borrow.Author.Tests.{eq-eqb, ne-eqb, eqb-true, eqb-false}
 use Rattle.wire.specs.Fields.{byteAt, sixteenAt, bits}
-use Rattle.wire.specs.Items.{count}
-use Rattle.wire.specs.Places.{partAt}
-use Rattle.ait_descriptors.specs.Descriptor.{tagOf, restOf}
+use Rattle.ait_descriptors.specs.Descriptor.{tagOf}
 use Rattle.ait_descriptors.specs.declared.Described.{Described}
 use Rattle.ait_descriptors.specs.declared.Described.the-variants as described
 use Rattle.ait_descriptors.specs.declared.Repeated.{Repeated}
-use Rattle.ait_descriptors.specs.Contents.{describedOf, itemOf}
+use Rattle.ait_descriptors.specs.Contents.{rawFields, describedOf, itemOf}
 use Rattle.ait_descriptors.specs.Tag00.{described00}
-use Rattle.ait_descriptors.specs.Tag02.{base, basesIn, described1, described02}
+use Rattle.ait_descriptors.specs.Tag02.{localFields, remoteFields, basesFields, selectorFields, described1, described02}
 use Rattle.ait_descriptors.specs.Tag01.{described01}
 use Rattle.ait_descriptors.specs.Tag05.{described05}
 use Rattle.ait_descriptors.specs.Tag15.{described15}
@@ -30,11 +28,11 @@ top-is e = omega arith
 
 module _ (d : List ℕ) where
   pub is-remote : bits 7 1 (byteAt d 5) ≡ 1
-      → described.Remote (byteAt d 4) (sixteenAt d 6) (sixteenAt d 8) (sixteenAt d 10) (byteAt d 12) ≡ described1 d
+      → described.Remote (remoteFields d) ≡ described1 d
   unfolding described1
   is-remote e = rw (eq-eqb (bits 7 1 (byteAt d 5)) 1 e)
 
-  pub is-local : (bits 7 1 (byteAt d 5) ≡ 1 → ⊥) → described.Local (byteAt d 4) (byteAt d 6) ≡ described1 d
+  pub is-local : (bits 7 1 (byteAt d 5) ≡ 1 → ⊥) → described.Local (localFields d) ≡ described1 d
   unfolding described1
   is-local n = rw (ne-eqb (bits 7 1 (byteAt d 5)) 1 n)
 
@@ -43,12 +41,12 @@ module _ (d : List ℕ) where
     unfolding described02
     is-1 e = rw (eq-eqb (sixteenAt d 2) 1 e)
 
-    pub is-3 : sixteenAt d 2 ≡ 3 → described.Bases (byteAt d 4) (count base (partAt (basesIn d) d)) ≡ described02 d a
+    pub is-3 : sixteenAt d 2 ≡ 3 → described.Bases (basesFields d) ≡ described02 d a
     unfolding described02
     is-3 e = rw (ne-eqb (sixteenAt d 2) 1 (omega arith), eq-eqb (sixteenAt d 2) 3 e)
 
     pub is-other : (sixteenAt d 2 ≡ 1 → ⊥) → (sixteenAt d 2 ≡ 3 → ⊥)
-        → described.Selector (sixteenAt d 2) (byteAt d 4) (restOf 5 d a) ≡ described02 d a
+        → described.Selector (selectorFields d a) ≡ described02 d a
     unfolding described02
     is-other m n = rw (ne-eqb (sixteenAt d 2) 1 m, ne-eqb (sixteenAt d 2) 3 n)
 
@@ -76,7 +74,7 @@ module _ (d : List ℕ) where
     is-15 e = rw (ne-eqb t 0x00 (omega arith), ne-eqb t 0x01 (omega arith), ne-eqb t 0x02 (omega arith), ne-eqb t 0x05 (omega arith), eq-eqb t 0x15 e)
 
     pub is-raw : (t ≡ 0x00 → ⊥) → (t ≡ 0x01 → ⊥) → (t ≡ 0x02 → ⊥) → (t ≡ 0x05 → ⊥) → (t ≡ 0x15 → ⊥)
-        → described.Raw t (restOf 2 d a) ≡ describedOf d a
+        → described.Raw (rawFields d a) ≡ describedOf d a
     unfolding describedOf
     is-raw n₀ n₁ n₂ n₅ n₁₅ = rw (ne-eqb t 0x00 n₀, ne-eqb t 0x01 n₁, ne-eqb t 0x02 n₂, ne-eqb t 0x05 n₅, ne-eqb t 0x15 n₁₅)
 
@@ -86,14 +84,14 @@ item-is w what x a e = ap (λ (r : Repeated). itemOf r x a) (sym e)
 
 -- what holds of every case holds of what is read of a descriptor
 module _ (P : Described → Type 0) (d : List ℕ) (a : ℕ) where
-  pub cases-02 : P (described.Remote (byteAt d 4) (sixteenAt d 6) (sixteenAt d 8) (sixteenAt d 10) (byteAt d 12)) → P (described.Local (byteAt d 4) (byteAt d 6))
-      → P (described.Bases (byteAt d 4) (count base (partAt (basesIn d) d))) → P (described.Selector (sixteenAt d 2) (byteAt d 4) (restOf 5 d a)) → P (described02 d a)
+  pub cases-02 : P (described.Remote (remoteFields d)) → P (described.Local (localFields d))
+      → P (described.Bases (basesFields d)) → P (described.Selector (selectorFields d a)) → P (described02 d a)
   unfolding described02 described1
   cases-02 remote local bases selector = go (eqb (sixteenAt d 2) 1) (eqb (sixteenAt d 2) 3) (eqb (bits 7 1 (byteAt d 5)) 1)
     where
       go : (p q r : Bool) → P (cond p
-          (cond r (described.Remote (byteAt d 4) (sixteenAt d 6) (sixteenAt d 8) (sixteenAt d 10) (byteAt d 12)) (described.Local (byteAt d 4) (byteAt d 6)))
-          (cond q (described.Bases (byteAt d 4) (count base (partAt (basesIn d) d))) (described.Selector (sixteenAt d 2) (byteAt d 4) (restOf 5 d a))))
+          (cond r (described.Remote (remoteFields d)) (described.Local (localFields d)))
+          (cond q (described.Bases (basesFields d)) (described.Selector (selectorFields d a))))
       go true q true = remote
       go true q false = local
       go false true r = bases
@@ -101,7 +99,7 @@ module _ (P : Described → Type 0) (d : List ℕ) (a : ℕ) where
 
   pub cases : (tagOf d ≡ 0x02 → P (described02 d a))
       → ((tagOf d ≡ 0x02 → ⊥) → P (described00 d) × P (described01 d) × P (described05 d)
-      × P (described15 d a) × P (described.Raw (tagOf d) (restOf 2 d a))) → P (describedOf d a)
+      × P (described15 d a) × P (described.Raw (rawFields d a))) → P (describedOf d a)
   unfolding describedOf
   cases is others = go (eqb (tagOf d) 0x00) refl (eqb (tagOf d) 0x01) refl (eqb (tagOf d) 0x02) refl (eqb (tagOf d) 0x05) (eqb (tagOf d) 0x15)
     where
@@ -110,7 +108,7 @@ module _ (P : Described → Type 0) (d : List ℕ) (a : ℕ) where
           (cond t₁ (described01 d)
           (cond t₂ (described02 d a)
           (cond t₅ (described05 d)
-          (cond t₁₅ (described15 d a) (described.Raw (tagOf d) (restOf 2 d a)))))))
+          (cond t₁₅ (described15 d a) (described.Raw (rawFields d a)))))))
       go true e t₁ f t₂ g t₅ t₁₅ = others (λ z. let y = eqb-true (tagOf d) 0x00 e in absurd (omega (arith, y, z))) .0
       go false e true f t₂ g t₅ t₁₅ = others (λ z. let y = eqb-true (tagOf d) 0x01 f in absurd (omega (arith, y, z))) .1
       go false e false f true g t₅ t₁₅ = is (eqb-true _ _ g)

@@ -1,24 +1,28 @@
--- WHAT IS READ OF A DESCRIPTOR'S BYTES IS ITS VALUE.
-use Prim.Native.Nat.{ℕ, zero, suc, _+_, _-_, _*_, _/_, _^_, _≤_, _<_}
-use mathlib.Core.Path.{_≡_, refl, sym, ap, ap₂, _∙_}
-use mathlib.Core.List.{List, [], _∷_, _++_, append-assoc}
+-- WHAT IS READ OF A DESCRIPTOR'S BYTES IS ITS VALUE, whatever its tag.
+use Prim.Native.Nat.{ℕ, _+_, _-_, _≤_, _<_}
+use mathlib.Core.Path.{_≡_, sym, ap, _∙_}
+use mathlib.Core.List.{List, [], _++_}
 use native.Mathlib.Nat.{mod-eq-of-lt}
 use native.Mathlib.Omega.{arith}
 use lib.ListN.{length, take, drop, length-append}
-use lib.Seq.{getD-drop, drop-drop, drop-at, take-at}
+use lib.Seq.{getD-drop, drop-drop, drop-at}
 use Rattle.wire.specs.declared.Place.{Place}
-use Rattle.wire.specs.declared.Place.the-variants.{At}
-use Rattle.wire.specs.Fields.{byteAt, fieldAt, sixteenAt, bits, spelled}
-use Rattle.wire.specs.Items.{Size, count, items}
+use Rattle.wire.specs.Fields.{byteAt, fieldAt, spelled}
+use Rattle.wire.specs.Items.{Size, count, items, Whole, IsKind}
 use Rattle.wire.specs.Places.{after, bytes, partAt}
 use Rattle.wire.proofs.Laws.Fields.{field-one, field-drop, spelled-length, spelled-reads}
 use Rattle.wire.proofs.Laws.Finders.{after-at, bytes-at}
 use Rattle.wire.proofs.Laws.Loops.{tail}
 use Rattle.wire.proofs.Laws.Parts.{part-at}
-use Rattle.ait_descriptors.specs.Descriptor.{tagOf}
-use Rattle.ait_grammar.specs.Bytes.{sized8}
+use Rattle.ait_descriptors.specs.Descriptor.{tagOf, taggedRest, restOf}
+use Rattle.ait_grammar.specs.Bytes.{sized8, Each, spellAll}
 use Rattle.ait_grammar.specs.Contents.{DescriptorValue, spellContents, spellDescriptor, FitsDescriptor}
 use Rattle.ait_grammar.proofs.Laws.Loops.{behind}
+use Rattle.wire.proofs.Laws.Meaning.{append-nil}
+use Rattle.ait_descriptors.proofs.Laws.Lists.{tagged-is}
+use Rattle.ait_grammar.proofs.Laws.Forms.{Form}
+use Rattle.ait_grammar.proofs.Laws.Repeated.{filled-count}
+use Rattle.ait_grammar.specs.Span.{span}
 
 -- a number at the head of some bytes, and behind k of them
 pub first-said : (v : ℕ) (r : List ℕ) → v < 256 → byteAt (spelled 1 v ++ r) 0 ≡ v
@@ -26,6 +30,14 @@ first-said v r l = sym (field-one (spelled 1 v ++ r) 0) ∙ spelled-reads 1 v r 
 
 pub byte-behind : (v k : ℕ) (p r : List ℕ) → v < 256 → length p ≡ k → byteAt (p ++ (spelled 1 v ++ r)) k ≡ v
 byte-behind v k p r l e = sym (field-one (p ++ (spelled 1 v ++ r)) k) ∙ behind 1 v k p r l e
+
+-- the last of some bytes
+pub byte-last : (v k : ℕ) (p : List ℕ) → v < 256 → length p ≡ k → byteAt (p ++ spelled 1 v) k ≡ v
+byte-last v k p l e = ap (λ (y : List ℕ). byteAt (p ++ y) k) (sym (append-nil (spelled 1 v))) ∙ byte-behind v k p [] l e
+
+-- the rest of a descriptor after h bytes of its contents, of n bytes
+pub rest-span : (h : ℕ) (x : List ℕ) (a n : ℕ) → length x ≡ h + n → restOf h x a ≡ span (a + h) n
+rest-span h x a n e = let z : length x - h ≡ n = omega (arith, e) in λ i. record { start = a + h; size = z i }
 
 -- the tag, and all that follows the length
 module _ (d : DescriptorValue) (f : FitsDescriptor d) where
@@ -71,3 +83,12 @@ module _ (d : DescriptorValue) (f : FitsDescriptor d) where
   part-said k n l =
       ap (λ (p : Place). partAt p x) (bytes-at (2 + k) n x (rw length-said (omega arith)))
       ∙ part-at x (2 + k) n ∙ ap (take n) (drop-said k)
+
+  -- CONTENTS THAT ARE VALUES LAID END TO END: they are the items of the descriptor, and are counted
+  module _ {A : Type 0} (spell : A → List ℕ) (t : ℕ) (e : d .tag ≡ t) (vs : List A) (h : c ≡ spellAll spell vs) where
+    pub filled-listed : partAt (taggedRest t 2 x) x ≡ spellAll spell vs
+    filled-listed = ap (λ (p : Place). partAt p x) (sym (tagged-is x t 2 (tag-said ∙ e))) ∙ after-said 0 (omega arith) ∙ h
+
+    pub filled-said : {Fits : A → Type 0} (size : Size) → IsKind size → Form (λ y. Whole size y) spell Fits → Each Fits vs → count size (partAt (taggedRest t 2 x) x) ≡ length vs
+    unfolding count
+    filled-said size k F g = ap (λ (y : List ℕ). length (items size y)) filled-listed ∙ filled-count size k F vs g

@@ -62,15 +62,15 @@ wider x b m a n i l = (omega arith, omega arith)
 
 -- the spans that a descriptor's answer carries
 abbrev pub SpansLie : Described → ℕ → ℕ → Type 0
-SpansLie (described.Application p b v r l) a n = Unit {0}
+SpansLie (described.Application x) a n = Unit {0}
 SpansLie (described.Names k) a n = Unit {0}
-SpansLie (described.Local l c) a n = Unit {0}
-SpansLie (described.Remote l w t v c) a n = Unit {0}
-SpansLie (described.Bases l b) a n = Unit {0}
-SpansLie (described.Selector p l x) a n = Lies x a n
+SpansLie (described.Local x) a n = Unit {0}
+SpansLie (described.Remote x) a n = Unit {0}
+SpansLie (described.Bases x) a n = Unit {0}
+SpansLie (described.Selector x) a n = Lies (x .selector) a n
 SpansLie (described.Identifiers k) a n = Unit {0}
 SpansLie (described.Path x) a n = Lies x a n
-SpansLie (described.Raw t x) a n = Lies x a n
+SpansLie (described.Raw x) a n = Lies (x .contents) a n
 
 -- a base that was found has its text and its count
 pub whole-base : (s : L.List ℕ) (o : Scope) (j k b m : ℕ) → repeatedAt o j Bases k s ≡ At b m → extensionsStart (take m (drop b s)) ≤ m

@@ -1,5 +1,5 @@
 -- `ait_descriptors::descriptor::describe` meets its contract.
-use mathlib.Core.Path.{sym, ap₂, _∙_}
+use mathlib.Core.Path.{sym, ap, _∙_}
 use Rattle.ait_descriptors.specs.declared.Described.the-variants as described
 use Rattle.ait_descriptors.proofs.Laws.Records.{is-00, is-01, is-02, is-05, is-15, is-raw}
 use borrow.Author.Needs.{needs}
@@ -24,8 +24,8 @@ described-05-requires c κs = search needs
 described-15-requires : tie.Need-described-15-requires
 described-15-requires c κs = search needs
 
-rest-of-requires : tie.Need-rest-of-requires
-rest-of-requires c κs = search needs
+raw-of-requires : tie.Need-raw-of-requires
+raw-of-requires c κs = search needs
 
 returns : tie.Need-returns
 returns c = c .described-00 .ensures ∙ is-00 _ _ (sym (c .before .before .byte-at .ensures .0) ∙ c .before .match .keys1)
@@ -46,7 +46,7 @@ returns-6 : tie.Need-returns-6
 returns-6 c =
     let t = c .before .before .byte-at .ensures .0 in
     let n = c .before .match .rest in
-    ap₂ described.Raw t (c .rest-of .ensures) ∙ is-raw _ _ (λ e. n .0 .0 .0 .0 .1 (t ∙ e)) (λ e. n .0 .0 .0 .1 (t ∙ e)) (λ e. n .0 .0 .1 (t ∙ e)) (λ e. n .0 .1 (t ∙ e)) (λ e. n .1 (t ∙ e))
+    ap described.Raw (c .raw-of .ensures) ∙ is-raw _ _ (λ e. n .0 .0 .0 .0 .1 (t ∙ e)) (λ e. n .0 .0 .0 .1 (t ∙ e)) (λ e. n .0 .0 .1 (t ∙ e)) (λ e. n .0 .1 (t ∙ e)) (λ e. n .1 (t ∙ e))
 
 pub describe-spec : {M : Type 1} → statement M
 describe-spec =
@@ -58,7 +58,7 @@ describe-spec =
     described-02-requires
     described-05-requires
     described-15-requires
-    rest-of-requires
+    raw-of-requires
     returns
     returns-2
     returns-3

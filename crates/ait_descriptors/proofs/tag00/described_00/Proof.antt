@@ -61,7 +61,15 @@ returns c =
     let flags = byte-past d 3 (b .byte-at .ensures .0) n in
     let profiles = c .before .before .before .count-within .ensures ∙ count-of _ _ _ d (c .before .before .before .before .profiles-in .ensures) in
     let labels = c .count-within2 .ensures ∙ count-of _ _ _ d (c .before .labels-in .ensures) in
-    λ i. described.Application (profiles i) (top-is (flags, b .byte-at .ensures .1) i) ((masked 5 2 _ ∙ ap (bits 5 2) flags) i) (byte-past d 4 (c .before .before .byte-at2 .ensures .0) n i) (labels i)
+    λ i.
+    described.Application
+    (record {
+      profiles = profiles i;
+      bound = top-is (flags, b .byte-at .ensures .1) i;
+      visibility = (masked 5 2 _ ∙ ap (bits 5 2) flags) i;
+      priority = byte-past d 4 (c .before .before .byte-at2 .ensures .0) n i;
+      labels = labels i;
+    })
 
 pub described-00-spec : {M : Type 1} → statement M
 described-00-spec =

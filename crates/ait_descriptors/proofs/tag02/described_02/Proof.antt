@@ -1,5 +1,5 @@
 -- `ait_descriptors::tag02::described_02` meets its contract.
-use mathlib.Core.Path.{sym, ap₂, _∙_}
+use mathlib.Core.Path.{sym, _∙_}
 use Rattle.ait_descriptors.specs.declared.Described.the-variants as described
 use Rattle.ait_descriptors.specs.Kinds.{sizeOf}
 use Rattle.ait_descriptors.proofs.Laws.Records.{is-1, is-3, is-other}
@@ -36,14 +36,16 @@ returns-2 : tie.Need-returns-2
 unfolding sizeOf
 returns-2 c =
     let t = c .before .before .before in
-    ap₂ described.Bases (c .before .before .byte-at .ensures .0) (c .count-within .ensures ∙ count-of _ _ _ _ (c .before .bases-in .ensures))
+    let bases = c .count-within .ensures ∙ count-of _ _ _ _ (c .before .bases-in .ensures) in
+    (λ i. described.Bases (record { label = c .before .before .byte-at .ensures .0 i; bases = bases i }))
     ∙ is-3 _ _ (sym (t .before .sixteen-at .ensures .0) ∙ t .match .keys2)
 
 returns-3 : tie.Need-returns-3
 returns-3 c =
     let t = c .before .before .before .sixteen-at .ensures .0 in
     let n = c .before .before .match .rest in
-    (λ i. described.Selector (t i) (c .before .byte-at2 .ensures .0 i) (c .rest-of .ensures i)) ∙ is-other _ _ (λ e. n .0 .1 (t ∙ e)) (λ e. n .1 (t ∙ e))
+    (λ i. described.Selector (record { protocol = t i; label = c .before .byte-at2 .ensures .0 i; selector = c .rest-of .ensures i }))
+    ∙ is-other _ _ (λ e. n .0 .1 (t ∙ e)) (λ e. n .1 (t ∙ e))
 
 pub described-02-spec : {M : Type 1} → statement M
 described-02-spec =

@@ -1,5 +1,5 @@
 -- `ait_descriptors::tag02::described_1` meets its contract.
-use mathlib.Core.Path.{sym, ap₂, _∙_}
+use mathlib.Core.Path.{sym, _∙_}
 use Rattle.ait_descriptors.specs.declared.Described.the-variants as described
 use Rattle.ait_descriptors.proofs.Laws.Records.{top-is, is-remote, is-local}
 use borrow.Author.Needs.{needs}
@@ -32,18 +32,21 @@ returns : tie.Need-returns
 returns c =
     let k = after-byte-at2-of-then1 (c .before .before .before .before) in
     (λ i.
-    described.Remote (k .before .byte-at .ensures .0 i)
-    (c .before .before .before .sixteen-at .ensures .0 i)
-    (c .before .before .sixteen-at2 .ensures .0 i)
-    (c .before .sixteen-at3 .ensures .0 i)
-    (c .byte-at3 .ensures .0 i))
+    described.Remote
+    (record {
+      label = k .before .byte-at .ensures .0 i;
+      network = c .before .before .before .sixteen-at .ensures .0 i;
+      transport = c .before .before .sixteen-at2 .ensures .0 i;
+      service = c .before .sixteen-at3 .ensures .0 i;
+      component = c .byte-at3 .ensures .0 i;
+    }))
     ∙ is-remote _ (sym (top-is (k .byte-at2 .ensures)) ∙ c .before .before .before .before .if1 .taken)
 
 byte-at-requires-4 : tie.Need-byte-at-requires-4
 byte-at-requires-4 c κs = search needs
 
 returns-2 : tie.Need-returns-2
-returns-2 c = ap₂ described.Local (c .before .before .before .byte-at .ensures .0) (c .byte-at4 .ensures .0)
+returns-2 c = (λ i. described.Local (record { label = c .before .before .before .byte-at .ensures .0 i; component = c .byte-at4 .ensures .0 i }))
     ∙ is-local _ (λ e. c .before .if1 .left (top-is (c .before .before .byte-at2 .ensures) ∙ e))
 
 pub described-1-spec : {M : Type 1} → statement M

@@ -1,7 +1,7 @@
--- `ait_numbers::identifier_out` meets its contract: the number beside its class.
+-- `ait_numbers::tag05::identifier_out` meets its contract: the number beside its class.
 use borrow.Author.Needs.{needs}
-use Rattle.ait_numbers.proofs.identifier_out.Statement.{statement}
-use Rattle.ait_numbers.proofs.identifier_out.Tie as tie
+use Rattle.ait_numbers.proofs.tag05.identifier_out.Statement.{statement}
+use Rattle.ait_numbers.proofs.tag05.identifier_out.Tie as tie
 
 class-of-requires : tie.Need-class-of-requires
 class-of-requires c κs = search needs

@@ -1,8 +1,8 @@
--- `ait_numbers::control_number` meets its contract, case by case.
-use Rattle.ait_numbers.specs.Reading.{controlNumber}
+-- `ait_numbers::classes::control_number` meets its contract, case by case.
+use Rattle.ait_numbers.specs.Classes.{controlNumber}
 use borrow.Author.Needs.{needs}
-use Rattle.ait_numbers.proofs.control_number.Statement.{statement}
-use Rattle.ait_numbers.proofs.control_number.Tie as tie
+use Rattle.ait_numbers.proofs.classes.control_number.Statement.{statement}
+use Rattle.ait_numbers.proofs.classes.control_number.Tie as tie
 
 enum-told : tie.Need-enum-told
 enum-told c = search needs

@@ -1,8 +1,8 @@
 -- `put_extensions` ends.
 use borrow.Author.Needs.{needs}
 use Prim.Native.Nat.{_≤_, _-_}
-use Rattle.inspect.proofs.items.put_extensions.Statement.{statement}
-use Rattle.inspect.proofs.items.put_extensions.Tie as tie
+use Rattle.inspect.proofs.tag02.put_extensions.Statement.{statement}
+use Rattle.inspect.proofs.tag02.put_extensions.Tie as tie
 
 abbrev Inv-loop : tie.InvT-loop
 Inv-loop out₀ at s holder k count end₀ m₀ out end m = m ≤ count

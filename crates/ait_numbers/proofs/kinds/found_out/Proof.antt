@@ -1,7 +1,7 @@
--- `ait_numbers::found_out` meets its contract, case by case.
+-- `ait_numbers::kinds::found_out` meets its contract, case by case.
 use borrow.Author.Needs.{needs}
-use Rattle.ait_numbers.proofs.found_out.Statement.{statement}
-use Rattle.ait_numbers.proofs.found_out.Tie as tie
+use Rattle.ait_numbers.proofs.kinds.found_out.Statement.{statement}
+use Rattle.ait_numbers.proofs.kinds.found_out.Tie as tie
 
 enum-known-x : tie.Need-enum-known-x
 enum-known-x c = search needs
@@ -12,8 +12,8 @@ profile-out-requires c κs = search needs
 enum-known-x-2 : tie.Need-enum-known-x-2
 enum-known-x-2 c = search needs
 
-label-out-requires : tie.Need-label-out-requires
-label-out-requires c κs = search needs
+label-item-out-requires : tie.Need-label-item-out-requires
+label-item-out-requires c κs = search needs
 
 enum-known-x-3 : tie.Need-enum-known-x-3
 enum-known-x-3 c = search needs
@@ -37,7 +37,7 @@ returns : tie.Need-returns
 returns c = rw (c .before .before .x .given .1) (c .profile-out .ensures)
 
 returns-2 : tie.Need-returns-2
-returns-2 c = rw (c .before .before .x2 .given .1) (c .label-out .ensures)
+returns-2 c = rw (c .before .before .x2 .given .1) (c .label-item-out .ensures)
 
 returns-3 : tie.Need-returns-3
 returns-3 c = rw (c .before .before .x3 .given .1) (c .name-out .ensures)
@@ -55,7 +55,7 @@ found-out-spec =
     enum-known-x
     profile-out-requires
     enum-known-x-2
-    label-out-requires
+    label-item-out-requires
     enum-known-x-3
     name-out-requires
     enum-known-x-4

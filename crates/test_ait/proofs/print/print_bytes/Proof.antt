@@ -1,10 +1,10 @@
--- `test_ait::print_bytes` stays within its slice and ends.
+-- `test_ait::print::print_bytes` stays within its slice and ends.
 use borrow.Author.Needs.{needs}
 use native.Mathlib.Omega.{arith}
 use Prim.Native.Nat.{_≤_, _-_}
 use lib.ListN.{length}
-use Rattle.test_ait.proofs.print_bytes.Statement.{statement}
-use Rattle.test_ait.proofs.print_bytes.Tie as tie
+use Rattle.test_ait.proofs.print.print_bytes.Statement.{statement}
+use Rattle.test_ait.proofs.print.print_bytes.Tie as tie
 
 abbrev Inv-loop : tie.InvT-loop
 Inv-loop b i₀ t4 i = i ≤ length b

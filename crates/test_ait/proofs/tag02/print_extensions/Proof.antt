@@ -1,8 +1,8 @@
--- `test_ait::print_extensions` stays within its slice and ends.
+-- `test_ait::tag02::print_extensions` stays within its slice and ends.
 use borrow.Author.Needs.{needs}
 use Prim.Native.Nat.{_≤_, _-_}
-use Rattle.test_ait.proofs.print_extensions.Statement.{statement}
-use Rattle.test_ait.proofs.print_extensions.Tie as tie
+use Rattle.test_ait.proofs.tag02.print_extensions.Statement.{statement}
+use Rattle.test_ait.proofs.tag02.print_extensions.Tie as tie
 
 abbrev Inv-loop : tie.InvT-loop
 Inv-loop s scope j k m₀ t8 t9 m = m ≤ 1024
