@@ -1,4 +1,5 @@
 pub mod Kinds
 pub mod Contents
 pub mod Lists
+pub mod Tags
 pub mod Records

@@ -41,15 +41,18 @@ wellMade d = contentsGood (tagOf d) (contentsOf d)
 abbrev pub rawFields : List ℕ → ℕ → Raw
 rawFields d a = record { tag = tagOf d; contents = restOf 2 d a }
 
--- "A descriptor answer is an enum whose cases carry fields and places, one case for raw"
-unfoldable pub describedOf : List ℕ → ℕ → Described
-describedOf d a =
-    cond (eqb (tagOf d) 0x00) (described00 d)
-    (cond (eqb (tagOf d) 0x01) (described01 d)
-    (cond (eqb (tagOf d) 0x02) (described02 d a)
-    (cond (eqb (tagOf d) 0x05) (described05 d)
-    (cond (eqb (tagOf d) 0x15) (described15 d a)
+-- "A descriptor answer is an enum whose cases carry fields and places, one case for raw": what is read of a descriptor that begins at a, by its tag
+unfoldable pub describedAs : (tag : ℕ) → List ℕ → ℕ → Described
+describedAs tag d a =
+    cond (eqb tag 0x00) (described00 d)
+    (cond (eqb tag 0x01) (described01 d)
+    (cond (eqb tag 0x02) (described02 d a)
+    (cond (eqb tag 0x05) (described05 d)
+    (cond (eqb tag 0x15) (described15 d a)
     (described.Raw (rawFields d a))))))
+
+abbrev pub describedOf : List ℕ → ℕ → Described
+describedOf d a = describedAs (tagOf d) d a
 
 -- "the items repeated within a descriptor (in 0x00 profiles and labels apart; ..)": where they lie in it; their kind; and what is read of one that
 -- begins at a. A descriptor of another tag has no such items.

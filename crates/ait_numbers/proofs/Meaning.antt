@@ -1,19 +1,19 @@
 -- What the numbers mean: a class bears its code; an item is of the kind that was asked for; the number of the common loop is no application's.
-use Prim.Native.Nat.{ℕ, zero, suc, _≤_, _<_}
+use Prim.Native.Nat.{ℕ, _<_}
 use mathlib.Core.Path.{_≡_, refl, sym, ap, _∙_}
 use mathlib.Core.Bool.{Bool, true, false, cond}
-use mathlib.Core.List.{List, [], _∷_}
+use mathlib.Core.List.{List}
 use native.Mathlib.Omega.{arith}
 use lib.Dec.{eqb}
-use lib.ListN.{length, take, drop, length-drop}
+use lib.ListN.{take, drop}
 use borrow.Author.Tests.{eqb-true}
 use Rattle.wire.specs.declared.Place.{Place}
 use Rattle.wire.specs.declared.Place.the-variants.{At, Nothing}
-use Rattle.wire.specs.Fields.{byteAt, sixteenAt, bits}
 use Rattle.wire.specs.Items as wire
-use Rattle.wire.specs.Items.{Size, itemsIn, count}
+use Rattle.wire.specs.Items.{itemsIn}
 use Rattle.wire.specs.Places.{inPart, partAt, first, firstFrom}
-use Rattle.wire.proofs.Laws.Parts.{item-past}
+use Rattle.wire.proofs.Laws.Meaning.{count-few}
+use Rattle.wire.proofs.Laws.Parts.{item-past, part-few}
 use Rattle.section.specs.declared.Header.{Header}
 use Rattle.section.specs.declared.Checked.the-variants.{Accepted}
 use Rattle.ait_descriptors.specs.Tag15.{described15}
@@ -21,8 +21,8 @@ use Rattle.ait_descriptors.specs.Tag05.{described05}
 use Rattle.ait_descriptors.specs.Tag01.{described01}
 use Rattle.ait_descriptors.specs.declared.Kind.the-variants as kind
 use Rattle.ait_descriptors.specs.Kinds.{sizeOf, countAt}
-use Rattle.ait_descriptors.specs.Descriptor.{tagOf}
 use Rattle.ait_descriptors.proofs.Laws.Kinds.{kind-of}
+use Rattle.ait_descriptors.proofs.Laws.Records.{cases-02, cases}
 use Rattle.ait_read.specs.declared.Control.the-variants as control
 use Rattle.ait_read.specs.Acceptance.{tableJudged}
 use Rattle.ait_read.specs.declared.Scope.{Scope}
@@ -31,7 +31,6 @@ use Rattle.ait_descriptors.specs.declared.Repeated.the-variants as repeated
 use Rattle.ait_descriptors.specs.declared.Described.{Described}
 use Rattle.ait_read.specs.Records.{controlOf}
 use Rattle.ait_descriptors.specs.Tag00.{described00}
-use Rattle.ait_descriptors.specs.Tag02.{described1, described02}
 use Rattle.ait_descriptors.specs.Contents.{describedOf, repeatedCount, kindOf, listIn}
 use Rattle.ait_descriptors.specs.declared.Item.{Item}
 use Rattle.ait_read.specs.declared.ItemAnswer.the-variants as items
@@ -65,30 +64,6 @@ pub reserved-is-reserved : controlOf (controlNumber control.Reserved) ≡ contro
 unfolding controlOf controlNumber
 reserved-is-reserved = refl
 
--- no item is empty, so there are no more of them than bytes
-few : (n : ℕ) (size : Size) (xs : List ℕ) → length (itemsIn n size xs) ≤ n
-unfolding itemsIn
-few zero size xs = omega arith
-few (suc n) size xs = go (few n size (drop (size xs) xs)) (eqb (size xs) 0)
-  where
-    go : length (itemsIn n size (drop (size xs) xs)) ≤ n → (t : Bool) → length (cond t [] (take (size xs) xs ∷ itemsIn n size (drop (size xs) xs))) ≤ suc n
-    go l true = omega arith
-    go l false = omega (arith, l)
-
-count-few : (size : Size) (xs : List ℕ) → count size xs ≤ length xs
-unfolding count wire.items
-count-few size xs = few (length xs) size xs
-
-take-few : (n : ℕ) (xs : List ℕ) → length (take n xs) ≤ length xs
-take-few zero xs = omega arith
-take-few (suc n) [] = omega arith
-take-few (suc n) (x ∷ xs) = let l = take-few n xs in omega (arith, l)
-
-part-few : (p : Place) (s : List ℕ) → length (partAt p s) ≤ length s
-unfolding partAt
-part-few Nothing s = omega arith
-part-few (At a n) s = let l = take-few n (drop a s) in let d = length-drop a s in omega (arith, l, d)
-
 -- the number by which items are asked for
 abbrev numberOf : Repeated → ℕ
 numberOf repeated.Profiles = 1
@@ -111,23 +86,20 @@ module _ (x : List ℕ) (a k : ℕ) where
   Counts d = (k < describedOut d .count → (w : Repeated) × (numberOf w ≡ describedOut d .kind) × (k < repeatedCount w x))
       × (k < describedOut d .labels → k < repeatedCount repeated.Labels x)
 
-  either : (t : Bool) (d e : Described) → Counts d → Counts e → Counts (cond t d e)
-  either true d e p q = p
-  either false d e p q = q
-
   never : {A : Type 0} → k < 0 → A
   never l = absurd (omega (arith, l))
 
   counted : Counts (describedOf x a)
-  unfolding describedOf described00 described01 described02 described1 described05 described15 repeatedCount countAt sizeOf kindOf listIn
-  counted =
-      either (eqb (tagOf x) 0x00) _ _ ((λ l. (repeated.Profiles, refl, l)), λ l. l)
-      (either (eqb (tagOf x) 0x01) _ _ ((λ l. (repeated.Names, refl, l)), never)
-      (either (eqb (tagOf x) 0x02) _ _
-      (either (eqb (sixteenAt x 2) 1) _ _ (either (eqb (bits 7 1 (byteAt x 5)) 1) _ _ (never, never) (never, never))
-      (either (eqb (sixteenAt x 2) 3) _ _ ((λ l. (repeated.Bases, refl, l)), never) (never, never)))
-      (either (eqb (tagOf x) 0x05) _ _ ((λ l. (repeated.Identifiers, refl, l)), never)
-      (either (eqb (tagOf x) 0x15) _ _ (never, never) (never, never)))))
+  unfolding described00 described01 described05 described15 repeatedCount countAt sizeOf kindOf listIn
+  counted = cases Counts x a
+      (λ t. cases-02 Counts x a (never, never) (never, never) ((λ l. (repeated.Bases, refl, l)), never) (never, never))
+      (λ n. (
+        ((λ l. (repeated.Profiles, refl, l)), λ l. l),
+        ((λ l. (repeated.Names, refl, l)), never),
+        ((λ l. (repeated.Identifiers, refl, l)), never),
+        (never, never),
+        (never, never),
+      ))
 
 module _ (s : List ℕ) (h : Header) (e : tableJudged s ≡ Accepted h) where
   -- an item below a list's count is found by the list's number

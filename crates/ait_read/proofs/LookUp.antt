@@ -48,7 +48,7 @@ use Rattle.ait_read.specs.Places.{loopAt, applicationAt, ownAt, commonAt
 use Rattle.ait_descriptors.specs.Tag00.{described00, labelsIn}
 use Rattle.ait_read.specs.Labels.{firstTo, hitAmong, resolvedIn, labelAt}
 use Rattle.ait_read.specs.Answers.{onLocated, descriptorAnswer, itemAnswer, resolveAnswer, numberOfResolved}
-use Rattle.ait_read.specs.Resolved.{Bears, Shows, First, None, IsLabel, NoLabel, Says}
+use Rattle.ait_read.specs.Resolved.{Bears, Shows, FirstShown, NoneShown, IsLabel, NoLabel, Says}
 use Rattle.ait_descriptors.proofs.Laws.Records.{cases-02, cases}
 use Rattle.ait_read.proofs.Laws.Places.{sound-loop}
 use Rattle.ait_read.proofs.Laws.Labels.{own-hit, common-hit, no-hit, label-none, label-is}
@@ -87,19 +87,19 @@ module _ (s : L.List ℕ) (o : Scope) (l m : ℕ) where
 
 -- the first hit in a scope, and no hit, as the look-up finds them
 module _ (s : L.List ℕ) (g : FormedTable s) (o : Scope) (l : ℕ) where
-  is-first : (j : ℕ) → firstTo (Labelled l) (partAt (scopeAt o s) s) ≡ Item j → First s o l j
+  is-first : (j : ℕ) → firstTo (Labelled l) (partAt (scopeAt o s) s) ≡ Item j → FirstShown s o l j
   is-first j e =
       let d = first-descriptor s o (Labelled l) j e in
       (shows s o l j g (d .0 .0) (d .0 .1) (d .0 .2) (d .0 .3), λ m h w. let x = shown s o l m w in clash _ (x .3) (d .1 m (x .0) (x .1) h (x .2)))
 
-  is-none : firstTo (Labelled l) (partAt (scopeAt o s) s) ≡ Missing → None s o l
+  is-none : firstTo (Labelled l) (partAt (scopeAt o s) s) ≡ Missing → NoneShown s o l
   is-none e m w = let x = shown s o l m w in clash _ (x .3) (no-descriptor s o (Labelled l) e m (x .0) (x .1) (x .2))
 
   -- and the other way round, since two first hits are one
-  hit-first : (j : ℕ) → First s o l j → firstTo (Labelled l) (partAt (scopeAt o s) s) ≡ Item j
+  hit-first : (j : ℕ) → FirstShown s o l j → firstTo (Labelled l) (partAt (scopeAt o s) s) ≡ Item j
   hit-first j p = go (firstTo (Labelled l) (partAt (scopeAt o s) s)) refl
     where
-      one : (m : ℕ) → First s o l m → m ≡ j
+      one : (m : ℕ) → FirstShown s o l m → m ≡ j
       one m q = elim (decLt j m) [
         | yes h ↦ absurd (q .1 j h (p .0))
         | no h ↦ elim (decLt m j) [
@@ -112,7 +112,7 @@ module _ (s : L.List ℕ) (g : FormedTable s) (o : Scope) (l : ℕ) where
       go (Item m) e = e ∙ ap Item (one m (is-first m e))
       go Missing e = absurd (is-none e j (p .0))
 
-  hit-none : None s o l → firstTo (Labelled l) (partAt (scopeAt o s) s) ≡ Missing
+  hit-none : NoneShown s o l → firstTo (Labelled l) (partAt (scopeAt o s) s) ≡ Missing
   hit-none n = go (firstTo (Labelled l) (partAt (scopeAt o s) s)) refl
     where
       go : (h : Hit) → firstTo (Labelled l) (partAt (scopeAt o s) s) ≡ h → firstTo (Labelled l) (partAt (scopeAt o s) s) ≡ Missing

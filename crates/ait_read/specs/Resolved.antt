@@ -42,11 +42,11 @@ Bears l (described.Raw x) = ⊥
 abbrev pub Shows : L.List ℕ → Scope → ℕ → ℕ → Type 0
 Shows s o l j = (x : Described) × (descriptorAnswer s o j ≡ descriptor.Found x) × Bears l x
 
-abbrev pub First : L.List ℕ → Scope → ℕ → ℕ → Type 0
-First s o l j = Shows s o l j × ((m : ℕ) → m < j → Shows s o l m → ⊥)
+abbrev pub FirstShown : L.List ℕ → Scope → ℕ → ℕ → Type 0
+FirstShown s o l j = Shows s o l j × ((m : ℕ) → m < j → Shows s o l m → ⊥)
 
-abbrev pub None : L.List ℕ → Scope → ℕ → Type 0
-None s o l = (m : ℕ) → Shows s o l m → ⊥
+abbrev pub NoneShown : L.List ℕ → Scope → ℕ → Type 0
+NoneShown s o l = (m : ℕ) → Shows s o l m → ⊥
 
 -- the label at place k of application i is l: `item_at` shows it in one of the application's own descriptors (only a 0x00 has labels, and there is one: `sole-place`)
 abbrev pub IsLabel : L.List ℕ → ℕ → ℕ → ℕ → Type 0
@@ -60,6 +60,6 @@ NoLabel s i k = (countAt kind.Application (loopAt s) s ≤ i)
 -- what each answer of `resolve` says
 abbrev pub Says : L.List ℕ → ℕ → ℕ → Resolved → Type 0
 Says s i k (resolved.Refused r) = (tableJudged s ≡ Refused r) ⊎ ((r ≡ refused 19) × FormedTable s × NoLabel s i k)
-Says s i k (resolved.Own j) = (l : ℕ) × IsLabel s i k l × First s (scope.Own i) l j
-Says s i k (resolved.Common n j) = (l : ℕ) × IsLabel s i k l × (n ≡ 0) × None s (scope.Own i) l × First s scope.Common l j
-Says s i k resolved.Unresolved = (l : ℕ) × IsLabel s i k l × None s (scope.Own i) l × None s scope.Common l
+Says s i k (resolved.Own j) = (l : ℕ) × IsLabel s i k l × FirstShown s (scope.Own i) l j
+Says s i k (resolved.Common n j) = (l : ℕ) × IsLabel s i k l × (n ≡ 0) × NoneShown s (scope.Own i) l × FirstShown s scope.Common l j
+Says s i k resolved.Unresolved = (l : ℕ) × IsLabel s i k l × NoneShown s (scope.Own i) l × NoneShown s scope.Common l

@@ -10,13 +10,11 @@ use lib.Seq.{getD-drop}
 use Rattle.wire.specs.Fields.{byteAt}
 use borrow.Author.Tests.{eq-eqb, ne-eqb, le-leb, lt-leb, leb-true}
 use Rattle.wire.specs.Items.{fills}
-use Rattle.ait_descriptors.specs.Tag01.{name, good01}
 use Rattle.ait_descriptors.specs.Tag02.{base, good02, selector1, selector3, selector, remoteOf, protocolOf}
-use Rattle.ait_descriptors.specs.Tag05.{identifier, good05}
 use Rattle.ait_descriptors.specs.declared.Test.{Test}
 use Rattle.ait_descriptors.specs.declared.Test.the-variants.{Malformed, Tagged, Labelled}
 use Rattle.ait_descriptors.specs.Descriptor.{tagOf, contentsOf}
-use Rattle.ait_descriptors.specs.Contents.{wellMade, testOf, contentsGood}
+use Rattle.ait_descriptors.specs.Contents.{wellMade, testOf}
 use Rattle.ait_descriptors.specs.Tag00.{profilesLength, good00}
 
 -- contents of a descriptor too short to have any
@@ -71,27 +69,6 @@ module _ (p : ℕ) (c : List ℕ) where
   pub selector-raw : (p ≡ 1 → ⊥) → (p ≡ 3 → ⊥) → true ≡ selector p c
   unfolding selector
   selector-raw a b = rw (ne-eqb p 1 a, ne-eqb p 3 b)
-
-module _ (t : ℕ) (c : List ℕ) where
-  pub good-00 : t ≡ 0x00 → good00 c ≡ contentsGood t c
-  unfolding contentsGood
-  good-00 e = rw (eq-eqb t 0 e)
-
-  pub good-01 : t ≡ 0x01 → good01 c ≡ contentsGood t c
-  unfolding contentsGood
-  good-01 e = rw (ne-eqb t 0 (omega arith), eq-eqb t 1 e)
-
-  pub good-02 : t ≡ 0x02 → good02 c ≡ contentsGood t c
-  unfolding contentsGood
-  good-02 e = rw (ne-eqb t 0 (omega arith), ne-eqb t 1 (omega arith), eq-eqb t 2 e)
-
-  pub good-05 : t ≡ 0x05 → good05 c ≡ contentsGood t c
-  unfolding contentsGood
-  good-05 e = rw (ne-eqb t 0 (omega arith), ne-eqb t 1 (omega arith), ne-eqb t 2 (omega arith), eq-eqb t 5 e)
-
-  pub known-raw : (t ≡ 0x00 → ⊥) → (t ≡ 0x01 → ⊥) → (t ≡ 0x02 → ⊥) → (t ≡ 0x05 → ⊥) → true ≡ contentsGood t c
-  unfolding contentsGood
-  known-raw z₀ z₁ z₂ z₅ = rw (ne-eqb t 0 z₀, ne-eqb t 1 z₁, ne-eqb t 2 z₂, ne-eqb t 5 z₅)
 
 -- what a descriptor is asked
 module _ (d : List ℕ) where

@@ -1,11 +1,11 @@
 -- The lists within a descriptor: what each finder finds lies in it; and what the code cites.
-use Prim.Native.Nat.{ℕ, zero, suc, _+_, _-_, _≤_, _<_}
+use Prim.Native.Nat.{ℕ, _+_, _-_, _≤_, _<_}
 use mathlib.Core.Path.{_≡_, refl, sym, ap, _∙_}
 use mathlib.Core.Bool.{Bool, true, false, cond}
-use mathlib.Core.List.{List, [], _∷_}
+use mathlib.Core.List.{List, []}
 use native.Mathlib.Omega.{arith}
 use lib.Dec.{eqb}
-use lib.ListN.{length, take, drop, length-drop}
+use lib.ListN.{length, take, drop, length-drop, drop-of-length-le}
 use lib.Seq.{take-all, take-nil}
 use borrow.Author.Tests.{eq-eqb, ne-eqb}
 use Rattle.wire.specs.declared.Place.{Place}
@@ -83,12 +83,6 @@ pub count-of : (k : Kind) (p q : Place) (s : List ℕ) → p ≡ q → countAt k
 unfolding countAt
 count-of k p q s e = ap (λ (r : Place). count (sizeOf k) (partAt r s)) e
 
--- nothing is left past the end
-nothing-left : (a : ℕ) (s : List ℕ) → length s < a → drop a s ≡ []
-nothing-left zero s l = absurd (omega arith)
-nothing-left (suc a) [] l = refl
-nothing-left (suc a) (x ∷ s) l = nothing-left a s (omega arith)
-
 -- a count at a place
 module _ (k : Kind) (p : Place) (s : List ℕ) where
   pub counted-none : p ≡ Nothing → 0 ≡ countAt k p s
@@ -100,7 +94,8 @@ module _ (k : Kind) (p : Place) (s : List ℕ) where
     pub counted-past : length s < a → 0 ≡ countAt k p s
     unfolding countAt count partAt items itemsIn
     counted-past l =
-        let t : take n (drop a s) ≡ [] = ap (take n) (nothing-left a s l) ∙ take-nil n in
+        let past : length s ≤ a = omega (arith, l) in
+        let t : take n (drop a s) ≡ [] = ap (take n) (drop-of-length-le s past) ∙ take-nil n in
         ap (λ (x : List ℕ). count (sizeOf k) x) (sym t) ∙ ap (λ (q : Place). countAt k q s) (sym e)
 
     pub counted-end : length s - a < n → count (sizeOf k) (drop a s) ≡ countAt k p s

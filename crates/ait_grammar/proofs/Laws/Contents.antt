@@ -1,13 +1,13 @@
 -- The contents of a descriptor as a form, by its tag; descriptors; a loop of descriptors.
 use Prim.Native.Nat.{ℕ, _^_, _<_}
-use mathlib.Core.Path.{_≡_, refl, sym, _∙_}
-use mathlib.Core.Bool.{Bool, true, false}
+use mathlib.Core.Path.{_≡_, refl, sym, ap, subst, _∙_}
+use mathlib.Core.Bool.{true, cond}
 use mathlib.Core.List.{List, _++_, append-assoc, map}
 use native.Mathlib.Omega.{arith}
 use lib.Dec.{eqb}
 use lib.ListN.{length, take, drop}
 use lib.Seq.{getD-drop, getD-take}
-use borrow.Author.Tests.{eqb-true, eqb-false}
+use borrow.Author.Tests.{ne-eqb}
 use Rattle.wire.specs.Fields.{byteAt, fieldAt, spelled}
 use Rattle.wire.specs.Items.{Whole, items, fills, every}
 use Rattle.wire.proofs.Laws.Fields.{field-one}
@@ -17,125 +17,89 @@ use Rattle.ait_descriptors.specs.Descriptor.{descriptor, tagOf}
 use Rattle.ait_descriptors.specs.Tag01.{good01}
 use Rattle.ait_descriptors.specs.Tag05.{good05}
 use Rattle.ait_descriptors.specs.Contents.{contentsGood, wellMade}
-use Rattle.ait_descriptors.proofs.Laws.Contents.{good-00, good-01, good-02, good-05, known-raw}
+use Rattle.ait_descriptors.proofs.Laws.Tags.{Unknown, tags, good-at, good-other}
 use Rattle.ait_body.specs.Body.{goodLoop}
 use Rattle.ait_grammar.specs.Bytes.{Bytes, Each, spellAll}
-use Rattle.ait_grammar.specs.Tag00.{Fits00, Value00}
-use Rattle.ait_grammar.specs.Tag01.{FitsName, NameValue}
-use Rattle.ait_grammar.specs.Tag02.{Fits02, Value02}
-use Rattle.ait_grammar.specs.Tag05.{FitsIdentifier, IdentifierValue}
 use Rattle.ait_grammar.specs.Contents.{ContentsValue, DescriptorValue, FitsContents, FitsDescriptor, of00, of01, of02, of05, of15, raw, spellContents, spellDescriptor}
 use Rattle.ait_grammar.proofs.Laws.Tag00.{form00}
 use Rattle.ait_grammar.proofs.Laws.Tag01.{names-form}
 use Rattle.ait_grammar.proofs.Laws.Tag02.{form02}
 use Rattle.ait_grammar.proofs.Laws.Tag05.{identifiers-form}
-use Rattle.ait_grammar.proofs.Laws.Forms.{Form, when, seen, field, plain}
+use Rattle.ait_grammar.proofs.Laws.Forms.{Form, when, seen, field}
 use Rattle.ait_grammar.proofs.Laws.Followed.{followed, beside}
 use Rattle.ait_grammar.proofs.Laws.Counted.{counted}
 use Rattle.ait_grammar.proofs.Laws.Repeated.{repeated, all-items}
 use Rattle.ait_grammar.proofs.Laws.Framed.{frame}
 
+-- what contents say, by their tag: a line for each tag here and in each law below
+unfoldable readAs : (tag : ℕ) → List ℕ → ContentsValue
+readAs t c =
+    cond (eqb t 0x00) (of00 (form00 .read c))
+    (cond (eqb t 0x01) (of01 (names-form .read c))
+    (cond (eqb t 0x02) (of02 (form02 .read c))
+    (cond (eqb t 0x05) (of05 (identifiers-form .read c))
+    (cond (eqb t 0x15) (of15 c)
+    (raw c)))))
+
+read-unknown : (t : ℕ) (c : List ℕ) → Unknown t → raw c ≡ readAs t c
+unfolding readAs
+read-unknown t c n = rw (ne-eqb t 0x00 (n .0), ne-eqb t 0x01 (n .1), ne-eqb t 0x02 (n .2), ne-eqb t 0x05 (n .3), ne-eqb t 0x15 (n .4))
+
+-- good contents are read, and the value read fits and is spelled so
+abbrev Says : ℕ → List ℕ → ContentsValue → Type 0
+Says t c v = FitsContents t v × (spellContents v ≡ c)
+
+good-read : (c : List ℕ) → Bytes c → (t : ℕ) → contentsGood t c ≡ true → Says t c (readAs t c)
+unfolding contentsGood good01 good05 readAs spellContents
+good-read c b = tags (λ t. contentsGood t c ≡ true → Says t c (readAs t c))
+    (λ g. ((refl, form00 .fits c b g), form00 .back c b g))
+    (λ g. ((refl, names-form .fits c b g), names-form .back c b g))
+    (λ g. ((refl, form02 .fits c b g), form02 .back c b g))
+    (λ g. ((refl, identifiers-form .fits c b g), identifiers-form .back c b g))
+    (λ g. ((refl, b), refl))
+    (λ t n g. subst (Says t c) (read-unknown t c n) ((n .0, n .1, n .2, n .3, n .4, b), refl))
+
 module _ (t : ℕ) where
-  abbrev Known : Type 0
-  Known = Form (λ c. contentsGood t c ≡ true) spellContents (FitsContents t)
-
-  is-00 : t ≡ 0x00 → Known
+  said-bytes : (v : ContentsValue) → FitsContents t v → Bytes (spellContents v)
   unfolding spellContents
-  is-00 e =
-      seen (when form00 (λ c. contentsGood t c ≡ true) (λ c g. sym (good-00 t c e) ∙ g) (λ c b g. good-00 t c e ∙ g))
-      (λ v. of00 v) spellContents (FitsContents t) (λ v f. refl) (λ v f. (e, f)) whence
-    where
-      whence : (c : ContentsValue) → FitsContents t c → (v : Value00) × (of00 v ≡ c) × Fits00 v
-      whence (of00 v) f = (v, refl, f .1)
-      whence (of01 v) f = absurd (omega (arith, e, f .0))
-      whence (of02 v) f = absurd (omega (arith, e, f .0))
-      whence (of05 v) f = absurd (omega (arith, e, f .0))
-      whence (of15 v) f = absurd (omega (arith, e, f .0))
-      whence (raw v) f = absurd (f .0 e)
+  said-bytes (of00 v) f = form00 .bytes v (f .1)
+  said-bytes (of01 v) f = names-form .bytes v (f .1)
+  said-bytes (of02 v) f = form02 .bytes v (f .1)
+  said-bytes (of05 v) f = identifiers-form .bytes v (f .1)
+  said-bytes (of15 v) f = f .1
+  said-bytes (raw v) f = f .5
 
-  is-01 : t ≡ 0x01 → Known
-  unfolding spellContents good01
-  is-01 e =
-      seen (when names-form (λ c. contentsGood t c ≡ true) (λ c g. sym (good-01 t c e) ∙ g) (λ c b g. good-01 t c e ∙ g))
-      (λ v. of01 v) spellContents (FitsContents t) (λ v f. refl) (λ v f. (e, f)) whence
-    where
-      whence : (c : ContentsValue) → FitsContents t c → (v : List NameValue) × (of01 v ≡ c) × Each FitsName v
-      whence (of00 v) f = absurd (omega (arith, e, f .0))
-      whence (of01 v) f = (v, refl, f .1)
-      whence (of02 v) f = absurd (omega (arith, e, f .0))
-      whence (of05 v) f = absurd (omega (arith, e, f .0))
-      whence (of15 v) f = absurd (omega (arith, e, f .0))
-      whence (raw v) f = absurd (f .1 e)
+  said-good : (v : ContentsValue) → FitsContents t v → contentsGood t (spellContents v) ≡ true
+  unfolding contentsGood good01 good05 spellContents
+  said-good (of00 v) f = sym (good-at t _ 0x00 (f .0)) ∙ form00 .good v (f .1)
+  said-good (of01 v) f = sym (good-at t _ 0x01 (f .0)) ∙ names-form .good v (f .1)
+  said-good (of02 v) f = sym (good-at t _ 0x02 (f .0)) ∙ form02 .good v (f .1)
+  said-good (of05 v) f = sym (good-at t _ 0x05 (f .0)) ∙ identifiers-form .good v (f .1)
+  said-good (of15 v) f = sym (good-at t _ 0x15 (f .0))
+  said-good (raw v) f = sym (good-other t v (f .0) (f .1) (f .2) (f .3))
 
-  is-02 : t ≡ 0x02 → Known
-  unfolding spellContents
-  is-02 e =
-      seen (when form02 (λ c. contentsGood t c ≡ true) (λ c g. sym (good-02 t c e) ∙ g) (λ c b g. good-02 t c e ∙ g))
-      (λ v. of02 v) spellContents (FitsContents t) (λ v f. refl) (λ v f. (e, f)) whence
-    where
-      whence : (c : ContentsValue) → FitsContents t c → (v : Value02) × (of02 v ≡ c) × Fits02 v
-      whence (of00 v) f = absurd (omega (arith, e, f .0))
-      whence (of01 v) f = absurd (omega (arith, e, f .0))
-      whence (of02 v) f = (v, refl, f .1)
-      whence (of05 v) f = absurd (omega (arith, e, f .0))
-      whence (of15 v) f = absurd (omega (arith, e, f .0))
-      whence (raw v) f = absurd (f .2 e)
+  read-at : (k : ℕ) (c : List ℕ) → t ≡ k → readAs t c ≡ readAs k c
+  read-at k c e = ap (λ (u : ℕ). readAs u c) e
 
-  is-05 : t ≡ 0x05 → Known
-  unfolding spellContents good05
-  is-05 e =
-      seen (when identifiers-form (λ c. contentsGood t c ≡ true) (λ c g. sym (good-05 t c e) ∙ g) (λ c b g. good-05 t c e ∙ g))
-      (λ v. of05 v) spellContents (FitsContents t) (λ v f. refl) (λ v f. (e, f)) whence
-    where
-      whence : (c : ContentsValue) → FitsContents t c → (v : List IdentifierValue) × (of05 v ≡ c) × Each FitsIdentifier v
-      whence (of00 v) f = absurd (omega (arith, e, f .0))
-      whence (of01 v) f = absurd (omega (arith, e, f .0))
-      whence (of02 v) f = absurd (omega (arith, e, f .0))
-      whence (of05 v) f = (v, refl, f .1)
-      whence (of15 v) f = absurd (omega (arith, e, f .0))
-      whence (raw v) f = absurd (f .3 e)
-
-  is-15 : t ≡ 0x15 → Known
-  unfolding spellContents
-  is-15 e =
-      seen (when plain (λ c. contentsGood t c ≡ true)
-      (λ c g. sym (known-raw t c (λ z. omega (arith, e, z)) (λ z. omega (arith, e, z)) (λ z. omega (arith, e, z)) (λ z. omega (arith, e, z))))
-      (λ c b g. tt))
-      (λ v. of15 v) spellContents (FitsContents t) (λ v f. refl) (λ v f. (e, f)) whence
-    where
-      whence : (c : ContentsValue) → FitsContents t c → (v : List ℕ) × (of15 v ≡ c) × Bytes v
-      whence (of00 v) f = absurd (omega (arith, e, f .0))
-      whence (of01 v) f = absurd (omega (arith, e, f .0))
-      whence (of02 v) f = absurd (omega (arith, e, f .0))
-      whence (of05 v) f = absurd (omega (arith, e, f .0))
-      whence (of15 v) f = (v, refl, f .1)
-      whence (raw v) f = absurd (f .4 e)
-
-  is-other : (t ≡ 0x00 → ⊥) → (t ≡ 0x01 → ⊥) → (t ≡ 0x02 → ⊥) → (t ≡ 0x05 → ⊥) → (t ≡ 0x15 → ⊥) → Known
-  unfolding spellContents
-  is-other n₀ n₁ n₂ n₅ n₁₅ =
-      seen (when plain (λ c. contentsGood t c ≡ true) (λ c g. sym (known-raw t c n₀ n₁ n₂ n₅)) (λ c b g. tt))
-      (λ v. raw v) spellContents (FitsContents t) (λ v f. refl) (λ v f. (n₀, n₁, n₂, n₅, n₁₅, f)) whence
-    where
-      whence : (c : ContentsValue) → FitsContents t c → (v : List ℕ) × (raw v ≡ c) × Bytes v
-      whence (of00 v) f = absurd (n₀ (f .0))
-      whence (of01 v) f = absurd (n₁ (f .0))
-      whence (of02 v) f = absurd (n₂ (f .0))
-      whence (of05 v) f = absurd (n₅ (f .0))
-      whence (of15 v) f = absurd (n₁₅ (f .0))
-      whence (raw v) f = (v, refl, f .5)
+  said-again : (v : ContentsValue) → FitsContents t v → readAs t (spellContents v) ≡ v
+  unfolding readAs spellContents
+  said-again (of00 v) f = read-at 0x00 _ (f .0) ∙ ap of00 (form00 .again v (f .1))
+  said-again (of01 v) f = read-at 0x01 _ (f .0) ∙ ap of01 (names-form .again v (f .1))
+  said-again (of02 v) f = read-at 0x02 _ (f .0) ∙ ap of02 (form02 .again v (f .1))
+  said-again (of05 v) f = read-at 0x05 _ (f .0) ∙ ap of05 (identifiers-form .again v (f .1))
+  said-again (of15 v) f = read-at 0x15 _ (f .0)
+  said-again (raw v) f = sym (read-unknown t v (f .0, f .1, f .2, f .3, f .4))
 
   -- KNOWN CONTENTS ARE WELL FORMED EXACTLY WHERE THEY SPELL A VALUE
-  pub contents-form : Known
-  contents-form = go (eqb t 0x00) refl (eqb t 0x01) refl (eqb t 0x02) refl (eqb t 0x05) refl (eqb t 0x15) refl
-    where
-      go : (a₀ : Bool) → eqb t 0x00 ≡ a₀ → (a₁ : Bool) → eqb t 0x01 ≡ a₁ → (a₂ : Bool) → eqb t 0x02 ≡ a₂ → (a₅ : Bool) → eqb t 0x05 ≡ a₅ → (a₁₅ : Bool) → eqb t 0x15 ≡ a₁₅ → Known
-      go true e₀ a₁ e₁ a₂ e₂ a₅ e₅ a₁₅ e₁₅ = is-00 (eqb-true t 0x00 e₀)
-      go false e₀ true e₁ a₂ e₂ a₅ e₅ a₁₅ e₁₅ = is-01 (eqb-true t 0x01 e₁)
-      go false e₀ false e₁ true e₂ a₅ e₅ a₁₅ e₁₅ = is-02 (eqb-true t 0x02 e₂)
-      go false e₀ false e₁ false e₂ true e₅ a₁₅ e₁₅ = is-05 (eqb-true t 0x05 e₅)
-      go false e₀ false e₁ false e₂ false e₅ true e₁₅ = is-15 (eqb-true t 0x15 e₁₅)
-      go false e₀ false e₁ false e₂ false e₅ false e₁₅ = is-other (eqb-false t 0x00 e₀) (eqb-false t 0x01 e₁) (eqb-false t 0x02 e₂) (eqb-false t 0x05 e₅) (eqb-false t 0x15 e₁₅)
+  pub contents-form : Form (λ c. contentsGood t c ≡ true) spellContents (FitsContents t)
+  contents-form = record {
+    bytes = said-bytes;
+    good = said-good;
+    read = readAs t;
+    fits = λ c b g. good-read c b t g .0;
+    back = λ c b g. good-read c b t g .1;
+    again = said-again;
+  }
 
 -- "tag, length, that many bytes"
 length-says : (y : List ℕ) → fieldAt 1 (drop 1 y) 0 ≡ byteAt y 1

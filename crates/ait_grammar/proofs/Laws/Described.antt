@@ -7,8 +7,8 @@ use Rattle.ait_descriptors.specs.Descriptor.{restOf}
 use Rattle.ait_grammar.specs.Contents.{DescriptorValue, spellContents, spellDescriptor, FitsDescriptor, ContentsValue, of00, of01, of02, of05, of15, raw, FitsContents}
 use Rattle.ait_descriptors.specs.declared.Described.the-variants as described
 use Rattle.ait_descriptors.specs.Tag15.{described15}
-use Rattle.ait_descriptors.specs.Contents.{describedOf}
-use Rattle.ait_descriptors.proofs.Laws.Records.{is-15, is-raw}
+use Rattle.ait_descriptors.specs.Contents.{describedAs, describedOf}
+use Rattle.ait_descriptors.proofs.Laws.Tags.{described-at, described-unknown}
 use Rattle.ait_grammar.specs.Shown.{contentsShown, descriptorShown, rawShown}
 use Rattle.ait_grammar.proofs.Laws.Shown.{tag-said, length-said, rest-span}
 use Rattle.ait_grammar.specs.Span.{span}
@@ -30,16 +30,16 @@ module _ (d : DescriptorValue) (f : FitsDescriptor d) where
 
   -- 0x15, and the other tags
   shown-15 : (a : ℕ) → (xs : List ℕ) → d .contents ≡ of15 xs → FitsContents (d .tag) (of15 xs) → describedOf x a ≡ described.Path (span (a + 2) (length xs))
-  unfolding spellContents described15
+  unfolding spellContents describedAs described15
   shown-15 a xs h g =
-      sym (is-15 x a (tag-said d f ∙ g .0))
+      sym (described-at x a 0x15 (tag-said d f ∙ g .0))
       ∙ ap described.Path (all-span a xs (ap spellContents h))
 
   shown-raw : (a : ℕ) → (xs : List ℕ) → d .contents ≡ raw xs → FitsContents (d .tag) (raw xs) → describedOf x a ≡ described.Raw (rawShown (d .tag) xs a)
   unfolding spellContents
   shown-raw a xs h g =
       let t = tag-said d f in
-      sym (is-raw x a (λ e. g .0 (sym t ∙ e)) (λ e. g .1 (sym t ∙ e)) (λ e. g .2 (sym t ∙ e)) (λ e. g .3 (sym t ∙ e)) (λ e. g .4 (sym t ∙ e)))
+      sym (described-at x a (d .tag) t) ∙ sym (described-unknown x a (d .tag) (g .0, g .1, g .2, g .3, g .4))
       ∙ (λ i. described.Raw (record { tag = t i; contents = all-span a xs (ap spellContents h) i }))
 
   -- ALL TAGS

@@ -17,9 +17,9 @@ use Rattle.wire.proofs.Laws.Frames.{framed-kind}
 use Rattle.ait_descriptors.specs.Tag00.{profile, label, described00, profilesIn, labelsIn, profileOf}
 use Rattle.ait_descriptors.specs.declared.Described.the-variants as described
 use Rattle.ait_descriptors.specs.declared.Repeated.the-variants.{Profiles, Labels}
-use Rattle.ait_descriptors.specs.Contents.{describedOf, itemOf}
+use Rattle.ait_descriptors.specs.Contents.{describedAs, describedOf, itemOf}
 use Rattle.ait_descriptors.proofs.Laws.Lists.{tagged-is, profiles-is}
-use Rattle.ait_descriptors.proofs.Laws.Records.{is-00}
+use Rattle.ait_descriptors.proofs.Laws.Tags.{described-at}
 use Rattle.ait_grammar.specs.Tag00.{Value00, spellProfile, spell00, Fits00, ProfileValue, FitsProfile}
 use Rattle.ait_grammar.proofs.Laws.Forms.{Form, field, seen}
 use Rattle.ait_grammar.proofs.Laws.Framed.{fixed-form}
@@ -164,9 +164,9 @@ module _ (d : DescriptorValue) (f : FitsDescriptor d) where
     labels-said = ap (λ (y : List ℕ). length (items label y)) labels-listed ∙ filled-count label (framed-kind 1 _) (fixed-form 1 (omega arith) label-form) (v .labels) (g .labels)
 
     pub shown-00 : (a : ℕ) → describedOf x a ≡ described.Application (shown00 v)
-    unfolding described00
+    unfolding describedAs described00
     shown-00 a =
         let b : bits 7 1 (byteAt x (3 + byteAt x 2)) ≡ v .bound = omega (arith, flags-said, g .bound, g .visibility, g .reserved) in
         let s : bits 5 2 (byteAt x (3 + byteAt x 2)) ≡ v .visibility = omega (arith, flags-said, g .bound, g .visibility, g .reserved) in
-        sym (is-00 x a (tag-said d f ∙ e))
+        sym (described-at x a 0x00 (tag-said d f ∙ e))
         ∙ (λ i. described.Application (record { profiles = profiles-said i; bound = b i; visibility = s i; priority = priority-said i; labels = labels-said i }))

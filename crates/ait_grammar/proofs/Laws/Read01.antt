@@ -13,8 +13,8 @@ use Rattle.wire.proofs.Laws.Frames.{framed-kind}
 use Rattle.ait_descriptors.specs.Tag01.{name, namesIn, described01, nameOf}
 use Rattle.ait_descriptors.specs.declared.Described.the-variants as described
 use Rattle.ait_descriptors.specs.declared.Repeated.the-variants.{Names}
-use Rattle.ait_descriptors.specs.Contents.{describedOf, itemOf}
-use Rattle.ait_descriptors.proofs.Laws.Records.{is-01}
+use Rattle.ait_descriptors.specs.Contents.{describedAs, describedOf, itemOf}
+use Rattle.ait_descriptors.proofs.Laws.Tags.{described-at}
 use Rattle.ait_grammar.specs.Tag01.{NameValue, spellName, FitsName}
 use Rattle.ait_grammar.proofs.Laws.Tag01.{name-form}
 use Rattle.ait_grammar.proofs.Laws.Shown.{tag-said, filled-listed, filled-said}
@@ -47,7 +47,7 @@ module _ (d : DescriptorValue) (f : FitsDescriptor d) where
   names-listed e ns h = filled-listed d f spellName 0x01 e ns h
 
   pub shown-01 : (a : ℕ) → (ns : List NameValue) → d .contents ≡ of01 ns → FitsContents (d .tag) (of01 ns) → describedOf x a ≡ described.Names (length ns)
-  unfolding spellContents described01 namesIn
+  unfolding spellContents describedAs described01 namesIn
   shown-01 a ns h g =
-      sym (is-01 x a (tag-said d f ∙ g .0))
+      sym (described-at x a 0x01 (tag-said d f ∙ g .0))
       ∙ ap described.Names (filled-said d f spellName 0x01 (g .0) ns (ap spellContents h) name (framed-kind 4 _) name-form (g .1))

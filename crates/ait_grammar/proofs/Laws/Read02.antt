@@ -22,9 +22,10 @@ use Rattle.ait_descriptors.specs.Tag00.{label}
 use Rattle.ait_descriptors.specs.Tag02.{base, described02, basesIn, extensionsIn, extensionCount, baseOf, extensionRead}
 use Rattle.ait_descriptors.specs.declared.Described.the-variants as described
 use Rattle.ait_descriptors.specs.declared.Repeated.the-variants.{Bases}
-use Rattle.ait_descriptors.specs.Contents.{describedOf, itemOf}
+use Rattle.ait_descriptors.specs.Contents.{describedAs, describedOf, itemOf}
 use Rattle.ait_descriptors.proofs.Laws.Lists.{tagged-is, bases-is}
-use Rattle.ait_descriptors.proofs.Laws.Records.{is-02, is-1, is-3, is-other, is-remote, is-local}
+use Rattle.ait_descriptors.proofs.Laws.Tags.{described-at}
+use Rattle.ait_descriptors.proofs.Laws.Records.{is-1, is-3, is-other, is-remote, is-local}
 use Rattle.ait_grammar.specs.Tag02.{Value02, SelectorValue, here, remote, bases, unread, LocalValue, RemoteValue, BaseValue}
 use Rattle.ait_grammar.specs.Tag02.{spellLocal, spellRemote, spellBase, spellSelector, spell02, FitsLocal, FitsRemote, FitsBase, FitsSelector, Fits02}
 use Rattle.ait_grammar.proofs.Laws.Repeated.{filled-count}
@@ -118,7 +119,8 @@ module _ (d : DescriptorValue) (f : FitsDescriptor d) where
     selector-field n k = field-said d f n (3 + k) ∙ sym (field-drop n c 3 k) ∙ ap (λ (l : List ℕ). fieldAt n l k) selector-said
 
     shown-02 : (a : ℕ) → describedOf x a ≡ described02 x a
-    shown-02 a = sym (is-02 x a (tag-said d f ∙ e))
+    unfolding describedAs
+    shown-02 a = sym (described-at x a 0x02 (tag-said d f ∙ e))
 
     -- protocol 1
     shown-local : (a : ℕ) → (l : LocalValue) → v .selector ≡ here l → v .protocol ≡ 1 → FitsLocal l → describedOf x a ≡ selectorShown (v .protocol) (v .label) (here l) a

@@ -15,8 +15,8 @@ use Rattle.wire.proofs.Laws.Frames.{framed-kind}
 use Rattle.ait_descriptors.specs.Tag05.{identifier, identifiersIn, described05, identifierOf}
 use Rattle.ait_descriptors.specs.declared.Described.the-variants as described
 use Rattle.ait_descriptors.specs.declared.Repeated.the-variants.{Identifiers}
-use Rattle.ait_descriptors.specs.Contents.{describedOf, itemOf}
-use Rattle.ait_descriptors.proofs.Laws.Records.{is-05}
+use Rattle.ait_descriptors.specs.Contents.{describedAs, describedOf, itemOf}
+use Rattle.ait_descriptors.proofs.Laws.Tags.{described-at}
 use Rattle.ait_grammar.specs.Tag05.{IdentifierValue, spellIdentifier, FitsIdentifier}
 use Rattle.ait_grammar.proofs.Laws.Framed.{fixed-form}
 use Rattle.ait_grammar.proofs.Laws.Tag05.{identifier-form}
@@ -50,7 +50,7 @@ module _ (d : DescriptorValue) (f : FitsDescriptor d) where
   identifiers-listed e is h = filled-listed d f spellIdentifier 0x05 e is h
 
   pub shown-05 : (a : ℕ) → (is : List IdentifierValue) → d .contents ≡ of05 is → FitsContents (d .tag) (of05 is) → describedOf x a ≡ described.Identifiers (length is)
-  unfolding spellContents described05 identifiersIn
+  unfolding spellContents describedAs described05 identifiersIn
   shown-05 a is h g =
-      sym (is-05 x a (tag-said d f ∙ g .0))
+      sym (described-at x a 0x05 (tag-said d f ∙ g .0))
       ∙ ap described.Identifiers (filled-said d f spellIdentifier 0x05 (g .0) is (ap spellContents h) identifier (framed-kind 7 _) (fixed-form 7 (omega arith) identifier-form) (g .1))

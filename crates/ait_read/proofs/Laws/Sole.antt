@@ -23,8 +23,8 @@ use Rattle.ait_descriptors.specs.declared.Test.the-variants.{Tagged}
 use Rattle.ait_descriptors.specs.Kinds.{application, sizeOf, countAt}
 use Rattle.ait_descriptors.specs.Descriptor.{descriptor, tagOf, contentsOf}
 use Rattle.ait_descriptors.specs.Tag00.{profilesLength, good00}
-use Rattle.ait_descriptors.specs.Contents.{testOf}
-use Rattle.ait_descriptors.proofs.Laws.Contents as contents
+use Rattle.ait_descriptors.specs.Contents.{contentsGood, testOf}
+use Rattle.ait_descriptors.proofs.Laws.Tags.{good-at}
 use Rattle.ait_descriptors.proofs.Laws.Kinds as kinds
 use Rattle.ait_body.specs.Body.{ownLoop, soleLoop}
 use Rattle.ait_read.specs.declared.Scope.{Scope}
@@ -127,9 +127,10 @@ module _ (s : L.List ℕ) (g : FormedTable s) where
 
   -- a 0x00 descriptor has 5 bytes at least: tag, length, P, flags, priority
   long-00 : (o : Scope) (j a n : ℕ) → descriptorAt o j s ≡ At a n → tagOf (take n (drop a s)) ≡ 0x00 → 5 ≤ n
+  unfolding contentsGood
   long-00 o j a n e t =
       let d : L.List ℕ = take n (drop a s) in
-      let m = good00-long (contentsOf d) (contents.good-00 (tagOf d) (contentsOf d) t ∙ found-made s twelve (g .body) o j a n e) in
+      let m = good00-long (contentsOf d) (good-at (tagOf d) (contentsOf d) 0x00 t ∙ found-made s twelve (g .body) o j a n e) in
       let f = sound-descriptor o j s a n e in
       let l : length d ≡ n = length-take-le n (drop a s) (rw length-drop (omega arith)) in
       omega (arith, l, simp length-drop at m)

@@ -22,7 +22,8 @@ use Rattle.ait_descriptors.specs.Tag15.{described15}
 use Rattle.wire.specs.Items.{count}
 use Rattle.wire.specs.Places.{partAt}
 use Rattle.ait_descriptors.specs.Tag02.{base, extension, extensionsStart, basesIn, extensionsIn, baseOf, extensionRead, described1, described02}
-use Rattle.ait_descriptors.proofs.Laws.Contents as contents
+use Rattle.ait_descriptors.proofs.Laws.Contents.{good02-long}
+use Rattle.ait_descriptors.proofs.Laws.Tags.{good-at}
 use Rattle.ait_descriptors.proofs.Laws.Kinds as kinds
 use Rattle.ait_read.specs.declared.Scope.{Scope}
 use Rattle.ait_descriptors.specs.declared.Repeated.{Repeated}
@@ -33,7 +34,7 @@ use Rattle.ait_descriptors.specs.declared.Described.the-variants as described
 use Rattle.ait_read.specs.declared.steps.Step.the-variants.{Extensions, Item}
 use Rattle.ait_read.specs.Acceptance.{tableJudged}
 use Rattle.ait_read.specs.Places.{scopeAt, descriptorAt, listAt, repeatedAt, extensionsAt, extensionAt, stepIn}
-use Rattle.ait_descriptors.specs.Contents.{listIn, kindOf, describedOf}
+use Rattle.ait_descriptors.specs.Contents.{contentsGood, listIn, kindOf, describedOf}
 use Rattle.ait_descriptors.specs.Tag00.{described00}
 use Rattle.ait_read.specs.Answers.{spanPart}
 use Rattle.ait_descriptors.proofs.Laws.Records.{cases-02, cases}
@@ -143,9 +144,10 @@ module _ (s : L.List ℕ) (o : Scope) (j a n : ℕ) (e : descriptorAt o j s ≡ 
   module _ (h : Header) (accepted : tableJudged s ≡ Accepted h) where
     -- a 0x02 has its protocol and its label, since it is well made
     five : tagOf d ≡ 0x02 → 5 ≤ n
+    unfolding contentsGood
     five t =
         let m = descriptor-made s h accepted o j a n e in
-        let k = contents.good02-long (contentsOf d) (contents.good-02 (tagOf d) (contentsOf d) t ∙ m) in
+        let k = good02-long (contentsOf d) (good-at (tagOf d) (contentsOf d) 0x02 t ∙ m) in
         let l = long in
         omega (arith, simp length-drop at k)
 

@@ -149,6 +149,20 @@ module _ (size : Size) (kind : IsKind size) where
       let q = end-split size n at (items size xs) (wholes xs) z in
       (q .0, joined (q .1) ++ c .0, q .2, q .3, sym (append-assoc (joined (q .0)) (joined (q .1)) (c .0)) ∙ ap (λ (l : List ℕ). l ++ c .0) (sym (joined-both (q .0) (q .1)) ∙ ap joined (q .4)) ∙ c .1)
 
+-- no item is empty, so there are no more of them than bytes
+few : (n : ℕ) (size : Size) (xs : List ℕ) → length (itemsIn n size xs) ≤ n
+unfolding itemsIn
+few zero size xs = omega arith
+few (suc n) size xs = go (few n size (drop (size xs) xs)) (eqb (size xs) 0)
+  where
+    go : length (itemsIn n size (drop (size xs) xs)) ≤ n → (t : Bool) → length (cond t [] (take (size xs) xs ∷ itemsIn n size (drop (size xs) xs))) ≤ suc n
+    go l true = omega arith
+    go l false = omega (arith, l)
+
+pub count-few : (size : Size) (xs : List ℕ) → count size xs ≤ length xs
+unfolding count items
+count-few size xs = few (length xs) size xs
+
 -- THE FIRST THAT MEETS A TEST is one that meets it, with none before it that does; and there is none only where none does
 pub first-hit : (good : List ℕ → Bool) (k : ℕ) (is : List (List ℕ)) (j : ℕ) → firstFrom good k is ≡ Item j
     → (js : List (List ℕ)) × (x : List ℕ) × (ks : List (List ℕ)) × (js ++ x ∷ ks ≡ is) × (j ≡ k + length js) × (good x ≡ true) × (every (λ y. not (good y)) js ≡ true)

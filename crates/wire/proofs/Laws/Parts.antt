@@ -17,6 +17,11 @@ pub part-at : (s : List ℕ) (a n : ℕ) → partAt (At a n) s ≡ take n (drop 
 unfolding partAt
 part-at s a n = refl
 
+pub part-few : (p : Place) (s : List ℕ) → length (partAt p s) ≤ length s
+unfolding partAt
+part-few Nothing s = omega arith
+part-few (At a n) s = let l = length-take n (drop a s) in let d = length-drop a s in omega (arith, l, d)
+
 module _ (size : Size) (kind : IsKind size) (s : List ℕ) (k : ℕ) where
   pub item-in : (p : Place) → k < count size (partAt p s) → (a : ℕ) × (n : ℕ) × (inPart (itemAt size k) p s ≡ At a n)
   unfolding partAt count items itemsIn
