@@ -1,6 +1,7 @@
 #!/usr/bin/env python3
-"""Holds the sources to what a stranger may expect: within a crate no file goes in a circle with another; nothing stands on the demands; in proofs no chain of
-five and more `.before`, no comment that is a position in another file; in no source a line over 200 characters; and the walks are what tools/walks.py writes."""
+"""Holds the sources to what a stranger may expect: within a crate no file goes in a circle with another; nothing stands on the demands; no name is defined in
+the specs/ of two crates; in proofs no chain of five and more `.before`, no comment that is a position in another file; in no source a line over 200
+characters; and the walks are what tools/walks.py writes."""
 import re
 import subprocess
 import sys
@@ -23,10 +24,22 @@ def circles(crate):
     return sorted(f for f in reach if f in reach[f])
 
 
+def twice_defined():
+    """Names that the specs/ of two crates define."""
+    where = {}
+    for path in sorted((ROOT / "crates").glob("*/specs/**/*.antt")):
+        crate = path.relative_to(ROOT / "crates").parts[0]
+        for name in re.findall(r"^(?:(?:abbrev|unfoldable) )?pub (?:record |data )?([^\s:({]+)(?= )", path.read_text(), re.M):
+            where.setdefault(name, set()).add(crate)
+    return {name: crates for name, crates in where.items() if len(crates) > 1 and name not in ("mod", "use")}
+
+
 def faults():
     for line in (ROOT / "crates.txt").read_text().splitlines():
         if ":" in line and line[0] != "#" and "demands" in line.split(":")[1].split():
             yield "%s stands on demands, which is the roof" % line.split(":")[0]
+    for name, crates in sorted(twice_defined().items()):
+        yield "%s is defined in specs/ of %s" % (name, " and ".join(sorted(crates)))
     for crate in sorted(p for p in (ROOT / "crates").iterdir() if p.is_dir()):
         round_trip = circles(crate)
         if round_trip:

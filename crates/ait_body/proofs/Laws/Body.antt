@@ -1,7 +1,7 @@
 -- The body, from the facts that code learns on its ways; and what its tests say to a reader.
 use Prim.Native.Nat.{ℕ, _+_}
 use mathlib.Core.Path.{_≡_, refl, sym, ap}
-use mathlib.Core.Bool.{Bool, true, false, _&&_}
+use mathlib.Core.Bool.{Bool, true, false, not, _&&_}
 use mathlib.Core.List.{List}
 use native.Mathlib.Omega.{arith}
 use lib.Dec.{eqb}
@@ -77,10 +77,14 @@ module _ (b : List ℕ) where
   is7 w = rw w
 
   module _ (w : wellFormed b ≡ true) where
+    sole-tells : (t : Bool) → every (λ a. clauseOf Sole (ownLoop a)) (items application (applicationLoop b)) ≡ t → meets18 b ≡ not t
+    unfolding meets18 clauseOf
+    sole-tells t e = ap not e
+
     pub is18 : every (λ a. clauseOf Sole (ownLoop a)) (items application (applicationLoop b)) ≡ false → 18 ≡ bodyRefusal b
-    unfolding bodyRefusal firstMet bodyMeets7 meets18 clauseOf
-    is18 e = rw (w, e)
+    unfolding bodyRefusal firstMet bodyMeets7
+    is18 e = rw (w, sole-tells false e)
 
     pub is0 : every (λ a. clauseOf Sole (ownLoop a)) (items application (applicationLoop b)) ≡ true → 0 ≡ bodyRefusal b
-    unfolding bodyRefusal firstMet bodyMeets7 meets18 clauseOf
-    is0 e = rw (w, e)
+    unfolding bodyRefusal firstMet bodyMeets7
+    is0 e = rw (w, sole-tells true e)

@@ -1,6 +1,6 @@
 -- What a section comes to, from the facts that code learns on its ways.
 use Prim.Native.Nat.{ℕ, _≤_, _<_}
-use mathlib.Core.Path.{_≡_, refl}
+use mathlib.Core.Path.{_≡_, refl, ap, ap₂}
 use mathlib.Core.Bool.{Bool, true, false, not, cond, _&&_, _||_}
 use mathlib.Core.List.{List}
 use lib.Dec.{eqb, ltb}
@@ -34,32 +34,41 @@ module _ (a : Announced) (n : ℕ) (d : Arrived) where
     is-12 e = rw (ne-eqb (length (a .modules)) 0 some, ne-eqb (a .download) (d .download) e)
 
     module _ (its : a .download ≡ d .download) where
+      not-12 : meets12 a d ≡ false
+      unfolding meets12
+      not-12 = ap₂ (λ (x y : Bool). x || not y) (ne-eqb (length (a .modules)) 0 some) (eq-eqb (a .download) (d .download) its)
+
       pub is-13 : length (a .modules) ≤ placeOf a (d .number) → blockRefusal a n d ≡ 13
-      unfolding blockRefusal firstMet meets12 meets13
-      is-13 e = rw (ne-eqb (length (a .modules)) 0 some, eq-eqb (a .download) (d .download) its, le-ltb (placeOf a (d .number)) (length (a .modules)) e)
+      unfolding blockRefusal firstMet meets13
+      is-13 e = rw (not-12, le-ltb (placeOf a (d .number)) (length (a .modules)) e)
 
       module _ (found : placeOf a (d .number) < length (a .modules)) where
+        not-13 : meets13 a (d .number) ≡ false
+        unfolding meets13
+        not-13 = ap not (lt-ltb (placeOf a (d .number)) (length (a .modules)) found)
+
+        yes-14 : (moduleAt a (placeOf a (d .number)) .version ≡ d .version → ⊥) → meets14 a d ≡ true
+        unfolding meets14
+        yes-14 e = ap not (ne-eqb (moduleAt a (placeOf a (d .number)) .version) (d .version) e)
+
         pub is-14 : (moduleAt a (placeOf a (d .number)) .version ≡ d .version → ⊥) → blockRefusal a n d ≡ 14
-        unfolding blockRefusal firstMet meets12 meets13 meets14
-        is-14 e = rw (
-          ne-eqb (length (a .modules)) 0 some,
-          eq-eqb (a .download) (d .download) its,
-          lt-ltb (placeOf a (d .number)) (length (a .modules)) found,
-          ne-eqb (moduleAt a (placeOf a (d .number)) .version) (d .version) e,
-        )
+        unfolding blockRefusal firstMet
+        is-14 e = rw (not-12, not-13, yes-14 e)
 
         module _ (version : moduleAt a (placeOf a (d .number)) .version ≡ d .version) where
+          not-14 : meets14 a d ≡ false
+          unfolding meets14
+          not-14 = ap not (eq-eqb (moduleAt a (placeOf a (d .number)) .version) (d .version) version)
+
           pub is-15 : n < bytesOf a → blockRefusal a n d ≡ 15
-          unfolding blockRefusal firstMet meets12 meets13 meets14 meets15
-          is-15 e = rw (
-            ne-eqb (length (a .modules)) 0 some,
-            eq-eqb (a .download) (d .download) its,
-            lt-ltb (placeOf a (d .number)) (length (a .modules)) found,
-            eq-eqb (moduleAt a (placeOf a (d .number)) .version) (d .version) version,
-            lt-ltb n (bytesOf a) e,
-          )
+          unfolding blockRefusal firstMet meets15
+          is-15 e = rw (not-12, not-13, not-14, lt-ltb n (bytesOf a) e)
 
           module _ (room : bytesOf a ≤ n) where
+            not-15 : meets15 a n ≡ false
+            unfolding meets15
+            not-15 = le-ltb n (bytesOf a) room
+
             abbrev fits : Bool
             fits = ltb (d .block) (blockCount a (placeOf a (d .number))) && eqb (length (d .bytes)) (blockLength a (placeOf a (d .number)) (d .block))
 
@@ -72,28 +81,12 @@ module _ (a : Announced) (n : ℕ) (d : Arrived) where
             its-16 = either-not (ltb (d .block) (blockCount a (placeOf a (d .number)))) (eqb (length (d .bytes)) (blockLength a (placeOf a (d .number)) (d .block)))
 
             pub is-16 : fits ≡ false → blockRefusal a n d ≡ 16
-            unfolding blockRefusal firstMet meets12 meets13 meets14 meets15
-            is-16 e = rw (
-              ne-eqb (length (a .modules)) 0 some,
-              eq-eqb (a .download) (d .download) its,
-              lt-ltb (placeOf a (d .number)) (length (a .modules)) found,
-              eq-eqb (moduleAt a (placeOf a (d .number)) .version) (d .version) version,
-              le-ltb n (bytesOf a) room,
-              its-16,
-              e,
-            )
+            unfolding blockRefusal firstMet
+            is-16 e = rw (not-12, not-13, not-14, not-15, its-16, e)
 
             pub is-matching : fits ≡ true → blockRefusal a n d ≡ 0
-            unfolding blockRefusal firstMet meets12 meets13 meets14 meets15
-            is-matching e = rw (
-              ne-eqb (length (a .modules)) 0 some,
-              eq-eqb (a .download) (d .download) its,
-              lt-ltb (placeOf a (d .number)) (length (a .modules)) found,
-              eq-eqb (moduleAt a (placeOf a (d .number)) .version) (d .version) version,
-              le-ltb n (bytesOf a) room,
-              its-16,
-              e,
-            )
+            unfolding blockRefusal firstMet
+            is-matching e = rw (not-12, not-13, not-14, not-15, its-16, e)
 
 -- a matching block
 module _ (r : Record) (image : List ℕ) (i : ℕ) (d : Arrived) where

@@ -41,14 +41,14 @@ module _ (h : ℕ) (more : List ℕ → ℕ) (xs : List ℕ) where
 
   pub framed-over : length xs < n → framed h more xs ≡ 0
   unfolding framed
-  framed-over a = rw (lt-leb n (length xs) a)
+  framed-over a = ap (λ (u : Bool). cond u n 0) (lt-leb n (length xs) a)
 
   pub framed-short : length xs < h → framed h more xs ≡ 0
   framed-short a = framed-over (omega arith)
 
   pub framed-is : n ≤ length xs → framed h more xs ≡ n
   unfolding framed
-  framed-is a = rw (le-leb n (length xs) a)
+  framed-is a = ap (λ (u : Bool). cond u n 0) (le-leb n (length xs) a)
 
   -- where there is an item, it fits, and its size is what the header says
   pub framed-has : (framed h more xs ≡ 0 → ⊥) → (n ≤ length xs) × (framed h more xs ≡ n)
