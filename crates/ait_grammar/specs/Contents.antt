@@ -1,5 +1,5 @@
 -- A descriptor: its tag and the contents that go with it. 01: "Known contents must be well formed; other tags are kept raw." 001, table 38.
--- One line for each tag in each of the three definitions.
+-- One line for each tag in each definition.
 use Prim.Native.Nat.{ℕ, _<_}
 use mathlib.Core.Path.{_≡_}
 use mathlib.Core.List.{List, _++_}
@@ -28,13 +28,17 @@ spellContents (of05 is) = spellAll spellIdentifier is
 spellContents (of15 xs) = xs
 spellContents (raw xs) = xs
 
+-- a tag that is none of those above
+abbrev pub OtherTag : ℕ → Type 0
+OtherTag tag = (tag ≡ 0x00 → ⊥) × (tag ≡ 0x01 → ⊥) × (tag ≡ 0x02 → ⊥) × (tag ≡ 0x05 → ⊥) × (tag ≡ 0x15 → ⊥)
+
 abbrev pub FitsContents : (tag : ℕ) → ContentsValue → Type 0
 FitsContents tag (of00 v) = (tag ≡ 0x00) × Fits00 v
 FitsContents tag (of01 ns) = (tag ≡ 0x01) × Each FitsName ns
 FitsContents tag (of02 v) = (tag ≡ 0x02) × Fits02 v
 FitsContents tag (of05 is) = (tag ≡ 0x05) × Each FitsIdentifier is
 FitsContents tag (of15 xs) = (tag ≡ 0x15) × Bytes xs
-FitsContents tag (raw xs) = (tag ≡ 0x00 → ⊥) × (tag ≡ 0x01 → ⊥) × (tag ≡ 0x02 → ⊥) × (tag ≡ 0x05 → ⊥) × (tag ≡ 0x15 → ⊥) × Bytes xs
+FitsContents tag (raw xs) = OtherTag tag × Bytes xs
 
 -- "A descriptor: tag, length, that many bytes."
 pub record DescriptorValue : Type 0 where

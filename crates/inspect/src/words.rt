@@ -15,84 +15,84 @@ const WORD: usize = 1 << 63;
 pub const NIL: usize = WORD;
 
 // A field with nothing in it: its comma alone.
-pub const EMPTY: usize = WORD + 1;
+pub const EMPTY: usize = NIL + 1;
 
-// Names of lines.
-pub const SECTION: usize = WORD + 2;
+// Words, each by the one before it, in the order in which `put_field` has them. Names of lines:
+pub const SECTION: usize = EMPTY + 1;
 
-pub const TABLE: usize = WORD + 3;
+pub const TABLE: usize = SECTION + 1;
 
-pub const APPLICATION: usize = WORD + 4;
+pub const APPLICATION: usize = TABLE + 1;
 
-pub const DESCRIPTOR: usize = WORD + 5;
+pub const DESCRIPTOR: usize = APPLICATION + 1;
 
-pub const PROFILE: usize = WORD + 6;
+pub const PROFILE: usize = DESCRIPTOR + 1;
 
-pub const LABEL: usize = WORD + 7;
+pub const LABEL: usize = PROFILE + 1;
 
-pub const NAME: usize = WORD + 8;
+pub const NAME: usize = LABEL + 1;
 
-pub const BASE: usize = WORD + 9;
+pub const BASE: usize = NAME + 1;
 
-pub const EXTENSION: usize = WORD + 10;
+pub const EXTENSION: usize = BASE + 1;
 
-pub const IDENTIFIER: usize = WORD + 11;
+pub const IDENTIFIER: usize = EXTENSION + 1;
 
-pub const STOP: usize = WORD + 12;
+pub const STOP: usize = IDENTIFIER + 1;
 
-pub const RECORD: usize = WORD + 13;
+pub const RECORD: usize = STOP + 1;
 
-pub const MODULE: usize = WORD + 14;
+pub const MODULE: usize = RECORD + 1;
 
-// Kinds of a section, by their numbers from 0, and stops, by theirs from 1.
-pub const KINDS: usize = WORD + 15;
+// Kinds of a section, by their numbers from 0 to 5, and stops, by theirs from 1 to 5.
+pub const KINDS: usize = MODULE + 1;
 
-pub const STOPS: usize = WORD + 20;
+pub const STOPS: usize = KINDS + 5;
 
 // Classes of an application, and its control codes.
-pub const UNSIGNED: usize = WORD + 26;
+pub const UNSIGNED: usize = STOPS + 6;
 
-pub const SIGNED: usize = WORD + 27;
+pub const SIGNED: usize = UNSIGNED + 1;
 
-pub const OTHER: usize = WORD + 28;
+pub const OTHER: usize = SIGNED + 1;
 
-pub const WILDCARD: usize = WORD + 29;
+pub const WILDCARD: usize = OTHER + 1;
 
-pub const AUTOSTART: usize = WORD + 30;
+pub const AUTOSTART: usize = WILDCARD + 1;
 
-pub const PRESENT: usize = WORD + 31;
+pub const PRESENT: usize = AUTOSTART + 1;
 
-pub const DESTROY: usize = WORD + 32;
+pub const DESTROY: usize = PRESENT + 1;
 
-pub const KILL: usize = WORD + 33;
+pub const KILL: usize = DESTROY + 1;
 
-pub const REMOTE: usize = WORD + 34;
+pub const REMOTE: usize = KILL + 1;
 
-pub const RESERVED: usize = WORD + 35;
+pub const RESERVED: usize = REMOTE + 1;
 
 // Kinds of a descriptor.
-pub const KIND_APPLICATION: usize = WORD + 36;
+pub const KIND_APPLICATION: usize = RESERVED + 1;
 
-pub const NAMES: usize = WORD + 37;
+pub const NAMES: usize = KIND_APPLICATION + 1;
 
-pub const CAROUSEL: usize = WORD + 38;
+pub const CAROUSEL: usize = NAMES + 1;
 
-pub const BASES: usize = WORD + 39;
+pub const BASES: usize = CAROUSEL + 1;
 
-pub const SELECTOR: usize = WORD + 40;
+pub const SELECTOR: usize = BASES + 1;
 
-pub const IDENTIFIERS: usize = WORD + 41;
+pub const IDENTIFIERS: usize = SELECTOR + 1;
 
-pub const PATH: usize = WORD + 42;
+pub const PATH: usize = IDENTIFIERS + 1;
 
-pub const RAW: usize = WORD + 43;
+pub const RAW: usize = PATH + 1;
 
 // Loops, and that a label leads to none.
-pub const COMMON: usize = WORD + 44;
+pub const COMMON: usize = RAW + 1;
 
-pub const OWN: usize = WORD + 45;
+pub const OWN: usize = COMMON + 1;
 
-pub const UNRESOLVED: usize = WORD + 46;
+pub const UNRESOLVED: usize = OWN + 1;
 
 // A number gets its comma here, a word has it. The words stand in the order of the constants above;
 // the first is empty.

@@ -40,6 +40,9 @@ module _ (t : ℕ) (c : List ℕ) where
   unfolding contentsGood
   good-other n₀ n₁ n₂ n₅ = rw (ne-eqb t 0x00 n₀, ne-eqb t 0x01 n₁, ne-eqb t 0x02 n₂, ne-eqb t 0x05 n₅)
 
+  pub good-unknown : Unknown t → true ≡ contentsGood t c
+  good-unknown n = good-other (n .0) (n .1) (n .2) (n .3)
+
 -- what is read
 module _ (d : List ℕ) (a : ℕ) where
   pub described-at : (k : ℕ) → tagOf d ≡ k → describedAs k d a ≡ describedOf d a

@@ -17,7 +17,7 @@ use Rattle.ait_descriptors.specs.Descriptor.{descriptor, tagOf}
 use Rattle.ait_descriptors.specs.Tag01.{good01}
 use Rattle.ait_descriptors.specs.Tag05.{good05}
 use Rattle.ait_descriptors.specs.Contents.{contentsGood, wellMade}
-use Rattle.ait_descriptors.proofs.Laws.Tags.{Unknown, tags, good-at, good-other}
+use Rattle.ait_descriptors.proofs.Laws.Tags.{Unknown, tags, good-at, good-unknown}
 use Rattle.ait_body.specs.Body.{goodLoop}
 use Rattle.ait_grammar.specs.Bytes.{Bytes, Each, spellAll}
 use Rattle.ait_grammar.specs.Contents.{ContentsValue, DescriptorValue, FitsContents, FitsDescriptor, of00, of01, of02, of05, of15, raw, spellContents, spellDescriptor}
@@ -57,7 +57,7 @@ good-read c b = tags (λ t. contentsGood t c ≡ true → Says t c (readAs t c))
     (λ g. ((refl, form02 .fits c b g), form02 .back c b g))
     (λ g. ((refl, identifiers-form .fits c b g), identifiers-form .back c b g))
     (λ g. ((refl, b), refl))
-    (λ t n g. subst (Says t c) (read-unknown t c n) ((n .0, n .1, n .2, n .3, n .4, b), refl))
+    (λ t n g. subst (Says t c) (read-unknown t c n) ((n, b), refl))
 
 module _ (t : ℕ) where
   said-bytes : (v : ContentsValue) → FitsContents t v → Bytes (spellContents v)
@@ -67,7 +67,7 @@ module _ (t : ℕ) where
   said-bytes (of02 v) f = form02 .bytes v (f .1)
   said-bytes (of05 v) f = identifiers-form .bytes v (f .1)
   said-bytes (of15 v) f = f .1
-  said-bytes (raw v) f = f .5
+  said-bytes (raw v) f = f .1
 
   said-good : (v : ContentsValue) → FitsContents t v → contentsGood t (spellContents v) ≡ true
   unfolding contentsGood good01 good05 spellContents
@@ -76,7 +76,7 @@ module _ (t : ℕ) where
   said-good (of02 v) f = sym (good-at t _ 0x02 (f .0)) ∙ form02 .good v (f .1)
   said-good (of05 v) f = sym (good-at t _ 0x05 (f .0)) ∙ identifiers-form .good v (f .1)
   said-good (of15 v) f = sym (good-at t _ 0x15 (f .0))
-  said-good (raw v) f = sym (good-other t v (f .0) (f .1) (f .2) (f .3))
+  said-good (raw v) f = sym (good-unknown t v (f .0))
 
   read-at : (k : ℕ) (c : List ℕ) → t ≡ k → readAs t c ≡ readAs k c
   read-at k c e = ap (λ (u : ℕ). readAs u c) e
@@ -88,7 +88,7 @@ module _ (t : ℕ) where
   said-again (of02 v) f = read-at 0x02 _ (f .0) ∙ ap of02 (form02 .again v (f .1))
   said-again (of05 v) f = read-at 0x05 _ (f .0) ∙ ap of05 (identifiers-form .again v (f .1))
   said-again (of15 v) f = read-at 0x15 _ (f .0)
-  said-again (raw v) f = sym (read-unknown t v (f .0, f .1, f .2, f .3, f .4))
+  said-again (raw v) f = sym (read-unknown t v (f .0))
 
   -- KNOWN CONTENTS ARE WELL FORMED EXACTLY WHERE THEY SPELL A VALUE
   pub contents-form : Form (λ c. contentsGood t c ≡ true) spellContents (FitsContents t)

@@ -39,7 +39,7 @@ module _ (d : DescriptorValue) (f : FitsDescriptor d) where
   unfolding spellContents
   shown-raw a xs h g =
       let t = tag-said d f in
-      sym (described-at x a (d .tag) t) ∙ sym (described-unknown x a (d .tag) (g .0, g .1, g .2, g .3, g .4))
+      sym (described-at x a (d .tag) t) ∙ sym (described-unknown x a (d .tag) (g .0))
       ∙ (λ i. described.Raw (record { tag = t i; contents = all-span a xs (ap spellContents h) i }))
 
   -- ALL TAGS
