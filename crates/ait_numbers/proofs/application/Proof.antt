@@ -1,5 +1,5 @@
 -- `ait_numbers::application` meets its contract, case by case.
-use mathlib.Core.Path.{sym, _∙_}
+use mathlib.Core.Path.{refl, sym, _∙_}
 use borrow.Author.Needs.{needs}
 use Rattle.ait_numbers.proofs.application.Statement.{statement}
 use Rattle.ait_numbers.proofs.application.Tie as tie
@@ -20,7 +20,7 @@ control-number-requires : tie.Need-control-number-requires
 control-number-requires c κs = search needs
 
 returns : tie.Need-returns
-returns c = rw (sym (c .before .before .before .application-at .ensures .0) ∙ c .before .r .given .1)
+returns c = rw (sym (c .before .before .before .application-at .ensures .0) ∙ c .before .r .given .1) refl
 
 returns-2 : tie.Need-returns-2
 returns-2 c =

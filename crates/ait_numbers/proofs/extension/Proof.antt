@@ -1,5 +1,5 @@
 -- `ait_numbers::extension` meets its contract, case by case.
-use mathlib.Core.Path.{sym, _∙_}
+use mathlib.Core.Path.{refl, sym, _∙_}
 use borrow.Author.Needs.{needs}
 use Rattle.ait_numbers.proofs.extension.Statement.{statement}
 use Rattle.ait_numbers.proofs.extension.Tie as tie
@@ -17,10 +17,10 @@ enum-known-x : tie.Need-enum-known-x
 enum-known-x c = search needs
 
 returns : tie.Need-returns
-returns c = rw (sym (c .before .before .before .before .scope-of .ensures), sym (c .before .before .before .extension-at .ensures .0) ∙ c .before .r .given .1)
+returns c = rw (sym (c .before .before .before .before .scope-of .ensures), sym (c .before .before .before .extension-at .ensures .0) ∙ c .before .r .given .1) refl
 
 returns-2 : tie.Need-returns-2
-returns-2 c = rw (sym (c .before .before .before .before .scope-of .ensures), sym (c .before .before .before .extension-at .ensures .0) ∙ c .before .x .given .1)
+returns-2 c = rw (sym (c .before .before .before .before .scope-of .ensures), sym (c .before .before .before .extension-at .ensures .0) ∙ c .before .x .given .1) refl
 
 pub extension-spec : {M : Type 1} → statement M
 extension-spec =

@@ -1,5 +1,5 @@
 -- `ait_numbers::label` meets its contract, case by case.
-use mathlib.Core.Path.{sym, _∙_}
+use mathlib.Core.Path.{refl, sym, _∙_}
 use borrow.Author.Needs.{needs}
 use Rattle.ait_numbers.proofs.label.Statement.{statement}
 use Rattle.ait_numbers.proofs.label.Tie as tie
@@ -20,16 +20,16 @@ enum-told : tie.Need-enum-told
 enum-told c = search needs
 
 returns : tie.Need-returns
-returns c = rw (sym (c .before .before .before .resolve .ensures .0) ∙ c .before .r .given .1)
+returns c = rw (sym (c .before .before .before .resolve .ensures .0) ∙ c .before .r .given .1) refl
 
 returns-2 : tie.Need-returns-2
-returns-2 c = rw (sym (c .before .before .before .resolve .ensures .0) ∙ c .before .j .given .1)
+returns-2 c = rw (sym (c .before .before .before .resolve .ensures .0) ∙ c .before .j .given .1) refl
 
 returns-3 : tie.Need-returns-3
-returns-3 c = rw (sym (c .before .before .before .resolve .ensures .0) ∙ c .before .n .given .1)
+returns-3 c = rw (sym (c .before .before .before .resolve .ensures .0) ∙ c .before .n .given .1) refl
 
 returns-4 : tie.Need-returns-4
-returns-4 c = rw (sym (c .before .before .resolve .ensures .0) ∙ c .enum-told .given .1)
+returns-4 c = rw (sym (c .before .before .resolve .ensures .0) ∙ c .enum-told .given .1) refl
 
 pub label-spec : {M : Type 1} → statement M
 label-spec =

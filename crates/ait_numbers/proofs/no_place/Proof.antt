@@ -1,5 +1,5 @@
 -- `ait_numbers::no_place` meets its contract, case by case.
-use mathlib.Core.Path.{sym, _∙_}
+use mathlib.Core.Path.{refl, sym, _∙_}
 use borrow.Author.Needs.{needs}
 use Rattle.ait_numbers.proofs.no_place.Statement.{statement}
 use Rattle.ait_numbers.proofs.no_place.Tie as tie
@@ -14,10 +14,10 @@ enum-told : tie.Need-enum-told
 enum-told c = search needs
 
 returns : tie.Need-returns
-returns c = rw (sym (c .before .before .before .read .ensures .0) ∙ c .before .r .given .1)
+returns c = rw (sym (c .before .before .before .read .ensures .0) ∙ c .before .r .given .1) refl
 
 returns-2 : tie.Need-returns-2
-returns-2 c = rw (sym (c .before .before .read .ensures .0) ∙ c .enum-told .given .1)
+returns-2 c = rw (sym (c .before .before .read .ensures .0) ∙ c .enum-told .given .1) refl
 
 pub no-place-spec : {M : Type 1} → statement M
 no-place-spec = tie.close (tie.spec read-requires enum-known-r enum-told returns returns-2)

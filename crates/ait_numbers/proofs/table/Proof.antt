@@ -1,5 +1,5 @@
 -- `ait_numbers::table` meets its contract, case by case.
-use mathlib.Core.Path.{sym, _∙_}
+use mathlib.Core.Path.{refl, sym, _∙_}
 use borrow.Author.Needs.{needs}
 use Rattle.ait_numbers.proofs.table.Statement.{statement}
 use Rattle.ait_numbers.proofs.table.Tie as tie
@@ -14,10 +14,10 @@ enum-known-t : tie.Need-enum-known-t
 enum-known-t c = search needs
 
 returns : tie.Need-returns
-returns c = rw (sym (c .before .before .before .read .ensures .0) ∙ c .before .r .given .1)
+returns c = rw (sym (c .before .before .before .read .ensures .0) ∙ c .before .r .given .1) refl
 
 returns-2 : tie.Need-returns-2
-returns-2 c = rw (sym (c .before .before .before .read .ensures .0) ∙ c .before .t .given .1)
+returns-2 c = rw (sym (c .before .before .before .read .ensures .0) ∙ c .before .t .given .1) refl
 
 pub table-spec : {M : Type 1} → statement M
 table-spec =

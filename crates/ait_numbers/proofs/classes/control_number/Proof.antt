@@ -1,4 +1,5 @@
 -- `ait_numbers::classes::control_number` meets its contract, case by case.
+use mathlib.Core.Path.{refl}
 use Rattle.ait_numbers.specs.Classes.{controlNumber}
 use borrow.Author.Needs.{needs}
 use Rattle.ait_numbers.proofs.classes.control_number.Statement.{statement}
@@ -24,27 +25,27 @@ enum-told-6 c = search needs
 
 returns : tie.Need-returns
 unfolding controlNumber
-returns c = rw (c .enum-told .given .1)
+returns c = rw (c .enum-told .given .1) refl
 
 returns-2 : tie.Need-returns-2
 unfolding controlNumber
-returns-2 c = rw (c .enum-told2 .given .1)
+returns-2 c = rw (c .enum-told2 .given .1) refl
 
 returns-3 : tie.Need-returns-3
 unfolding controlNumber
-returns-3 c = rw (c .enum-told3 .given .1)
+returns-3 c = rw (c .enum-told3 .given .1) refl
 
 returns-4 : tie.Need-returns-4
 unfolding controlNumber
-returns-4 c = rw (c .enum-told4 .given .1)
+returns-4 c = rw (c .enum-told4 .given .1) refl
 
 returns-5 : tie.Need-returns-5
 unfolding controlNumber
-returns-5 c = rw (c .enum-told5 .given .1)
+returns-5 c = rw (c .enum-told5 .given .1) refl
 
 returns-6 : tie.Need-returns-6
 unfolding controlNumber
-returns-6 c = rw (c .enum-told6 .given .1)
+returns-6 c = rw (c .enum-told6 .given .1) refl
 
 pub control-number-spec : {M : Type 1} → statement M
 control-number-spec =
