@@ -28,7 +28,7 @@ tableJudged s =
     onChecked (checkedOf Application s) (λ r. Refused r) (λ h.
     cond (eqb (bodyRefusal (bodyOf s)) 0) (Accepted h) (Refused (refused (bodyRefusal (bodyOf s)))))
 
--- An accepted application section by the clauses of its tests, one by one. In plain facts, none of them a test, it is `FormedTable` of ait_grammar.
+-- An accepted application section by the clauses of its tests, one by one. In plain facts, none of them a test, it is `GoodTable` of ait_grammar.
 pub record FormedTable (s : List ℕ) : Type 0 where
   -- the section: header, length, CRC
   pub section : GoodSection Application s
