@@ -28,7 +28,7 @@ enum {
     NEBOSVAR_NOT_CURRENT = 6,                /* current_next 0 */
     NEBOSVAR_MALFORMED = 7,                  /* a length or fixed field inside does not fit, bytes are left over, or known contents malformed */
     NEBOSVAR_BAD_MESSAGE = 8,                /* first two message bytes or message number not as in the paper */
-    NEBOSVAR_BAD_BLOCK_HEADER = 9,           /* DDB: extension is not the module number, or section number is not block number mod 256 */
+    NEBOSVAR_BAD_BLOCK_HEADER = 9,           /* DDB: extension is not the module number, or section number is not block number mod 256; section version isn't the module version mod 32 */
     NEBOSVAR_BEYOND_LIMITS = 10,             /* DII: blockSize 0 or over 4,066; 0 or over 16 modules; a size 0 or over 256 * blockSize; sizes over 65,536 together */
     NEBOSVAR_MODULE_TWICE = 11,              /* DII: module number twice */
     NEBOSVAR_NOT_ANNOUNCED = 12,             /* DDB: no announcement, or downloadId differs */

@@ -11,7 +11,7 @@ import sys
 
 import program
 import test_inspect
-from receiver import ddb, dii
+from receiver import byte5, ddb, dii
 from second import ROOT
 from test_ait import ait, app, d00, d02, desc
 
@@ -69,6 +69,7 @@ def damaged():
     yield announcement()
     yield block(DRIFT, 0)
     yield bytes(flipped)
+    yield block(DRIFT, 1, byte5=byte5(2))
     yield block(DRIFT, 1, version=2)
     yield block(DRIFT, 1, download=2025)
     yield block(DRIFT, 0, data=bytes(BLOCK))
@@ -81,7 +82,7 @@ def damaged():
 # What must come out by the paper's words: each section's kind, or its number if refused; then the stop.
 CAPTURES = {
     "whole.sections": (whole(), "table new stored stored stored repeated same stored stored end"),
-    "damaged.sections": (damaged(), "18 new stored 5 14 12 17 stored stored stored short"),
+    "damaged.sections": (damaged(), "18 new stored 5 9 14 12 17 stored stored stored short"),
 }
 
 

@@ -1,8 +1,8 @@
 #!/usr/bin/env python3
 """The paper's program in plain Python, and its tests.
 
-Written from the paper (01, "The run" and the numbered refusals; points R1 to R7), not from the Rattle code: the carousel's rules
-are tests/receiver.py, the application rules tests/test_ait.py. Each input below says what it shows and, where the paper's
+Written from the paper (01, "The run" and the numbered refusals; points R1 to R7) and 02, §6, not from the Rattle code: the carousel's
+rules are tests/receiver.py, the application rules tests/test_ait.py. Each input below says what it shows and, where the paper's
 words tell it, what must come out.
 
     program.py                 check the inputs, and compare crates/receive/stdin and stdout with the paper's printed example
@@ -27,7 +27,7 @@ from typing import NamedTuple
 import test_ait
 import receiver
 from test_ait import ait, app, d00, desc
-from receiver import IMAGE, Record, ddb, dii
+from receiver import IMAGE, Record, byte5, ddb, dii
 from second import ROOT, with_crc
 
 READ, BUDGET = 65_536, 65_536
@@ -88,7 +88,7 @@ class Input(NamedTuple):
     wanted: str | None = None  # where the paper's words tell it: each section's kind, or its number if refused; then the stop
 
 
-# A module of 1,000 bytes in blocks of 400 is announced; then block 0, block 0 again, block 0 of another version.
+# A module of 1,000 bytes in blocks of 400 is announced; then block 0, block 0 again, block 0 of another version, its section's too.
 FIRST = b"drift 0 " * 50
 EXAMPLE = Input(
     "the paper's example",
@@ -266,6 +266,22 @@ def soundings():
     yield Input("the sizes together", "65,536 fill the image, one more is refused.", sizes(400, 65_535, 1) + sizes(400, 65_536, 1), "new 10 end")
 
 
+def stale():
+    """02, §6: old section headers on new blocks."""
+    one = lambda version, header: dii(5, 4, [(1, 4, version)]) + ddb(5, 1, version, 0, b"list", byte5=byte5(header))
+    yield Input("section versions", "The module version mod 32.", one(32, 0) + one(33, 0) + one(0, 31) + one(255, 31), "new stored new 9 new 9 new stored end")
+    newer = (7, 25, 4)
+    relayed = block(newer, 0, byte5=byte5(3))
+    yield Input(
+        "an old header on a new block",
+        "9 before the announcement, and after that of either version; under its own header 12, 14 and stored.",
+        relayed + block(newer, 0) + announcement() + relayed + block(newer, 0) + announcement([newer]) + relayed + block(TIDES, 0) + block(newer, 0) + relayed,
+        "9 12 new 9 14 new 9 14 stored 9 end",
+    )
+    every = b"".join(announcement(byte5=byte5(version)) for version in range(32))
+    yield Input("announcements of every section version", "It is not looked at there.", every, "new " + "same " * 31 + "end")
+
+
 # Not among them: 1, since the run begins with the empty record and every step keeps the rule; 2, since only whole sections are
 # taken (R2); 15, since limit 10 holds the sizes to 65,536 together, as many as the image has; 19 and 20, which no section gets.
 FAULTS = {
@@ -328,7 +344,7 @@ def many():
 
 # ---- at random; what must come out is only what the program above says
 
-LISTS = [[(3, 20, 0), (4, 13, 1)], [(3, 20, 0), (4, 13, 1)], [(4, 13, 1), (259, 8, 0), (3, 20, 1)]]
+LISTS = [[(3, 20, 0), (4, 13, 33)], [(3, 20, 0), (4, 13, 33)], [(4, 13, 33), (259, 8, 255), (3, 20, 32)]]
 DESCRIPTORS = [desc(*d) for d in ((1, b"eng\x04tide"), (2, b"\0\1\7\0\1"), (2, b"\0\3\7\1a\0"), (5, bytes(7)), (0x15, b"/x"), (0x33, b"raw"))]
 
 
@@ -342,7 +358,8 @@ def random_block(rnd):
     number, size, version = rnd.choice(rnd.choice(LISTS))
     b = rnd.randrange(-(-size // 8) + (rnd.random() < 0.1))
     data = bytes(number % 256 + b for _ in range(min(8, max(0, size - 8 * b)) + (rnd.random() < 0.05)))
-    return ddb(rnd.choice([1] * 9 + [2]), number, version, b, data if rnd.random() < 0.95 else data[:-1] + b"!")
+    header = byte5(version + rnd.choice([0] * 19 + [1]))
+    return ddb(rnd.choice([1] * 9 + [2]), number, version, b, data if rnd.random() < 0.95 else data[:-1] + b"!", byte5=header)
 
 
 def damaged(rnd, s):
@@ -374,7 +391,7 @@ def at_random():
         yield Input("sections at random, %d" % seed, "A byte or two damaged, the CRC mended; more than 1,000 sections are taken.", stretch)
 
 
-TOPICS = (beginnings, endings, cuts, tables, block_by_block, announcements, soundings, numbers, lengths, many, at_random)
+TOPICS = (beginnings, endings, cuts, tables, block_by_block, announcements, soundings, stale, numbers, lengths, many, at_random)
 
 
 # ---- what is known of the inputs without the built program

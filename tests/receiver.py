@@ -1,4 +1,4 @@
-"""A carousel receiver in plain Python, and makers of its sections. Written from the paper (01), not from the Rattle code.
+"""A carousel receiver in plain Python, and makers of its sections. Written from the paper (01) and 02, §6, not from the Rattle code.
 
 The marks are one number of 4,096 bits, not words; a section's numbers are gathered and the lowest taken, not tested in turn.
 """
@@ -123,7 +123,8 @@ def judged(s):
         if over_limits(message.block_size, [z for _, z, _ in message.modules]):
             return 10, None
         return (11 if twice([n for n, _, _ in message.modules]) else 0), message
-    return (9 if s[3] * 256 + s[4] != message.number or s[6] != message.block % 256 else 0), message
+    header = s[3] * 256 + s[4], s[6], s[5] % 64 // 2  # extension, section number, section version
+    return (0 if header == (message.number, message.block % 256, message.version % 32) else 9), message
 
 
 # ---- the calls; an image is a bytearray, and each answers a number first
@@ -200,6 +201,11 @@ def missing(r, number):
 # ---- sections; what is left out is right for the rest
 
 
+def byte5(version):
+    """Of a current section of this version, its low five bits."""
+    return 0xC1 | version % 32 * 2
+
+
 def section(table, body, extension=0, number=0, last=None, byte5=0xC1, flags=0xB0, length=None):
     length = len(body) + 9 if length is None else length
     last = 255 if last is None else last
@@ -235,5 +241,5 @@ def dii(download, block_size, modules, info=b"", compatibility=b"", private=b"",
 
 def ddb(download, module, version, block, data, reserved=0xFF, **given):
     payload = module.to_bytes(2, "big") + bytes([version, reserved]) + block.to_bytes(2, "big") + data
-    given = {"extension": module, "number": block % 256, "identifier": download, **given}
+    given = {"extension": module, "number": block % 256, "byte5": byte5(version), "identifier": download, **given}
     return whole(0x3C, 0x1003, payload, given)

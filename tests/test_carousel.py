@@ -1,7 +1,7 @@
 #!/usr/bin/env python3
 """What crates/test_carousel must print, by a second program.
 
-Written from the paper (01, "The messages" to "False bearings"), not from the Rattle code: the receiver is tests/receiver.py, and
+Written from the paper (01, "The messages" to "False bearings"; 02, §6), not from the Rattle code: the receiver is tests/receiver.py, and
 here are the sequences that both are led through. Where a sequence knows its answer from the paper's words, it says so (`wanted`).
 
     test_carousel.py          compare crates/test_carousel/stdin and stdout with what this program makes
@@ -14,7 +14,7 @@ import sys
 from collections import Counter
 
 import receiver
-from receiver import ddb, dii, message, section
+from receiver import byte5, ddb, dii, message, section
 from second import settle, with_crc
 
 FIELDS = ["download", "block_size", "count", "number", "size", "version", "start", "marks"]
@@ -236,7 +236,7 @@ def framing(t):
     t.step(block(0, 0, adapted=1, module=0x0100), 9)
     for size in range(8):
         short = message(0x1003, bytes([0, 7, 3, 255, 0, 0, 99])[:size], ID)
-        t.step(section(0x3C, short, extension=7), 7 if size < 6 else 16)
+        t.step(section(0x3C, short, extension=7, byte5=byte5(3)), 7 if size < 6 else 16)
         t.step(section(0x3C, message(0x1003, bytes(size), ID, b"ab"), extension=7), 7 if size < 6 else 9)
     for adapted, wanted in ((15, 7), (16, 7), (17, 7), (11, 7), (255, 7)):
         t.step(block(0, 0, adapted=adapted), wanted)
@@ -290,10 +290,41 @@ def headers(t):
         {"identifier": 0xFFFF_FFFF}, {"unread": 0}, {"unread10": bytes([9] * 10)},
     ):
         t.step(announcement(**same), "same")
-    for same in ({"byte5": 0x01}, {"byte5": 0x3F}, {"last": 0}, {"flags": 0x80}, {"unread": 0}, {"reserved": 0}):
+    for same in ({"byte5": 0x07}, {"byte5": 0x47}, {"byte5": 0x87}, {"last": 0}, {"flags": 0x80}, {"unread": 0}, {"reserved": 0}):
         t.step(block(0, 0, **same), "repeated")
     for nine in ({"extension": 8}, {"extension": 0x0107}, {"number": 1}, {"extension": 0, "number": 3}):
         t.step(block(0, 0, **nine), 9)
+
+
+def stale(t):
+    """9 for the section version (02, §6): the message's module version mod 32, before any look at the record."""
+    for version, header, wanted in ((32, 0, "stored"), (33, 0, 9), (0, 31, 9), (255, 31, "stored")):
+        t.start(1)
+        t.step(dii(5, 2, [(1, 1, version)], byte5=byte5(header)), "new")
+        t.step(ddb(5, 1, version, 0, b"x", byte5=byte5(header)), wanted)
+    # no announcement; another download, module, version, image, length, other bytes: 9 under an old header, and else their own
+    old = {"byte5": byte5(2)}
+    t.start(TOTAL)
+    t.step(block(0, 0, **old), 9)
+    t.step(block(0, 0), 12)
+    begun(t, blocks=[(0, 0)])
+    for wrong, number in (({"download": 1}, 12), ({"module": 8}, 13), ({"version": 35}, 14), ({"version": 4}, 14), ({"data": b"x"}, 16), ({"data": bytes(10)}, 17)):
+        t.step(block(0, 0, **wrong, **old), 9)
+        t.step(block(0, 0, **wrong), number)
+    # a block of another version under the header of the announced one, and the announced one under that of the other
+    t.step(block(0, 1, version=4, byte5=byte5(3)), 9)
+    t.step(block(0, 1, byte5=byte5(4)), 9)
+    t.length(TOTAL - 1)
+    t.step(block(0, 1, **old), 9)
+    t.step(block(0, 1), 15)
+    t.length(TOTAL)
+    t.missing(7, [1, 2])
+    # a header wrong in one bit
+    for bit in range(5):
+        t.step(block(0, 1, byte5=byte5(3 ^ 1 << bit)), 9)
+    t.step(block(0, 1, size=1, **old), 7)
+    t.step(block(0, 1, second=4, **old), 8)
+    t.step(block(0, 1), "stored")
 
 
 def limits(t):
@@ -634,7 +665,7 @@ def walk(t, seed, steps):
     numbers = [3, 4, 259, 0]
     lists = []
     for _ in range(3):
-        modules = [(n, rnd.randrange(1, 25), rnd.randrange(2)) for n in rnd.sample(numbers, rnd.randrange(1, 4))]
+        modules = [(n, rnd.randrange(1, 25), rnd.choice([0, 32, 255])) for n in rnd.sample(numbers, rnd.randrange(1, 4))]
         lists.append((rnd.choice([1, 2]), rnd.choice([6, 8, 8]), modules))
     t.start(80, rnd.randrange(256))
     for _ in range(steps):
@@ -649,7 +680,9 @@ def walk(t, seed, steps):
             size = min(r.block_size, max(0, m.size - b * r.block_size)) + (rnd.choice([-1, 1]) if rnd.random() < 0.08 else 0)
             fresh = 1 if rnd.random() < 0.06 else 0
             data = bytes((m.number + k + 16 * b + fresh) % 256 for k in range(max(0, size)))
-            s = ddb(r.download ^ (rnd.random() < 0.05), m.number, m.version ^ (rnd.random() < 0.05), b, data, adaptation=bytes(rnd.choice([0, 0, 0, 2])))
+            version = m.version ^ rnd.choice([0] * 18 + [1, 32])
+            header = byte5(version ^ rnd.choice([0] * 18 + [1, 32]))
+            s = ddb(r.download ^ (rnd.random() < 0.05), m.number, version, b, data, adaptation=bytes(rnd.choice([0, 0, 0, 2])), byte5=header)
         else:
             again = rnd.choice(lists)
             s = dii(*again)
@@ -691,12 +724,12 @@ def records(t, seed, times):
 
 def main():
     t = Script()
-    for sequence in (soundings, framing, headers, limits, announcements, blocks, many_blocks, lengths, pairs, broken):
+    for sequence in (soundings, framing, headers, stale, limits, announcements, blocks, many_blocks, lengths, pairs, broken):
         at = len(t.given)
         sequence(t)
         if "--count" in sys.argv:
             print("%s: %d bytes" % (sequence.__name__, len(t.given) - at), file=sys.stderr)
-    for seed, steps in ((1, 50), (2, 50), (3, 50), (4, 50)):
+    for seed, steps in ((1, 39), (2, 39), (3, 39), (4, 39)):
         walk(t, seed, steps)
     records(t, 13, 21)
     steps = ["new", "same", "stored", "repeated"] + ["step %d" % n for n in range(1, 18)]

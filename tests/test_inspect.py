@@ -1,7 +1,7 @@
 #!/usr/bin/env python3
 """What crates/inspect must print, by a second program.
 
-Written from the paper (01) and the lines below, not from the Rattle code. The carousel's rules are tests/receiver.py, those of a
+Written from the paper (01), 02, §6, and the lines below, not from the Rattle code. The carousel's rules are tests/receiver.py, those of a
 table tests/test_ait.py, the run tests/program.py; what is new here reads an accepted table with the place of each part.
 
 A line each, comma-separated, all numbers decimal. For each section taken (kind: new, same, stored, repeated, table, none):
@@ -278,6 +278,7 @@ def sample_carousel():
     yield announcement(MODULES)
     for m, b in ((TIDES, 2), (DRIFT, 1), (TIDES, 0), (TIDES, 0), (TIDES, 1)):
         yield block(m, b)
+    yield block(DRIFT, 0, byte5=receiver.byte5(30))
     for s in FAULTS.values():
         yield s
         yield block(TIDES, 0)

@@ -15,6 +15,8 @@ use Rattle.section.specs.declared.Header.{Header}
 use Rattle.section.specs.declared.Rules.the-variants.{Carousel}
 use Rattle.section.specs.Header.{announcementTable, blockTable, headerOf, bodyOf}
 use Rattle.section.specs.Refusals.{GoodSection}
+use Rattle.section.specs.Answer.{refused}
+use Rattle.section.proofs.Laws.Exact as section
 use Rattle.carousel_messages.specs.declared.CarouselTable.{CarouselTable}
 use Rattle.carousel_messages.specs.declared.CarouselTable.the-variants.{Announcements, Blocks}
 use Rattle.carousel_messages.specs.declared.Judged.{Judged}
@@ -22,14 +24,15 @@ use Rattle.carousel_messages.specs.declared.Judged.the-variants as judge
 use Rattle.carousel_messages.specs.Message.{messageOf, messageIdentifierOf, adaptationOf, messageLengthOf, payloadOf, wantedOf}
 use Rattle.carousel_messages.specs.Contents.{downloadOf, blockVersionOf, blockSizeOf, modulesStart, modulesEnd, modulesOf, moduleSizeOf, announcementFramed, blockModuleOf, blockNumberOf}
 use Rattle.carousel_messages.specs.Limits.{largestBlock, mostModules, mostBlocks, mostBytes, badSize, someBad, total, beyond10, among, twice11}
-use Rattle.carousel_messages.specs.Refusals.{short7, meets8, messageFramed, payloadFramed, messageMeets7, meets9, meets10, meets11, messageTests}
-use Rattle.carousel_messages.specs.Judged.{announcementOf, blockOf, judgedOf, carouselTableIn}
+use Rattle.carousel_messages.specs.Refusals.{short7, meets8, messageFramed, payloadFramed, messageMeets7, meets9, meets10, meets11, messageTests, messageRefusal}
+use Rattle.carousel_messages.specs.Judged.{announcementOf, blockOf, messageJudged, judgedOf, carouselTableIn}
 use Rattle.carousel_messages.specs.declared.Listed.{Listed}
 use Rattle.carousel_messages.specs.Heard.{Announced, Arrived, announced, arrived, announcedIn, arrivedIn, heardIn, heardOf}
 use Rattle.carousel_messages.proofs.Laws.Limits.{within}
 use Rattle.carousel_messages.proofs.Laws.Heard.{modules-said, data-said}
 use Rattle.carousel_messages.specs.Good.{saidAnnouncement, saidBlock, GoodMessage, Distinct, announcedSizes, announcedNumbers, GoodList, GoodAnnouncement, GoodBlock}
-use Rattle.carousel_messages.proofs.Exact.{good-exactly, announced-exactly, carried-exactly}
+use Rattle.carousel_messages.proofs.Laws.Refusals.{judged-bad, judged-message}
+use Rattle.carousel_messages.proofs.Exact.{Passed, exactly-9, good-exactly, announced-exactly, carried-exactly}
 
 -- the message
 module _ (t : CarouselTable) (b : List ℕ) where
@@ -151,15 +154,17 @@ module _ (p : List ℕ) where
 
 -- a block's
 module _ (h : Header) (p : List ℕ) where
-  nine-there : meets9 h p ≡ false → (h .extension ≡ blockModuleOf p) × (h .section ≡ blockNumberOf p % 256)
+  nine-there : meets9 h p ≡ false → (h .extension ≡ blockModuleOf p) × (h .section ≡ blockNumberOf p % 256) × (h .version ≡ blockVersionOf p % 32)
   unfolding meets9
   nine-there e =
-      let q = neither (not (eqb (h .extension) (blockModuleOf p))) (not (eqb (h .section) (blockNumberOf p % 256))) e in
-      (eqb-true _ _ (not-false _ (q .0)), eqb-true _ _ (not-false _ (q .1)))
+      let r = neither (not (eqb (h .extension) (blockModuleOf p)) || not (eqb (h .section) (blockNumberOf p % 256))) (not (eqb (h .version) (blockVersionOf p % 32))) e in
+      let q = neither (not (eqb (h .extension) (blockModuleOf p))) (not (eqb (h .section) (blockNumberOf p % 256))) (r .0) in
+      (eqb-true _ _ (not-false _ (q .0)), eqb-true _ _ (not-false _ (q .1)), eqb-true _ _ (not-false _ (r .1)))
 
-  nine-back : h .extension ≡ blockModuleOf p → h .section ≡ blockNumberOf p % 256 → meets9 h p ≡ false
+  nine-back : h .extension ≡ blockModuleOf p → h .section ≡ blockNumberOf p % 256 → h .version ≡ blockVersionOf p % 32 → meets9 h p ≡ false
   unfolding meets9
-  nine-back e f = rw (eq-eqb (h .extension) (blockModuleOf p) e, eq-eqb (h .section) (blockNumberOf p % 256) f)
+  nine-back e f g =
+      rw (eq-eqb (h .extension) (blockModuleOf p) e, eq-eqb (h .section) (blockNumberOf p % 256) f, eq-eqb (h .version) (blockVersionOf p % 32) g)
 
 -- 7's other cases: the message and its payload are framed
 module _ (t : CarouselTable) (b : List ℕ) where
@@ -194,6 +199,12 @@ module _ (s : List ℕ) where
       go false true f k e h = eqb-true _ _ k
       go false false f k e h = absurd (clash false h refl)
 
+  -- a section that 2 to 6 do not meet is judged by its message
+  judged-by : (t : CarouselTable) → carouselTableIn s ≡ t → GoodSection Carousel s → judgedOf s ≡ messageJudged t (headerOf s) (bodyOf s)
+  judged-by t e g =
+      sym (judged-message s (headerOf s) (section.accepted-with Carousel s (section.good-exactly Carousel s .1 g)))
+      ∙ ap (λ (t : CarouselTable). messageJudged t (headerOf s) (bodyOf s)) e
+
   -- AN ANNOUNCEMENT IS TAKEN EXACTLY WHEN IT IS WELL FORMED, and what is read of it are its fields
   pub announcement-good : (judgedOf s ≡ judged.Announced (announcementOf (bodyOf s))) ↔ GoodAnnouncement s
   unfolding payloadFramed
@@ -220,6 +231,17 @@ module _ (s : List ℕ) where
           let n : None (messageTests Announcements (headerOf s) (bodyOf s)) = (m .0, (m .1, (seven-back Announcements (bodyOf s) (m .2) (l .0), (l .1, (l .2, tt))))) in
           announced-exactly s (announcementOf (bodyOf s)) .1 (good-exactly s .1 (g .section, subst (λ (t : CarouselTable). None (messageTests t (headerOf s) (bodyOf s))) (sym t) n), t, refl)
 
+  -- a block that has its form: nothing meets it before 9, and if 9 does not either it is well formed
+  passed : GoodMessage Blocks (bodyOf s) → 6 ≤ length (payloadOf (bodyOf s)) → Passed Blocks (bodyOf s)
+  unfolding payloadFramed
+  passed m l = let k = message-back Blocks (bodyOf s) m in (k .0, k .1, seven-back Blocks (bodyOf s) (k .2) (le-leb 6 (length (payloadOf (bodyOf s))) l))
+
+  own-header : GoodSection Carousel s → headerOf s .table ≡ blockTable → GoodMessage Blocks (bodyOf s) → 6 ≤ length (payloadOf (bodyOf s))
+      → meets9 (headerOf s) (payloadOf (bodyOf s)) ≡ false → GoodBlock s
+  own-header g t m l e =
+      let k = nine-there (headerOf s) (payloadOf (bodyOf s)) e in
+      record { section = g; table = t; message = m; headed = l; extension = k .0; number = k .1; version = k .2 }
+
   -- A BLOCK IS TAKEN EXACTLY WHEN IT IS WELL FORMED
   pub block-good : (judgedOf s ≡ judged.Carried (blockOf (bodyOf s))) ↔ GoodBlock s
   unfolding payloadFramed
@@ -231,23 +253,32 @@ module _ (s : List ℕ) where
           let g = good-exactly s .0 (w .0) in
           let n = subst (λ (t : CarouselTable). None (messageTests t (headerOf s) (bodyOf s))) (w .1) (g .1) in
           let f = seven-there Blocks (bodyOf s) (n .1 .1 .0) in
-          let k = nine-there (headerOf s) (payloadOf (bodyOf s)) (n .1 .1 .1 .0) in
-          record {
-            section = g .0;
-            table = blocks-is (g .0) (w .1);
-            message = message-there Blocks (bodyOf s) (n .0) (n .1 .0) (f .0);
-            headed = leb-true _ _ (f .1);
-            extension = k .0;
-            number = k .1;
-          }
+          own-header (g .0) (blocks-is (g .0) (w .1)) (message-there Blocks (bodyOf s) (n .0) (n .1 .0) (f .0)) (leb-true _ _ (f .1)) (n .1 .1 .1 .0)
 
       back : GoodBlock s → judgedOf s ≡ judged.Carried (blockOf (bodyOf s))
       back g =
-          let m = message-back Blocks (bodyOf s) (g .message) in
           let t = is-blocks (g .table) in
-          let f = seven-back Blocks (bodyOf s) (m .2) (le-leb 6 (length (payloadOf (bodyOf s))) (g .headed)) in
-          let n : None (messageTests Blocks (headerOf s) (bodyOf s)) = (m .0, (m .1, (f, (nine-back (headerOf s) (payloadOf (bodyOf s)) (g .extension) (g .number), tt)))) in
+          let f = passed (g .message) (g .headed) in
+          let n : None (messageTests Blocks (headerOf s) (bodyOf s)) = (f .0, (f .1, (f .2, (nine-back (headerOf s) (payloadOf (bodyOf s)) (g .extension) (g .number) (g .version), tt)))) in
           carried-exactly s (blockOf (bodyOf s)) .1 (good-exactly s .1 (g .section, subst (λ (t : CarouselTable). None (messageTests t (headerOf s) (bodyOf s))) (sym t) n), t, refl)
+
+  -- 9 EXACTLY WHERE A BLOCK HAS ITS FORM AND IS NOT WELL FORMED: section, message and fixed fields are right; extension, section number or section version is not its message's
+  pub nine-exactly : GoodSection Carousel s → headerOf s .table ≡ blockTable → GoodMessage Blocks (bodyOf s) → 6 ≤ length (payloadOf (bodyOf s))
+      → (judgedOf s ≡ judged.Refused (refused 9)) ↔ (GoodBlock s → ⊥)
+  nine-exactly g t m l = (λ e k. differ (sym (block-good .1 k) ∙ e), λ n. answer (go (meets9 (headerOf s) (payloadOf (bodyOf s))) refl n))
+    where
+      differ : judged.Carried (blockOf (bodyOf s)) ≡ judged.Refused (refused 9) → ⊥
+      differ e = let z : _≡_ {A = ℕ} 0 1 = cc in omega arith
+
+      go : (u : Bool) → meets9 (headerOf s) (payloadOf (bodyOf s)) ≡ u → (GoodBlock s → ⊥) → messageRefusal Blocks (headerOf s) (bodyOf s) ≡ 9
+      go true e n = exactly-9 (headerOf s) (bodyOf s) .1 (passed m l, e)
+      go false e n = absurd (n (own-header g t m l e))
+
+      answer : messageRefusal Blocks (headerOf s) (bodyOf s) ≡ 9 → judgedOf s ≡ judged.Refused (refused 9)
+      answer e =
+          judged-by Blocks (is-blocks t) g
+          ∙ sym (judged-bad Blocks (headerOf s) (bodyOf s) (λ z. omega arith))
+          ∙ ap (λ (n : ℕ). judged.Refused (refused n)) e
 
   -- an announcement is heard, and a block, of nothing else
   heard-announced : (x : Announced) → heardOf s ≡ announced x → judgedOf s ≡ judged.Announced (announcementOf (bodyOf s))
@@ -303,3 +334,16 @@ module _ (s : List ℕ) where
     where
       same : arrived (saidBlock s) ≡ arrived x → saidBlock s ≡ x
       same e = cc
+
+-- "In 0x3B the extension, section version and section numbers meet no check but 4's": two announcements' sections of one body are judged alike, whatever stands there
+header-unread : (h k : Header) (b : List ℕ) → messageJudged Announcements h b ≡ messageJudged Announcements k b
+unfolding messageJudged messageRefusal
+header-unread h k b = refl
+
+pub announcements-alike : (s t : List ℕ) → GoodSection Carousel s → GoodSection Carousel t → headerOf s .table ≡ announcementTable → headerOf t .table ≡ announcementTable
+    → bodyOf s ≡ bodyOf t → judgedOf s ≡ judgedOf t
+announcements-alike s t g k e f b =
+    judged-by s Announcements (is-announcements s e) g
+    ∙ header-unread (headerOf s) (headerOf t) (bodyOf s)
+    ∙ ap (messageJudged Announcements (headerOf t)) b
+    ∙ sym (judged-by t Announcements (is-announcements t f) k)

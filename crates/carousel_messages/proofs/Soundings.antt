@@ -1,4 +1,4 @@
--- Worked examples, computed from the definitions: the paper's soundings of refusals 9 and 10, and an announcement and a block that are taken, so that acceptance is not empty.
+-- Worked examples, computed from the definitions: the paper's soundings of refusals 9 and 10, those of 02 §6, and an announcement and a block that are taken, so that acceptance is not empty.
 use mathlib.Core.Path.{_≡_, refl}
 use mathlib.Core.Bool.{true, false}
 use mathlib.Core.List.{List, [], _∷_}
@@ -23,20 +23,26 @@ pub sizes : (beyond10 1 (256 ∷ []) ≡ false) × (beyond10 1 (257 ∷ []) ≡ 
 unfolding beyond10 someBad total
 sizes = (refl, refl, refl, refl, refl, refl)
 
--- the header of a section of module 7, with this section number
-abbrev pub headed : ℕ → Header
-headed n = record { table = 0x3C; extension = 7; version = 1; section = n; last = 255 }
+-- the header of a section of module 7, with this section version and section number
+abbrev pub headed : (version number : ℕ) → Header
+headed v n = record { table = 0x3C; extension = 7; version = v; section = n; last = 255 }
 
--- a block of module 7 in download 5: two adaptation bytes, then block 300, of one byte
-abbrev pub block300 : List ℕ
-block300 =
-    0x11 ∷ 0x03 ∷ 0x10 ∷ 0x03 ∷ 0 ∷ 0 ∷ 0 ∷ 5 ∷ 0xFF ∷ 2 ∷ 0 ∷ 9 ∷ 0xAA ∷ 0xAA ∷ 0 ∷ 7 ∷ 1 ∷ 0xFF ∷ 1 ∷ 44 ∷ 0x55 ∷ []
+-- a block of module 7 in download 5, of this module version: two adaptation bytes, then block 300, of one byte
+abbrev pub block300 : (version : ℕ) → List ℕ
+block300 v =
+    0x11 ∷ 0x03 ∷ 0x10 ∷ 0x03 ∷ 0 ∷ 0 ∷ 0 ∷ 5 ∷ 0xFF ∷ 2 ∷ 0 ∷ 9 ∷ 0xAA ∷ 0xAA ∷ 0 ∷ 7 ∷ v ∷ 0xFF ∷ 1 ∷ 44 ∷ 0x55 ∷ []
 
 -- "block 300 with section number 44 passes 9"; a block in the announcements' table is 8; a body of 11 bytes is 7, whatever they are
-pub blocks : (messageRefusal Blocks (headed 44) block300 ≡ 0) × (messageRefusal Blocks (headed 45) block300 ≡ 9)
-    × (messageRefusal Announcements (headed 44) block300 ≡ 8) × (messageRefusal Blocks (headed 44) (0 ∷ 0 ∷ 0 ∷ 0 ∷ 0 ∷ 0 ∷ 0 ∷ 0 ∷ 0 ∷ 0 ∷ 0 ∷ []) ≡ 7)
+pub blocks : (messageRefusal Blocks (headed 1 44) (block300 1) ≡ 0) × (messageRefusal Blocks (headed 1 45) (block300 1) ≡ 9)
+    × (messageRefusal Announcements (headed 1 44) (block300 1) ≡ 8) × (messageRefusal Blocks (headed 1 44) (0 ∷ 0 ∷ 0 ∷ 0 ∷ 0 ∷ 0 ∷ 0 ∷ 0 ∷ 0 ∷ 0 ∷ 0 ∷ []) ≡ 7)
 unfolding messageRefusal firstMet short7 meets8 messageMeets7 messageFramed payloadFramed meets9 fieldAt
 blocks = (refl, refl, refl, refl)
+
+-- 02 §6, "section version isn't the module version mod 32": version 32 under section version 0 passes, 33 under 0 gives 9, 0 under 31 gives 9, 255 under 31 passes
+pub versions : (messageRefusal Blocks (headed 0 44) (block300 32) ≡ 0) × (messageRefusal Blocks (headed 0 44) (block300 33) ≡ 9)
+    × (messageRefusal Blocks (headed 31 44) (block300 0) ≡ 9) × (messageRefusal Blocks (headed 31 44) (block300 255) ≡ 0)
+unfolding messageRefusal firstMet short7 meets8 messageMeets7 messageFramed payloadFramed meets9 fieldAt
+versions = (refl, refl, refl, refl)
 
 -- an announcement of two modules of 1,000 and 400 bytes, the second of this number, the first with one byte of info
 abbrev announced : ℕ → List ℕ
@@ -44,7 +50,7 @@ announced n =
     0x11 ∷ 0x03 ∷ 0x10 ∷ 0x02 ∷ 0 ∷ 0 ∷ 0 ∷ 0 ∷ 0xFF ∷ 0 ∷ 0 ∷ 39 ∷ 0 ∷ 0 ∷ 0 ∷ 5 ∷ 1 ∷ 0x90 ∷ 0 ∷ 0 ∷ 0 ∷ 0 ∷ 0 ∷ 0 ∷ 0 ∷ 0 ∷ 0 ∷ 0
     ∷ 0 ∷ 0 ∷ 0 ∷ 2 ∷ 0 ∷ 7 ∷ 0 ∷ 0 ∷ 3 ∷ 0xE8 ∷ 1 ∷ 1 ∷ 0xCC ∷ 0 ∷ n ∷ 0 ∷ 0 ∷ 1 ∷ 0x90 ∷ 1 ∷ 0 ∷ 0 ∷ 0 ∷ []
 
-pub announcements : (messageRefusal Announcements (headed 0) (announced 8) ≡ 0) × (messageRefusal Announcements (headed 0) (announced 7) ≡ 11)
+pub announcements : (messageRefusal Announcements (headed 0 0) (announced 8) ≡ 0) × (messageRefusal Announcements (headed 0 0) (announced 7) ≡ 11)
 unfolding messageRefusal firstMet short7 meets8 messageMeets7 messageFramed payloadFramed announcementFramed framed itemsIn items endOf meets10 beyond10 someBad total meets11 twice11 among fieldAt
 announcements = (refl, refl)
 

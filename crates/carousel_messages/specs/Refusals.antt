@@ -10,7 +10,7 @@ use Rattle.section.specs.declared.Header.{Header}
 use Rattle.carousel_messages.specs.declared.CarouselTable.{CarouselTable}
 use Rattle.carousel_messages.specs.declared.CarouselTable.the-variants.{Announcements, Blocks}
 use Rattle.carousel_messages.specs.Message.{messageOf, adaptationOf, messageLengthOf, payloadOf, wantedOf}
-use Rattle.carousel_messages.specs.Contents.{blockSizeOf, announcementFramed, modulesOf, moduleNumberOf, moduleSizeOf, blockFramed, blockModuleOf, blockNumberOf}
+use Rattle.carousel_messages.specs.Contents.{blockSizeOf, announcementFramed, modulesOf, moduleNumberOf, moduleSizeOf, blockFramed, blockModuleOf, blockVersionOf, blockNumberOf}
 use Rattle.carousel_messages.specs.Limits.{beyond10, twice11}
 
 -- "a body under 12 bytes in a message is 7"
@@ -33,9 +33,11 @@ payloadFramed Blocks p = blockFramed p
 unfoldable pub messageMeets7 : CarouselTable → List ℕ → Bool
 messageMeets7 t b = not (messageFramed b && payloadFramed t (payloadOf b))
 
--- 9: "DDB: extension is not the module number, or section number is not block number mod 256"
+-- 9: "DDB: extension is not the module number, or section number is not block number mod 256"; 02 §6: or "5-bit section version isn't the module version mod 32",
+-- the version that this message bears, whatever was announced
 unfoldable pub meets9 : Header → List ℕ → Bool
-meets9 h p = not (eqb (h .extension) (blockModuleOf p)) || not (eqb (h .section) (blockNumberOf p % 256))
+meets9 h p =
+    not (eqb (h .extension) (blockModuleOf p)) || not (eqb (h .section) (blockNumberOf p % 256)) || not (eqb (h .version) (blockVersionOf p % 32))
 
 -- 10 and 11, of the announced modules
 unfoldable pub meets10 : List ℕ → Bool

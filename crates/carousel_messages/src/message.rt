@@ -115,6 +115,9 @@ fn block_refusal(p: &[u8], h: Header) -> u8
     if h.section as u16 != block {
         return 9;
     }
+    if h.version != byte_at(p, 2) % 32 {
+        return 9;
+    }
     0
 }
 

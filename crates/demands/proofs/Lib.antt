@@ -10,3 +10,4 @@ pub mod Three
 pub mod Soundings
 pub mod One
 pub mod Bearings
+pub mod Relays

@@ -1,8 +1,8 @@
 //! A receiver for application tables (AIT) and DSM-CC data carousels, in plain Rust.
 //!
-//! It is written from the paper `01-scope.md` ("the paper" below) and serves as an independent second
-//! implementation and as a baseline for speed. Nothing is allocated except by [`read_all`], whose answer
-//! is a tree of owned values.
+//! It is written from the paper `01-scope.md` ("the paper" below) and 02, §6, and serves as an
+//! independent second implementation and as a baseline for speed. Nothing is allocated except by
+//! [`read_all`], whose answer is a tree of owned values.
 //!
 //! * [`Record::step`] takes one carousel section ("The messages", "The carousel record").
 //! * [`Record::take`] and [`Record::run`] walk over a stretch of sections ("The run").

@@ -16,6 +16,10 @@ const HEADER: usize = 12;
 const BLOCK_FIELDS: usize = 6;
 /// The bytes between blockSize and compatibility length, unread.
 const UNREAD: usize = 10;
+/// How many section numbers a section header can tell.
+const SECTION_NUMBERS: u16 = 256;
+/// How many versions the five bits of a section header can tell.
+const SECTION_VERSIONS: u8 = 32;
 
 /// A framed announcement; its limits (refusals 10 and 11) are not judged yet.
 pub struct Announcement {
@@ -109,16 +113,24 @@ pub fn block<'a>(frame: &Frame<'a>) -> Result<Block<'a>, u8> {
     let (&[m0, m1, version, _, b0, b1], data) = content
         .split_first_chunk::<BLOCK_FIELDS>()
         .ok_or(refusal::MALFORMED)?;
-    let module = u16::from_be_bytes([m0, m1]);
-    // The low byte of the block number is the block number mod 256.
-    if frame.extension != module || frame.number != b1 {
-        return Err(refusal::BLOCK_HEADER);
-    }
-    Ok(Block {
+    let block = Block {
         download,
-        module,
+        module: u16::from_be_bytes([m0, m1]),
         version,
         number: u16::from_be_bytes([b0, b1]),
         data,
-    })
+    };
+    if !is_header_of(frame, &block) {
+        return Err(refusal::BLOCK_HEADER);
+    }
+    Ok(block)
+}
+
+/// Whether the section header is that of its block. The version is held to the block's own, not to the announced
+/// one: a relay's old header on a new block shows in the section alone, and an old block as a whole is for
+/// refusal 14.
+fn is_header_of(frame: &Frame<'_>, block: &Block<'_>) -> bool {
+    frame.extension == block.module
+        && u16::from(frame.number) == block.number % SECTION_NUMBERS
+        && frame.version == block.version % SECTION_VERSIONS
 }

@@ -16,7 +16,8 @@ pub const NOT_CURRENT: u8 = 6;
 pub const MALFORMED: u8 = 7;
 /// First two message bytes or message number not as stated.
 pub const MESSAGE: u8 = 8;
-/// Extension is not the module number, or section number is not block number mod 256.
+/// Extension is not the module number, section number is not block number mod 256, or section version is not
+/// module version mod 32 (02, §6).
 pub const BLOCK_HEADER: u8 = 9;
 /// Announcement out of its limits.
 pub const LIMITS: u8 = 10;

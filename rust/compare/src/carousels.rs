@@ -237,8 +237,22 @@ pub fn wrong_block(random: &mut Random, carousel: &Carousel) -> Section {
             section.number = section.number.wrapping_add(random.pick(&[1, 255]));
             section.last = 255;
         }
+        2 => section.version ^= 1 << random.below(5),
         _ => {}
     }
+    section
+}
+
+/// A block as announced, mostly under the section header of another version (02, §6).
+pub fn stale_block(random: &mut Random, carousel: &Carousel) -> Section {
+    let (place, number) = carousel.any_block(random);
+    let mut section = carousel.block(random, place, number).section();
+    let another = random.byte() % 32;
+    section.version = match random.below(3) {
+        0 => section.version ^ 1 << random.below(5),
+        1 => section.version.wrapping_sub(1) % 32,
+        _ => random.pick(&[0, 31, another]),
+    };
     section
 }
 
@@ -306,6 +320,46 @@ mod tests {
             let after = (carousel.download, carousel.block_size, carousel.modules);
             assert!(before != after || before.2.len() == 1);
         }
+    }
+
+    #[test]
+    fn stale_blocks_are_refused_and_nothing_else_is_wrong_with_them() {
+        let mut seen = [0; 2];
+        for stretch in 0..300 {
+            let random = &mut Random::of(1, stretch);
+            let carousel = Carousel::any(random);
+            let mut record = Record::empty();
+            let mut image = vec![0; carousel.total()];
+            record.step(&carousel.announcement(random).bytes(), &mut image);
+            let mut section = stale_block(random, &carousel);
+            let place = carousel
+                .modules
+                .iter()
+                .position(|module| module.number == section.extension);
+            let own = carousel.modules[place.unwrap()].version % 32;
+            let stale = section.version != own;
+            let answer = record.step(&section.bytes(), &mut image);
+            assert_eq!(
+                answer,
+                if stale {
+                    Answer::Refused(9)
+                } else {
+                    Answer::Stored
+                }
+            );
+            seen[usize::from(stale)] += 1;
+            section.version = own;
+            let answer = record.step(&section.bytes(), &mut image);
+            assert_eq!(
+                answer,
+                if stale {
+                    Answer::Stored
+                } else {
+                    Answer::Repeated
+                }
+            );
+        }
+        assert!(seen[0] > 0 && seen[1] > 200, "{seen:?}");
     }
 
     #[test]

@@ -5,6 +5,7 @@ use std::fmt::{self, Display};
 use nebosvar::{Kind, Stop};
 
 use crate::fence::Edge;
+use crate::versions;
 
 /// The calls that can refuse.
 #[derive(Clone, Copy, PartialEq, Eq, Debug)]
@@ -29,6 +30,8 @@ const KINDS: [&str; 5] = ["table", "new", "same", "stored", "repeated"];
 const STOPS: [&str; 5] = ["end", "stuffing", "short", "budget", "state"];
 /// The refusals, from 1.
 const REFUSALS: usize = 20;
+/// Module versions that the five bits of a section version tell whole, and the others.
+const VERSIONS: [&str; 2] = ["under 32", "of 32 and more"];
 
 /// How often each answer came. Both receivers gave it: it is counted after they were found to agree.
 #[derive(Clone, Default)]
@@ -40,6 +43,9 @@ pub struct Counts {
     refusals: [[u64; CALLS.len()]; REFUSALS],
     kinds: [u64; KINDS.len()],
     stops: [u64; STOPS.len()],
+    /// Blocks refused with 9 for their section version alone, and blocks that were taken, by module version.
+    stale: [u64; VERSIONS.len()],
+    fresh: [u64; VERSIONS.len()],
     handouts: u64,
     places: u64,
 }
@@ -57,6 +63,19 @@ impl Counts {
         self.refusal(call, fate);
         if let Ok(kind) = fate {
             self.kinds[*kind as usize] += 1;
+        }
+    }
+
+    /// A block that was refused with 9 or taken, by its versions.
+    pub fn versions(&mut self, section: &[u8], fate: &Result<Kind, u8>) {
+        let Some((_, version)) = versions::of_block(section) else {
+            return;
+        };
+        let place = usize::from(version >= 32);
+        match fate {
+            Err(9) => self.stale[place] += 1,
+            Ok(Kind::Stored | Kind::Repeated) => self.fresh[place] += 1,
+            _ => {}
         }
     }
 
@@ -89,6 +108,8 @@ impl Counts {
         add(&mut self.fenced, &other.fenced);
         add(&mut self.kinds, &other.kinds);
         add(&mut self.stops, &other.stops);
+        add(&mut self.stale, &other.stale);
+        add(&mut self.fresh, &other.fresh);
         for (counts, others) in self.refusals.iter_mut().zip(&other.refusals) {
             add(counts, others);
         }
@@ -111,6 +132,8 @@ impl Counts {
             .collect();
         all.extend(named("kind", &KINDS, &self.kinds));
         all.extend(named("stop", &STOPS, &self.stops));
+        all.extend(named("stale headers, versions", &VERSIONS, &self.stale));
+        all.extend(named("blocks taken, versions", &VERSIONS, &self.fresh));
         all.push(("complete hand-outs".to_string(), self.handouts));
         all.push(("places of tables".to_string(), self.places));
         all
@@ -172,6 +195,6 @@ mod tests {
             assert!(!rare.iter().any(|line| line.starts_with(answer)));
         }
         assert!(rare.contains(&"refusal 1: 0".to_string()));
-        assert_eq!(rare.len(), 20 + 5 + 5 + 2 - 3);
+        assert_eq!(rare.len(), 20 + 5 + 5 + 4 + 2 - 3);
     }
 }

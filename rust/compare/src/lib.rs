@@ -5,7 +5,7 @@
 //!   images to start from), [`stretches`] (all of it put together).
 //! * Comparing: [`pair`] (both receivers side by side), [`walk`] (a whole stretch), [`reading`] (a table),
 //!   [`threads`] (all stretches), [`fence`] (for some of them, memory that may not be touched beside what is lent).
-//! * Telling: [`counts`] (what was answered how often), [`difference`].
+//! * Telling: [`counts`] (what was answered how often), [`versions`] (of blocks, for the counts), [`difference`].
 //!
 //! What the makers mean a section to be decides nothing: a section that was not spoilt as intended is still
 //! compared, and only the counts at the end say whether every answer was reached.
@@ -24,4 +24,5 @@ pub mod starts;
 pub mod stretches;
 pub mod tables;
 pub mod threads;
+pub mod versions;
 pub mod walk;

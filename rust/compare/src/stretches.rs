@@ -4,7 +4,7 @@ use std::ops::Range;
 
 use baseline::Record;
 
-use crate::carousels::{wrong_block, Carousel};
+use crate::carousels::{stale_block, wrong_block, Carousel};
 use crate::damage;
 use crate::random::Random;
 use crate::starts;
@@ -104,7 +104,8 @@ fn piece(random: &mut Random, carousel: &mut Carousel, stretch: &mut Vec<u8>) {
         }
         14..=33 => some_blocks(random, carousel, stretch),
         34..=40 => whole_module(random, carousel, stretch),
-        41..=55 => stretch.extend(wrong_block(random, carousel).bytes()),
+        41..=52 => stretch.extend(wrong_block(random, carousel).bytes()),
+        53..=55 => stretch.extend(stale_block(random, carousel).bytes()),
         56..=62 => stretch.extend(carousel.at_limits(random).section().bytes()),
         63..=70 => stretch.extend(tables::any(random, false).bytes()),
         71..=74 => stretch.extend(tables::any(random, true).bytes()),

@@ -89,6 +89,9 @@ impl Walk<'_> {
         let rest = self.lender.lend(&stretch[place.start..]);
         let taken = self.pair.take(rest, budget, self.counts)?;
         self.counts.sections += u64::from(taken.is_ok());
+        if let Ok((_, fate)) = &taken {
+            self.counts.versions(section, fate);
+        }
         let kind = taken.ok().and_then(|(_, fate)| fate.ok());
         unchanged(&self.pair, &self.before, kind)?;
         if may_change(kind) {

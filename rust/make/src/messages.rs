@@ -138,10 +138,13 @@ impl Block {
         content
     }
 
-    /// Its section: the extension is the module number, the section number the block number mod 256.
+    /// Its section: the extension is the module number, the section number the block number mod 256, and the section version
+    /// the module version mod 32 (02, §6).
     pub fn section(&self) -> Section {
         let body = message(0x1003, self.download, &self.adaptation, &self.content());
-        Section::new(BLOCK, self.module, self.number as u8, body)
+        let mut section = Section::new(BLOCK, self.module, self.number as u8, body);
+        section.version = self.version % 32;
+        section
     }
 
     pub fn bytes(&self) -> Vec<u8> {
@@ -182,19 +185,14 @@ mod tests {
 
     #[test]
     fn a_block_field_by_field() {
-        let made = Block::new(0x0102_0304, 0x0506, 7, 0x0809, b"ab");
+        // Version 0xB4 is 20 mod 32: with the reserved bits and the current one byte 5 is 0b11_10100_1.
+        let made = Block::new(0x0102_0304, 0x0506, 0xB4, 0x0809, b"ab");
         let wanted = [
-            0x11, 0x03, 0x10, 0x03, 1, 2, 3, 4, 0xFF, 0, 0, 8, 5, 6, 7, 0xFF, 8, 9, b'a', b'b',
+            0x11, 0x03, 0x10, 0x03, 1, 2, 3, 4, 0xFF, 0, 0, 8, 5, 6, 0xB4, 0xFF, 8, 9, b'a', b'b',
         ];
         assert_eq!(made.section().body, wanted);
-        assert_eq!(
-            (
-                made.section().table,
-                made.section().extension,
-                made.section().number
-            ),
-            (0x3C, 0x0506, 9)
-        );
+        let header = [0x3C, 0xB0, 29, 0x05, 0x06, 0b1110_1001, 9, 9];
+        assert_eq!(made.bytes()[..8], header);
     }
 
     #[test]

@@ -18,11 +18,11 @@
 //! use nebosvar::{Kind, Record, Refusal};
 //!
 //! /// A section: header, body, CRC.
-//! fn section(table: u8, extension: u16, number: u8, body: &[u8]) -> Vec<u8> {
+//! fn section(table: u8, extension: u16, version: u8, number: u8, body: &[u8]) -> Vec<u8> {
 //!     let mut bytes = vec![table];
 //!     bytes.extend((0xB000 | (body.len() + 9) as u16).to_be_bytes());
 //!     bytes.extend(extension.to_be_bytes());
-//!     bytes.extend([0xC1, number, number]);
+//!     bytes.extend([0xC1 | version << 1, number, number]);
 //!     bytes.extend(body);
 //!     let mut crc = u32::MAX;
 //!     for byte in &bytes {
@@ -36,17 +36,17 @@
 //! }
 //!
 //! // Download 1 in blocks of 4 bytes; one module, with number 7, 6 bytes, and version 2.
-//! let announcement = section(0x3B, 0, 0, &[
+//! let announcement = section(0x3B, 0, 0, 0, &[
 //!     0x11, 0x03, 0x10, 0x02, 0, 0, 0, 0, 0xFF, 0, 0, 30,
 //!     0, 0, 0, 1, 0, 4, 0, 0, 0, 0, 0, 0, 0, 0, 0, 0, 0, 0,
 //!     0, 1, 0, 7, 0, 0, 0, 6, 2, 0, 0, 0,
 //! ]);
-//! // Its blocks 0 and 1.
-//! let first = section(0x3C, 7, 0, &[
+//! // Its blocks 0 and 1, in sections of its number and version.
+//! let first = section(0x3C, 7, 2, 0, &[
 //!     0x11, 0x03, 0x10, 0x03, 0, 0, 0, 1, 0xFF, 0, 0, 10,
 //!     0, 7, 2, 0xFF, 0, 0, b'b', b'u', b'o', b'y',
 //! ]);
-//! let second = section(0x3C, 7, 1, &[
+//! let second = section(0x3C, 7, 2, 1, &[
 //!     0x11, 0x03, 0x10, 0x03, 0, 0, 0, 1, 0xFF, 0, 0, 8,
 //!     0, 7, 2, 0xFF, 0, 1, b' ', b'3',
 //! ]);

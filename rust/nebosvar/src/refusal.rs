@@ -35,7 +35,8 @@ impl Refusal {
     pub const MALFORMED: Refusal = Refusal(7);
     /// 8: first two message bytes, or message number.
     pub const BAD_MESSAGE: Refusal = Refusal(8);
-    /// 9: a block whose extension is not its module's number, or whose section number is not its own.
+    /// 9: a block whose extension is not its module's number, whose section number is not its own, or whose section version is
+    /// not that of its message (mod 32).
     pub const BAD_BLOCK_HEADER: Refusal = Refusal(9);
     /// 10: an announcement beyond the limits.
     pub const BEYOND_LIMITS: Refusal = Refusal(10);
@@ -86,7 +87,7 @@ impl fmt::Display for Refusal {
             6 => "current_next 0",
             7 => "a length or fixed field inside does not fit, bytes are left over, or known contents malformed",
             8 => "first two message bytes or message number not as in the paper",
-            9 => "DDB: extension is not the module number, or section number is not block number mod 256",
+            9 => "DDB: extension is not the module number, or section number is not block number mod 256; section version isn't the module version mod 32",
             10 => "DII: blockSize 0 or over 4,066; 0 or over 16 modules; a size 0 or over 256 × blockSize; sizes over 65,536 together",
             11 => "DII: module number twice",
             12 => "DDB: no announcement, or downloadId differs",

@@ -22,7 +22,8 @@ use Rattle.carousel_messages.specs.declared.CarouselTable.the-variants.{
 use Rattle.carousel_messages.specs.declared.Listed.{Listed}
 use Rattle.carousel_messages.specs.declared.Judged.the-variants as judged
 use Rattle.carousel_messages.specs.Message.{messageOf, adaptationOf, messageLengthOf, payloadOf, wantedOf}
-use Rattle.carousel_messages.specs.Contents.{moduleKind, modulesStart, modulesEnd, moduleCountOf, modulesOf, blockSizeOf, moduleSizeOf, announcementFramed, blockModuleOf, blockNumberOf}
+use Rattle.carousel_messages.specs.Contents.{moduleKind, modulesStart, modulesEnd, moduleCountOf, modulesOf, blockSizeOf, moduleSizeOf, announcementFramed}
+use Rattle.carousel_messages.specs.Contents.{blockModuleOf, blockVersionOf, blockNumberOf}
 use Rattle.carousel_messages.specs.Limits.{largestBlock, mostModules, mostBytes, someBad, total, beyond10, twice11}
 use Rattle.carousel_messages.specs.Refusals.{short7, meets8, messageFramed, payloadFramed, messageMeets7, meets9, meets10, meets11, payloadRefusal, messageRefusal}
 use Rattle.carousel_messages.specs.Heard.{listedOf, sizesOf, numbersOf}
@@ -70,9 +71,16 @@ module _ (h : Header) (p : List ℕ) where
       unfolding payloadRefusal firstMet payloadFramed meets9
       block-number n = rw (le-leb 6 (length p) l, eq-eqb (h .extension) (blockModuleOf p) e, ne-eqb (h .section) (blockNumberOf p % 256) n)
 
-      pub block-good : h .section ≡ blockNumberOf p % 256 → 0 ≡ payloadRefusal Blocks h p
-      unfolding payloadRefusal firstMet payloadFramed meets9
-      block-good f = rw (le-leb 6 (length p) l, eq-eqb (h .extension) (blockModuleOf p) e, eq-eqb (h .section) (blockNumberOf p % 256) f)
+      module _ (f : h .section ≡ blockNumberOf p % 256) where
+        pub block-stale : (h .version ≡ blockVersionOf p % 32 → ⊥) → 9 ≡ payloadRefusal Blocks h p
+        unfolding payloadRefusal firstMet payloadFramed meets9
+        block-stale n =
+            rw (le-leb 6 (length p) l, eq-eqb (h .extension) (blockModuleOf p) e, eq-eqb (h .section) (blockNumberOf p % 256) f, ne-eqb (h .version) (blockVersionOf p % 32) n)
+
+        pub block-good : h .version ≡ blockVersionOf p % 32 → 0 ≡ payloadRefusal Blocks h p
+        unfolding payloadRefusal firstMet payloadFramed meets9
+        block-good v =
+            rw (le-leb 6 (length p) l, eq-eqb (h .extension) (blockModuleOf p) e, eq-eqb (h .section) (blockNumberOf p % 256) f, eq-eqb (h .version) (blockVersionOf p % 32) v)
 
   -- an announcement's
   pub announcement-open : announcementFramed p ≡ false → 7 ≡ payloadRefusal Announcements h p

@@ -200,6 +200,20 @@ fn six_and_unread_bits() {
 }
 
 #[test]
+fn a_blocks_version_is_read_between_unread_bits_and_six() {
+    let section = Block::new(7, 1, 0x4B, 0, &[1]).bytes();
+    for byte in 0..=255 {
+        let answer = match byte & 0x3F {
+            // 0x4B mod 32 is 0b01011, and current.
+            0b01_0111 => 12,
+            other if other & 1 == 0 => 6,
+            _ => 9,
+        };
+        assert_eq!(step(&make::with(&section, 5, byte)), answer, "{byte:#x}");
+    }
+}
+
+#[test]
 fn header_of_an_announcement_meets_no_check_but_four() {
     let mut sheet = dii().section();
     for extension in [0, 1, 2, 0xFFFF] {

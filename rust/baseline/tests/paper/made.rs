@@ -7,6 +7,13 @@ pub use make::{Announcement, Block, Section};
 /// A module to be announced: number, size, version.
 pub type Announced = (u16, u32, u8);
 
+/// The section of a block under this section version, whether it is the block's own mod 32 or not.
+pub fn under(block: &Block, version: u8) -> Vec<u8> {
+    let mut sheet = block.section();
+    sheet.version = version;
+    sheet.bytes()
+}
+
 /// An announcement with this content.
 pub fn announcement_of(content: &[u8]) -> Vec<u8> {
     make::section(0x3B, 2, 0, &message(0x1002, 0x8000_0002, &[], content))

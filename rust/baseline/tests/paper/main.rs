@@ -1,4 +1,4 @@
-//! The paper's soundings, its refusals at and past their limits, and laws over random input.
+//! The paper's soundings, its refusals at and past their limits, 02, §6, and laws over random input.
 
 mod applications;
 mod blocks;
@@ -9,5 +9,6 @@ mod model;
 mod random;
 mod records;
 mod soundings;
+mod stale;
 mod trees;
 mod walks;

@@ -263,10 +263,11 @@ fn nine_before_twelve_and_before_any_look_at_the_record() {
     assert_eq!(step(&sheet.bytes()), 7);
     sheet.body[1] = 0;
     assert_eq!(step(&sheet.bytes()), 8);
-    // The section's version meets no check.
-    let mut sheet = good.section();
-    sheet.version = 31;
-    assert_eq!(step(&sheet.bytes()), 12);
+    // The section's version is the module's mod 32 (02, §6, more of it in `stale`).
+    for version in 1..32 {
+        assert_eq!(step(&under(&good, version)), 9);
+    }
+    assert_eq!(step(&under(&good, 0)), 12);
 }
 
 #[test]

@@ -1,5 +1,6 @@
-//! A slow second reading of the carousel's rules, straight from the paper's table: every number is judged by a
-//! clause of its own over a section read into loose values, and the lowest that applies is given.
+//! A slow second reading of the carousel's rules, straight from the paper's table and 02, §6: every
+//! number is judged by a clause of its own over a section read into loose values, and the lowest that applies
+//! is given.
 
 use baseline::{Answer, Module, Record};
 
@@ -184,6 +185,10 @@ fn store(
     let (module, block) = (number(&content[..2]), number(&content[4..6]));
     let data = &content[6..];
     if number(&section[3..5]) != module || u64::from(section[6]) != block % 256 {
+        return refused(9);
+    }
+    // The request's §6: the version stands between two reserved bits and current_next.
+    if section[5] % 64 / 2 != content[2] % 32 {
         return refused(9);
     }
     if record.count == 0 || u64::from(record.download) != download {

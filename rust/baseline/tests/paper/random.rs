@@ -33,11 +33,17 @@ impl Dice {
     }
 }
 
+/// The announcement that most random blocks are of. Version 33 does not fit into a section header.
+fn usual() -> Announcement {
+    Announcement::new(7, 4, &[(1, 9, 0), (2, 8, 33)])
+}
+
 fn dii(dice: &mut Dice) -> Vec<u8> {
     let modules: Vec<_> = (0..dice.pick(&[0, 1, 2, 2, 2, 3, 16, 17]))
         .map(|i| {
             let number = if dice.one_in(20) { 1 } else { i + 1 };
-            (number, dice.pick(&[1, 8, 9, 12, 65_536, 0]), 0)
+            let size = dice.pick(&[1, 8, 9, 12, 65_536, 0]);
+            (number, size, dice.pick(&[0, 0, 33]))
         })
         .collect();
     let mut dii = Announcement::new(
@@ -46,7 +52,7 @@ fn dii(dice: &mut Dice) -> Vec<u8> {
         &modules,
     );
     if dice.one_in(4) {
-        dii = Announcement::new(7, 4, &[(1, 9, 0), (2, 8, 1)]);
+        dii = usual();
     }
     dii.info = dice.bytes(2);
     dii.compatibility = dice.bytes(2);
@@ -58,13 +64,15 @@ fn dii(dice: &mut Dice) -> Vec<u8> {
 fn ddb(dice: &mut Dice) -> Vec<u8> {
     let data = vec![dice.pick(&[1, 1, 1, 2]); dice.pick(&[4, 4, 4, 4, 1, 1, 0, 5])];
     let block = dice.pick(&[0, 1, 2, 0, 1, 2, 3, 256]);
-    let mut ddb = Block::new(
-        dice.pick(&[7, 7, 7, 7, 8]),
-        dice.pick(&[1, 1, 2, 2, 3]),
-        dice.pick(&[0, 0, 1]),
-        block,
-        &data,
-    );
+    // 0 and 32, 1 and 33 look alike in a section header.
+    let (module, version) = dice.pick(&[(1, 0), (1, 0), (2, 33), (2, 33), (3, 0)]);
+    let version = if dice.one_in(5) {
+        dice.pick(&[0, 1, 32, 33, 255])
+    } else {
+        version
+    };
+    let download = dice.pick(&[7, 7, 7, 7, 8]);
+    let mut ddb = Block::new(download, module, version, block, &data);
     ddb.adaptation = dice.bytes(1);
     let mut sheet = ddb.section();
     if dice.one_in(20) {
@@ -73,7 +81,22 @@ fn ddb(dice: &mut Dice) -> Vec<u8> {
     if dice.one_in(20) {
         (sheet.number, sheet.last) = (1, 9);
     }
+    if dice.one_in(8) {
+        // Any section version but the right one.
+        sheet.version ^= 1 + dice.below(31) as u8;
+    }
     sheet.bytes()
+}
+
+/// The module version of a block that no refusal up to 8 meets; it stands behind the adaptation bytes.
+fn module_version(section: &[u8]) -> u8 {
+    section[22 + usize::from(section[17])]
+}
+
+/// Whether a block refused with 9 would meet no 9 under another section version.
+fn is_stale_alone(record: &Record, section: &[u8]) -> bool {
+    let right = 0xC1 | (module_version(section) % 32) << 1;
+    model::step(record, &make::with(section, 5, right), &[]).0 != Answer::Refused(9)
 }
 
 /// Well-formed descriptors, mostly.
@@ -155,11 +178,18 @@ fn section(dice: &mut Dice) -> Vec<u8> {
 fn the_step_agrees_with_the_model() {
     let mut dice = Dice(0x1234_5678_9ABC_DEF1);
     let mut seen = [0usize; 32];
+    // Stale blocks of versions below 32, and of 32 and more.
+    let mut stale = [0usize; 2];
     for _ in 0..400 {
         let mut record = Record::empty();
         let length = dice.pick(&[0, 16, 17, 17, 17, 40]);
         let mut image = vec![0xAA; length];
-        let mut section = Announcement::new(7, 4, &[(1, 9, 0), (2, 8, 1)]).bytes();
+        // Not always an announcement first: blocks are to meet the empty record too.
+        let mut section = if dice.one_in(8) {
+            ddb(&mut dice)
+        } else {
+            usual().bytes()
+        };
         for _ in 0..60 {
             let expected = model::step(&record, &section, &image);
             let answer = record.step(&section, &mut image);
@@ -172,12 +202,16 @@ fn the_step_agrees_with_the_model() {
                 Answer::Repeated => 24,
                 Answer::Refused(number) => usize::from(number),
             }] += 1;
+            if answer == Answer::Refused(9) && is_stale_alone(&record, &section) {
+                stale[usize::from(module_version(&section) >= 32)] += 1;
+            }
             section = self::section(&mut dice);
         }
     }
     for number in (2..=17).chain(21..=24) {
         assert!(seen[number] > 0, "{number} never seen: {seen:?}");
     }
+    assert!(stale[0] > 300 && stale[1] > 300, "{stale:?}");
 }
 
 #[test]
@@ -313,7 +347,7 @@ fn the_run_is_take_repeated_and_splits() {
     let mut dice = Dice(0x0005_EA5A_17C0_FFEE);
     let mut stops = vec![];
     for _ in 0..300 {
-        let mut stretch = Announcement::new(7, 4, &[(1, 9, 0), (2, 8, 1)]).bytes();
+        let mut stretch = usual().bytes();
         for _ in 0..dice.below(25) {
             stretch.extend(section(&mut dice));
         }

@@ -57,6 +57,29 @@ fn the_printed_example() {
 }
 
 #[test]
+fn a_stale_relay() {
+    let block = Block::new(7, 1, 33, 0, &[5; 400]);
+    let stretch = [
+        Announcement::new(7, 400, &[(1, 400, 33)]).bytes(),
+        under(&block, 0),
+        under(&block, 1),
+        under(&block, 0),
+        under(&block, 1),
+        Block::new(7, 1, 32, 0, &[5; 400]).bytes(),
+    ]
+    .concat();
+    let expected = "index,answer,kind\n\
+                    0,0,new\n\
+                    1,9,none\n\
+                    2,0,stored\n\
+                    3,9,none\n\
+                    4,0,repeated\n\
+                    5,14,none\n\
+                    stop,end\n";
+    assert_eq!(print(&stretch), expected);
+}
+
+#[test]
 fn every_kind_and_a_stuffed_end() {
     let stretch = [
         ait(&[], &[]),

@@ -2,7 +2,7 @@
 
 use crate::{block_7, block_9, drift, heard, DOWNLOAD};
 use make::{announcement, block, closed, message, section, table, with};
-use nebosvar::{Record, Refusal};
+use nebosvar::{Kind, Record, Refusal};
 
 /// The step refuses, and changes nothing.
 fn refused(record: &Record, section: &[u8], image: &[u8], refusal: Refusal) {
@@ -166,14 +166,46 @@ fn malformed_7_and_messages_8() {
 
 #[test]
 fn block_header_9() {
-    refused_always(&with(&block_9(), 4, 8), Refusal::BAD_BLOCK_HEADER);
-    let later = section(
-        0x3C,
-        7,
-        1,
-        &message(0x1003, DOWNLOAD, &[], &[0, 7, 1, 0xFF, 0, 0, 5]),
-    );
+    let good = block_9();
+    refused_always(&with(&good, 4, 8), Refusal::BAD_BLOCK_HEADER);
+    let later = with(&with(&good, 7, 255), 6, 1);
     refused_always(&later, Refusal::BAD_BLOCK_HEADER); // section number 1, block 0
+    for version in (0..32).filter(|&version| version != 2) {
+        let stale = with(&good, 5, byte_5(version));
+        refused_always(&stale, Refusal::BAD_BLOCK_HEADER);
+    }
+}
+
+/// Byte 5 of a current section of this version.
+fn byte_5(version: u8) -> u8 {
+    0xC1 | version << 1
+}
+
+/// What becomes of a block of a module of this version, under a section header of that one.
+fn under(version: u8, header: u8) -> Result<Kind, Refusal> {
+    let (mut record, mut image) = heard(&[announcement(1, 4, &[(7, 4, version)])], 4);
+    let section = with(&block(1, 7, version, 0, b"buoy"), 5, byte_5(header));
+    record.step(&section, &mut image)
+}
+
+#[test]
+fn the_section_version_is_the_modules_mod_32() {
+    // The soundings of 02, §6; then every version under every header.
+    assert_eq!(under(32, 0), Ok(Kind::Stored));
+    assert_eq!(under(33, 0), Err(Refusal::BAD_BLOCK_HEADER));
+    assert_eq!(under(0, 31), Err(Refusal::BAD_BLOCK_HEADER));
+    assert_eq!(under(255, 31), Ok(Kind::Stored));
+    for version in 0..=255 {
+        let stored = (0..32).filter(|&header| under(version, header) == Ok(Kind::Stored));
+        assert_eq!(stored.collect::<Vec<_>>(), [version % 32]);
+    }
+}
+
+#[test]
+fn an_announcements_section_version_is_not_looked_at() {
+    for version in 0..32 {
+        heard(&[with(&drift(), 5, byte_5(version)), block_9()], 1006);
+    }
 }
 
 #[test]

@@ -1,6 +1,6 @@
 -- `carousel_messages::message::block_refusal` meets its contract.
 use native.Mathlib.Omega.{arith}
-use Rattle.carousel_messages.proofs.Laws.Refusals.{block-short, block-other, block-number, block-good}
+use Rattle.carousel_messages.proofs.Laws.Refusals.{block-short, block-other, block-number, block-stale, block-good}
 use borrow.Author.Needs.{needs}
 use Rattle.carousel_messages.proofs.message.block_refusal.Statement.{statement}
 use Rattle.carousel_messages.proofs.message.block_refusal.Tie as tie
@@ -21,6 +21,12 @@ start-of-then3 c = start-of-else2 (c .before .before .before)
 abbrev start-of-else3 : tie.Else3 → tie.Start
 start-of-else3 c = start-of-else2 (c .before .before .before)
 
+abbrev start-of-then4 : tie.Then4 → tie.Start
+start-of-then4 c = start-of-else3 (c .before .before .before)
+
+abbrev start-of-else4 : tie.Else4 → tie.Start
+start-of-else4 c = start-of-else3 (c .before .before .before)
+
 returns : tie.Need-returns
 returns c = block-short _ (c .before .before .args .p .now) (c .if1 .taken)
 
@@ -39,8 +45,14 @@ cast-if3 c = search needs
 returns-3 : tie.Need-returns-3
 returns-3 c = block-number _ (start-of-then3 c .args .p .now) (omega arith) (omega arith) (λ e. omega (arith, c .if3 .taken))
 
+byte-at-requires : tie.Need-byte-at-requires
+byte-at-requires c κs = search needs
+
 returns-4 : tie.Need-returns-4
-returns-4 c = block-good _ (start-of-else3 c .args .p .now) (omega arith) (omega arith) (omega arith)
+returns-4 c = block-stale _ (start-of-then4 c .args .p .now) (omega arith) (omega arith) (omega arith) (λ e. omega (arith, c .if4 .taken))
+
+returns-5 : tie.Need-returns-5
+returns-5 c = block-good _ (start-of-else4 c .args .p .now) (omega arith) (omega arith) (omega arith) (omega arith)
 
 pub block-refusal-spec : {M : Type 1} → statement M
 block-refusal-spec =
@@ -52,4 +64,6 @@ block-refusal-spec =
     sixteen-at-requires-2
     cast-if3
     returns-3
-    returns-4)
+    byte-at-requires
+    returns-4
+    returns-5)

@@ -1,0 +1,74 @@
+-- STRICTER ON STALE RELAYS, as 02 §6 says it:
+--
+--   "A relay sent old section headers on new blocks. Refuse with 9 a data section whose 5-bit section version isn't the module version mod 32. This stands among the
+--   state-free checks, so demand 3's matching narrows with it."
+--
+-- "The module version" is the one that the section's own message bears, so that no record is looked at. Below, x is any record that keeps its rule, and any image; s is a data
+-- section that none of 2 to 8 meets: section, message and the six fixed bytes are right (carousel_messages `Good`); and `stale` is the request's sentence.
+use Prim.Native.Nat.{ℕ, _%_, _≤_, _<_}
+use mathlib.Core.Path.{_≡_, refl, sym, ap, _∙_}
+use mathlib.Core.Bool.{true, false}
+use mathlib.Core.List.{List}
+use lib.ListN.{length}
+use Rattle.section.specs.declared.Rules.the-variants as rules
+use Rattle.section.specs.Header.{blockTable, tableOf, versionOf, bodyOf}
+use Rattle.section.specs.Refusals.{GoodSection}
+use Rattle.section.specs.Answer.{refused}
+use Rattle.carousel_messages.specs.declared.CarouselTable.the-variants.{Blocks}
+use Rattle.carousel_messages.specs.Message.{payloadOf}
+use Rattle.carousel_messages.specs.Contents.{blockVersionOf}
+use Rattle.carousel_messages.specs.Good.{GoodMessage, saidBlock}
+use Rattle.carousel_messages.specs.Heard.{Arrived, Heard, refusal, heardIn, heardOf}
+use Rattle.carousel_messages.specs.Refusals.{messageRefusal}
+use Rattle.carousel_messages.proofs.Good.{nine-exactly, block-heard}
+use Rattle.carousel_messages.proofs.Soundings as messages
+use Rattle.carousel_record.specs.Record.{moduleAt, recordOf, ruledOf}
+use Rattle.carousel_step.specs.declared.Answer.the-variants as answer
+use Rattle.carousel_step.specs.declared.Stepped.{Stepped}
+use Rattle.carousel_step.specs.Matching.{heardFor}
+use Rattle.carousel_step.specs.Step.{StepOutcome, refusing, onHeard, outcomeOf, returning, imageAfter, steppedOf, imageOf}
+use Rattle.carousel_step.proofs.Simulation.{outcome-ruled}
+use Rattle.receiver.specs.declared.Fate.the-variants as fate
+use Rattle.receiver.specs.Run.{Held, carouselFate, givenOf}
+use Rattle.receiver.proofs.Laws.Fates.{fate-other}
+use Rattle.demands.specs.Demand.{Begun, told, modules, isFor, matches}
+use Rattle.demands.proofs.Three.{matching}
+
+module _ (x : Held) (ruled : ruledOf (x .state) ≡ true) (s : List ℕ)
+    (section : GoodSection rules.Carousel s) (table : tableOf s ≡ blockTable) (message : GoodMessage Blocks (bodyOf s)) (headed : 6 ≤ length (payloadOf (bodyOf s)))
+    (stale : versionOf s ≡ blockVersionOf (payloadOf (bodyOf s)) % 32 → ⊥) where
+  says-nine : heardOf s ≡ refusal (refused 9)
+  unfolding heardOf heardIn
+  says-nine = ap (heardIn s) (nine-exactly s section table message headed .1 (λ g. stale (g .version)))
+
+  comes-to-nine : outcomeOf (x .state) s (x .image) ≡ refusing (refused 9)
+  unfolding onHeard
+  comes-to-nine = outcome-ruled (x .state) s (x .image) ruled ∙ ap (onHeard (recordOf (x .state)) (x .image)) says-nine
+
+  -- REFUSED WITH 9, whatever was announced, if anything was, and whatever has come; and it changes nothing
+  pub stale-refused : (steppedOf (x .state) s (x .image) ≡ record { answer = answer.Refused (refused 9); state = x .state }) × (imageOf (x .state) s (x .image) ≡ x .image)
+  unfolding steppedOf imageOf
+  stale-refused = (ap (λ (o : StepOutcome). returning (x .state) o) comes-to-nine, ap (λ (o : StepOutcome). imageAfter (x .image) o) comes-to-nine)
+
+  -- the receiver answers the same
+  pub stale-taken : givenOf (x .state) s (x .image) .fate ≡ fate.Refused (refused 9)
+  unfolding carouselFate
+  stale-taken = fate-other (x .state) s (x .image) (rw table) ∙ ap (λ (a : Stepped). carouselFate (a .answer)) (stale-refused .0)
+
+  -- IT IS FOR NO MODULE: demand 3 passes over it
+  pub stale-for-none : (i : ℕ) → isFor x i s ≡ false
+  unfolding heardFor
+  stale-for-none i = ap (heardFor (told x) i) says-nine
+
+-- MATCHING NARROWS WITH IT: the section version of what matches is the announced version mod 32
+pub matching-version : (x : Held) (start : Begun x) (i : ℕ) (there : i < modules x) (b : ℕ) (s : List ℕ) → matches x i b s ≡ true
+    → versionOf s ≡ moduleAt (told x) i .version % 32
+matching-version x start i there b s e =
+    let m = matching x start i there b s .0 e in
+    let h = block-heard s (m .0) .0 (m .1) in
+    h .0 .version ∙ ap (λ (v : ℕ). v % 32) (ap (λ (d : Arrived). d .version) (h .1) ∙ m .2 .announcedVersion)
+
+-- THE SOUNDINGS OF THE REQUEST: module version 32 under section version 0 passes; 33 under 0 gives 9; 0 under 31 gives 9; 255 under 31 passes
+pub soundings : (messageRefusal Blocks (messages.headed 0 44) (messages.block300 32) ≡ 0) × (messageRefusal Blocks (messages.headed 0 44) (messages.block300 33) ≡ 9)
+    × (messageRefusal Blocks (messages.headed 31 44) (messages.block300 0) ≡ 9) × (messageRefusal Blocks (messages.headed 31 44) (messages.block300 255) ≡ 0)
+soundings = messages.versions
