@@ -134,6 +134,17 @@ def refusals():
     return [("ACCEPTED", 0)] + [(name, int(n)) for name, n in names], {name: words[n] for name, n in names}
 
 
+def short_words():
+    """The words of docs/NUMBERS.md without what only a reader of the table needs."""
+    words = re.findall(r"^\| (\d+) \| ([^|]+) \|", (ROOT / "docs" / "NUMBERS.md").read_text(), re.M)
+    return {n: re.sub(r" \((?:an|carousel) [a-z ]+\)$|^DDB, hand-out: ", "", w.replace("as above", "as in the paper")) for n, w in words}
+
+
+def rust_words():
+    """What the Rust crate prints of each refusal."""
+    return dict(re.findall(r'^ +(\d+) => "(.*)",$', (RUST / "refusal.rs").read_text(), re.M))
+
+
 def source_constants():
     box, numbers = SOURCES[0], SOURCES[1].parent
     receiver = CRATES / "receiver" / "src" / "lib.rt"

@@ -43,7 +43,9 @@ def compare_rust(numbers):
     assert all(numbers.get(n) == k for n, k in taken), taken
     named = {n for n in numbers if n.split("_")[0] in ("KIND", "STOP", "CLASS", "CONTROL", "DESCRIPTOR", "ITEM", "FOUND")}
     assert {n for n, _ in taken} == named - {"KIND_NONE"}, named ^ {n for n, _ in taken}
-    print("embed.py: the Rust crate has the same structs and calls, and the same number for each of %d cases" % len(set(taken)))
+    words, printed = boundary.short_words(), boundary.rust_words()
+    assert len(words) == 20 and words == printed, set(words.items()) ^ set(printed.items())
+    print("embed.py: the Rust crate has the same structs and calls, the same number for each of %d cases, and the same words for %d refusals" % (len(set(taken)), len(words)))
 
 
 def compare_readme():

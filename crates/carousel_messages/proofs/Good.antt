@@ -1,5 +1,5 @@
 -- TAKEN EXACTLY WHEN WELL FORMED: an announcement and a block are read exactly where every clause of specs/Good.antt holds.
-use Prim.Native.Nat.{ℕ, _+_, _*_, _%_, _≤_}
+use Prim.Native.Nat.{ℕ, _+_, _*_, _≤_}
 use mathlib.Core.Path.{_≡_, refl, sym, ap, subst, _∙_}
 use mathlib.Core.Logic.{_↔_, _⊎_, inl, inr}
 use mathlib.Core.Bool.{Bool, true, false, not, cond, _&&_, _||_}
@@ -24,14 +24,14 @@ use Rattle.carousel_messages.specs.declared.Judged.the-variants as judge
 use Rattle.carousel_messages.specs.Message.{messageOf, messageIdentifierOf, adaptationOf, messageLengthOf, payloadOf, wantedOf}
 use Rattle.carousel_messages.specs.Contents.{downloadOf, blockVersionOf, blockSizeOf, modulesStart, modulesEnd, modulesOf, moduleSizeOf, announcementFramed, blockModuleOf, blockNumberOf}
 use Rattle.carousel_messages.specs.Limits.{largestBlock, mostModules, mostBlocks, mostBytes, badSize, someBad, total, beyond10, among, twice11}
-use Rattle.carousel_messages.specs.Refusals.{short7, meets8, messageFramed, payloadFramed, messageMeets7, meets9, meets10, meets11, messageTests, messageRefusal}
+use Rattle.carousel_messages.specs.Refusals.{short7, meets8, messageFramed, payloadFramed, messageMeets7, meets10, meets11, messageTests, messageRefusal}
 use Rattle.carousel_messages.specs.Judged.{announcementOf, blockOf, messageJudged, judgedOf, carouselTableIn}
 use Rattle.carousel_messages.specs.declared.Listed.{Listed}
 use Rattle.carousel_messages.specs.Heard.{Announced, Arrived, announced, arrived, announcedIn, arrivedIn, heardIn, heardOf}
 use Rattle.carousel_messages.proofs.Laws.Limits.{within}
 use Rattle.carousel_messages.proofs.Laws.Heard.{modules-said, data-said}
 use Rattle.carousel_messages.specs.Good.{saidAnnouncement, saidBlock, GoodMessage, Distinct, announcedSizes, announcedNumbers, GoodList, GoodAnnouncement, GoodBlock}
-use Rattle.carousel_messages.proofs.Laws.Refusals.{judged-bad, judged-message}
+use Rattle.carousel_messages.proofs.Laws.Refusals.{Own, not-nine, own-not-nine, other-nine, judged-bad, judged-message}
 use Rattle.carousel_messages.proofs.Exact.{Passed, exactly-9, good-exactly, announced-exactly, carried-exactly}
 
 -- the message
@@ -152,20 +152,6 @@ module _ (p : List ℕ) where
         distinct-back (announcedNumbers p) (g .distinct),
       )
 
--- a block's
-module _ (h : Header) (p : List ℕ) where
-  nine-there : meets9 h p ≡ false → (h .extension ≡ blockModuleOf p) × (h .section ≡ blockNumberOf p % 256) × (h .version ≡ blockVersionOf p % 32)
-  unfolding meets9
-  nine-there e =
-      let r = neither (not (eqb (h .extension) (blockModuleOf p)) || not (eqb (h .section) (blockNumberOf p % 256))) (not (eqb (h .version) (blockVersionOf p % 32))) e in
-      let q = neither (not (eqb (h .extension) (blockModuleOf p))) (not (eqb (h .section) (blockNumberOf p % 256))) (r .0) in
-      (eqb-true _ _ (not-false _ (q .0)), eqb-true _ _ (not-false _ (q .1)), eqb-true _ _ (not-false _ (r .1)))
-
-  nine-back : h .extension ≡ blockModuleOf p → h .section ≡ blockNumberOf p % 256 → h .version ≡ blockVersionOf p % 32 → meets9 h p ≡ false
-  unfolding meets9
-  nine-back e f g =
-      rw (eq-eqb (h .extension) (blockModuleOf p) e, eq-eqb (h .section) (blockNumberOf p % 256) f, eq-eqb (h .version) (blockVersionOf p % 32) g)
-
 -- 7's other cases: the message and its payload are framed
 module _ (t : CarouselTable) (b : List ℕ) where
   seven-there : messageMeets7 t b ≡ false → (messageFramed b ≡ true) × (payloadFramed t (payloadOf b) ≡ true)
@@ -237,10 +223,8 @@ module _ (s : List ℕ) where
   passed m l = let k = message-back Blocks (bodyOf s) m in (k .0, k .1, seven-back Blocks (bodyOf s) (k .2) (le-leb 6 (length (payloadOf (bodyOf s))) l))
 
   own-header : GoodSection Carousel s → headerOf s .table ≡ blockTable → GoodMessage Blocks (bodyOf s) → 6 ≤ length (payloadOf (bodyOf s))
-      → meets9 (headerOf s) (payloadOf (bodyOf s)) ≡ false → GoodBlock s
-  own-header g t m l e =
-      let k = nine-there (headerOf s) (payloadOf (bodyOf s)) e in
-      record { section = g; table = t; message = m; headed = l; extension = k .0; number = k .1; version = k .2 }
+      → Own (headerOf s) (payloadOf (bodyOf s)) → GoodBlock s
+  own-header g t m l o = record { section = g; table = t; message = m; headed = l; extension = o .0; number = o .1; version = o .2 }
 
   -- A BLOCK IS TAKEN EXACTLY WHEN IT IS WELL FORMED
   pub block-good : (judgedOf s ≡ judged.Carried (blockOf (bodyOf s))) ↔ GoodBlock s
@@ -253,26 +237,22 @@ module _ (s : List ℕ) where
           let g = good-exactly s .0 (w .0) in
           let n = subst (λ (t : CarouselTable). None (messageTests t (headerOf s) (bodyOf s))) (w .1) (g .1) in
           let f = seven-there Blocks (bodyOf s) (n .1 .1 .0) in
-          own-header (g .0) (blocks-is (g .0) (w .1)) (message-there Blocks (bodyOf s) (n .0) (n .1 .0) (f .0)) (leb-true _ _ (f .1)) (n .1 .1 .1 .0)
+          own-header (g .0) (blocks-is (g .0) (w .1)) (message-there Blocks (bodyOf s) (n .0) (n .1 .0) (f .0)) (leb-true _ _ (f .1)) (not-nine _ _ (n .1 .1 .1 .0))
 
       back : GoodBlock s → judgedOf s ≡ judged.Carried (blockOf (bodyOf s))
       back g =
           let t = is-blocks (g .table) in
           let f = passed (g .message) (g .headed) in
-          let n : None (messageTests Blocks (headerOf s) (bodyOf s)) = (f .0, (f .1, (f .2, (nine-back (headerOf s) (payloadOf (bodyOf s)) (g .extension) (g .number) (g .version), tt)))) in
+          let n : None (messageTests Blocks (headerOf s) (bodyOf s)) = (f .0, (f .1, (f .2, (own-not-nine (headerOf s) (payloadOf (bodyOf s)) (g .extension, g .number, g .version), tt)))) in
           carried-exactly s (blockOf (bodyOf s)) .1 (good-exactly s .1 (g .section, subst (λ (t : CarouselTable). None (messageTests t (headerOf s) (bodyOf s))) (sym t) n), t, refl)
 
   -- 9 EXACTLY WHERE A BLOCK HAS ITS FORM AND IS NOT WELL FORMED: section, message and fixed fields are right; extension, section number or section version is not its message's
   pub nine-exactly : GoodSection Carousel s → headerOf s .table ≡ blockTable → GoodMessage Blocks (bodyOf s) → 6 ≤ length (payloadOf (bodyOf s))
       → (judgedOf s ≡ judged.Refused (refused 9)) ↔ (GoodBlock s → ⊥)
-  nine-exactly g t m l = (λ e k. differ (sym (block-good .1 k) ∙ e), λ n. answer (go (meets9 (headerOf s) (payloadOf (bodyOf s))) refl n))
+  nine-exactly g t m l = (λ e k. differ (sym (block-good .1 k) ∙ e), λ n. answer (exactly-9 _ _ .1 (passed m l, other-nine _ _ (λ o. n (own-header g t m l o)))))
     where
       differ : judged.Carried (blockOf (bodyOf s)) ≡ judged.Refused (refused 9) → ⊥
       differ e = let z : _≡_ {A = ℕ} 0 1 = cc in omega arith
-
-      go : (u : Bool) → meets9 (headerOf s) (payloadOf (bodyOf s)) ≡ u → (GoodBlock s → ⊥) → messageRefusal Blocks (headerOf s) (bodyOf s) ≡ 9
-      go true e n = exactly-9 (headerOf s) (bodyOf s) .1 (passed m l, e)
-      go false e n = absurd (n (own-header g t m l e))
 
       answer : messageRefusal Blocks (headerOf s) (bodyOf s) ≡ 9 → judgedOf s ≡ judged.Refused (refused 9)
       answer e =

@@ -6,9 +6,9 @@
 -- "The module version" is the one that the section's own message bears, so that no record is looked at. Below, x is any record that keeps its rule, and any image; s is a data
 -- section that none of 2 to 8 meets: section, message and the six fixed bytes are right (carousel_messages `Good`); and `stale` is the request's sentence.
 use Prim.Native.Nat.{ℕ, _%_, _≤_, _<_}
-use mathlib.Core.Path.{_≡_, refl, sym, ap, _∙_}
+use mathlib.Core.Path.{_≡_, ap, _∙_}
 use mathlib.Core.Bool.{true, false}
-use mathlib.Core.List.{List}
+use mathlib.Core.List.{List, [], _∷_}
 use lib.ListN.{length}
 use Rattle.section.specs.declared.Rules.the-variants as rules
 use Rattle.section.specs.Header.{blockTable, tableOf, versionOf, bodyOf}
@@ -17,9 +17,10 @@ use Rattle.section.specs.Answer.{refused}
 use Rattle.carousel_messages.specs.declared.CarouselTable.the-variants.{Blocks}
 use Rattle.carousel_messages.specs.Message.{payloadOf}
 use Rattle.carousel_messages.specs.Contents.{blockVersionOf}
-use Rattle.carousel_messages.specs.Good.{GoodMessage, saidBlock}
-use Rattle.carousel_messages.specs.Heard.{Arrived, Heard, refusal, heardIn, heardOf}
-use Rattle.carousel_messages.specs.Refusals.{messageRefusal}
+use Rattle.carousel_messages.specs.Good.{GoodMessage}
+use Rattle.carousel_messages.specs.Heard.{Arrived, refusal, heardIn, heardOf}
+use Rattle.carousel_messages.specs.declared.Judged.the-variants as judged
+use Rattle.carousel_messages.specs.Judged.{judgedOf}
 use Rattle.carousel_messages.proofs.Good.{nine-exactly, block-heard}
 use Rattle.carousel_messages.proofs.Soundings as messages
 use Rattle.carousel_record.specs.Record.{moduleAt, recordOf, ruledOf}
@@ -68,7 +69,9 @@ matching-version x start i there b s e =
     let h = block-heard s (m .0) .0 (m .1) in
     h .0 .version ∙ ap (λ (v : ℕ). v % 32) (ap (λ (d : Arrived). d .version) (h .1) ∙ m .2 .announcedVersion)
 
--- THE SOUNDINGS OF THE REQUEST: module version 32 under section version 0 passes; 33 under 0 gives 9; 0 under 31 gives 9; 255 under 31 passes
-pub soundings : (messageRefusal Blocks (messages.headed 0 44) (messages.block300 32) ≡ 0) × (messageRefusal Blocks (messages.headed 0 44) (messages.block300 33) ≡ 9)
-    × (messageRefusal Blocks (messages.headed 31 44) (messages.block300 0) ≡ 9) × (messageRefusal Blocks (messages.headed 31 44) (messages.block300 255) ≡ 0)
+-- THE SOUNDINGS OF THE REQUEST, as whole sections: module version 32 under section version 0 passes; 33 under 0 gives 9; 0 under 31 gives 9; 255 under 31 passes
+pub soundings : (judgedOf (messages.carrying 0xC1 32 (0xF3 ∷ 0x02 ∷ 0xC9 ∷ 0x0E ∷ [])) ≡ judged.Carried (messages.carried 32))
+    × (judgedOf (messages.carrying 0xC1 33 (0xA8 ∷ 0xA3 ∷ 0x15 ∷ 0xC4 ∷ [])) ≡ judged.Refused (refused 9))
+    × (judgedOf (messages.carrying 0xFF 0 (0x4C ∷ 0xA6 ∷ 0xDE ∷ 0x0E ∷ [])) ≡ judged.Refused (refused 9))
+    × (judgedOf (messages.carrying 0xFF 255 (0x2B ∷ 0xC6 ∷ 0x0C ∷ 0x6A ∷ [])) ≡ judged.Carried (messages.carried 255))
 soundings = messages.versions

@@ -72,7 +72,7 @@ pub soundings :
     -- "Control code 5 reserved."
     × (controlOf 5 ≡ Reserved)
     -- "Block 300 of a three-block module, with section number 44, passes check 9, then gives 16", whatever it carries
-    × ((messageRefusal Blocks (messages.headed 1 44) (messages.block300 1) ≡ 0) × ((bytes : List ℕ) → blockRefusal (carousel.one 400 1000) 1000 (carousel.block 300 bytes) ≡ 16))
+    × ((messageRefusal Blocks (messages.headed 44) messages.block300 ≡ 0) × ((bytes : List ℕ) → blockRefusal (carousel.one 400 1000) 1000 (carousel.block 300 bytes) ≡ 16))
 unfolding reportOn
 soundings =
     let c = carousel.soundings in

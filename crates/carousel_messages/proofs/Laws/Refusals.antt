@@ -6,9 +6,9 @@ use mathlib.Core.List.{List, [], _∷_, map, map-map}
 use native.Mathlib.Omega.{arith}
 use lib.Dec.{eqb, leb, ltb}
 use lib.ListN.{length, length-map, take, drop, drop-of-length-le}
-use borrow.Author.Tests.{eq-eqb, ne-eqb, lt-ltb, le-ltb, le-leb, lt-leb, leb-true}
+use borrow.Author.Tests.{eq-eqb, ne-eqb, lt-ltb, le-ltb, le-leb, lt-leb, leb-true, eqb-true, not-false}
 use Rattle.section.specs.Header.{bodyOf}
-use Rattle.wire.proofs.Laws.Tests.{both}
+use Rattle.wire.proofs.Laws.Tests.{both, neither}
 use Rattle.wire.specs.Fields.{byteAt, sixteenAt}
 use Rattle.wire.specs.Tests.{firstMet}
 use Rattle.wire.specs.Items.{items, endOf}
@@ -55,32 +55,43 @@ module _ (b : List ℕ) where
   unfolding messageFramed
   even e = rw (eq-eqb (12 + messageLengthOf b) (length b) e)
 
--- a block's payload
+-- 9: a block's header is its message's own, or it is not
+module _ (h : Header) (p : List ℕ) where
+  abbrev pub Own : Type 0
+  Own = (h .extension ≡ blockModuleOf p) × (h .section ≡ blockNumberOf p % 256) × (h .version ≡ blockVersionOf p % 32)
+
+  pub not-nine : meets9 h p ≡ false → Own
+  unfolding meets9
+  not-nine e =
+      let r = neither (not (eqb (h .extension) (blockModuleOf p)) || not (eqb (h .section) (blockNumberOf p % 256))) (not (eqb (h .version) (blockVersionOf p % 32))) e in
+      let q = neither (not (eqb (h .extension) (blockModuleOf p))) (not (eqb (h .section) (blockNumberOf p % 256))) (r .0) in
+      (eqb-true _ _ (not-false _ (q .0)), eqb-true _ _ (not-false _ (q .1)), eqb-true _ _ (not-false _ (r .1)))
+
+  pub own-not-nine : Own → meets9 h p ≡ false
+  unfolding meets9
+  own-not-nine o =
+      rw (eq-eqb (h .extension) (blockModuleOf p) (o .0), eq-eqb (h .section) (blockNumberOf p % 256) (o .1), eq-eqb (h .version) (blockVersionOf p % 32) (o .2))
+
+  pub other-nine : (Own → ⊥) → meets9 h p ≡ true
+  other-nine n = go (meets9 h p) refl
+    where
+      go : (u : Bool) → meets9 h p ≡ u → meets9 h p ≡ true
+      go true e = e
+      go false e = absurd (n (not-nine e))
+
+-- a payload's refusal: a block's
 module _ (h : Header) (p : List ℕ) where
   pub block-short : length p < 6 → 7 ≡ payloadRefusal Blocks h p
   unfolding payloadRefusal firstMet payloadFramed
   block-short l = rw (lt-leb 6 (length p) l)
 
-  module _ (l : 6 ≤ length p) where
-    pub block-other : (h .extension ≡ blockModuleOf p → ⊥) → 9 ≡ payloadRefusal Blocks h p
-    unfolding payloadRefusal firstMet payloadFramed meets9
-    block-other n = rw (le-leb 6 (length p) l, ne-eqb (h .extension) (blockModuleOf p) n)
+  pub block-other : 6 ≤ length p → (Own h p → ⊥) → 9 ≡ payloadRefusal Blocks h p
+  unfolding payloadRefusal firstMet payloadFramed
+  block-other l n = rw (le-leb 6 (length p) l, other-nine h p n) refl
 
-    module _ (e : h .extension ≡ blockModuleOf p) where
-      pub block-number : (h .section ≡ blockNumberOf p % 256 → ⊥) → 9 ≡ payloadRefusal Blocks h p
-      unfolding payloadRefusal firstMet payloadFramed meets9
-      block-number n = rw (le-leb 6 (length p) l, eq-eqb (h .extension) (blockModuleOf p) e, ne-eqb (h .section) (blockNumberOf p % 256) n)
-
-      module _ (f : h .section ≡ blockNumberOf p % 256) where
-        pub block-stale : (h .version ≡ blockVersionOf p % 32 → ⊥) → 9 ≡ payloadRefusal Blocks h p
-        unfolding payloadRefusal firstMet payloadFramed meets9
-        block-stale n =
-            rw (le-leb 6 (length p) l, eq-eqb (h .extension) (blockModuleOf p) e, eq-eqb (h .section) (blockNumberOf p % 256) f, ne-eqb (h .version) (blockVersionOf p % 32) n)
-
-        pub block-good : h .version ≡ blockVersionOf p % 32 → 0 ≡ payloadRefusal Blocks h p
-        unfolding payloadRefusal firstMet payloadFramed meets9
-        block-good v =
-            rw (le-leb 6 (length p) l, eq-eqb (h .extension) (blockModuleOf p) e, eq-eqb (h .section) (blockNumberOf p % 256) f, eq-eqb (h .version) (blockVersionOf p % 32) v)
+  pub block-own : 6 ≤ length p → Own h p → 0 ≡ payloadRefusal Blocks h p
+  unfolding payloadRefusal firstMet payloadFramed
+  block-own l o = rw (le-leb 6 (length p) l, own-not-nine h p o) refl
 
   -- an announcement's
   pub announcement-open : announcementFramed p ≡ false → 7 ≡ payloadRefusal Announcements h p
