@@ -85,13 +85,23 @@ module _ (h : Header) (p : List ℕ) where
   unfolding payloadRefusal firstMet payloadFramed
   block-short l = rw (lt-leb 6 (length p) l)
 
-  pub block-other : 6 ≤ length p → (Own h p → ⊥) → 9 ≡ payloadRefusal Blocks h p
-  unfolding payloadRefusal firstMet payloadFramed
-  block-other l n = rw (le-leb 6 (length p) l, other-nine h p n) refl
+  module _ (l : 6 ≤ length p) where
+    block-other : (Own h p → ⊥) → 9 ≡ payloadRefusal Blocks h p
+    unfolding payloadRefusal firstMet payloadFramed
+    block-other n = rw (le-leb 6 (length p) l, other-nine h p n) refl
 
-  pub block-own : 6 ≤ length p → Own h p → 0 ≡ payloadRefusal Blocks h p
-  unfolding payloadRefusal firstMet payloadFramed
-  block-own l o = rw (le-leb 6 (length p) l, own-not-nine h p o) refl
+    pub another-module : (h .extension ≡ blockModuleOf p → ⊥) → 9 ≡ payloadRefusal Blocks h p
+    another-module n = block-other (λ o. n (o .0))
+
+    pub another-number : (h .section ≡ blockNumberOf p % 256 → ⊥) → 9 ≡ payloadRefusal Blocks h p
+    another-number n = block-other (λ o. n (o .1))
+
+    pub another-version : (h .version ≡ blockVersionOf p % 32 → ⊥) → 9 ≡ payloadRefusal Blocks h p
+    another-version n = block-other (λ o. n (o .2))
+
+    pub block-own : Own h p → 0 ≡ payloadRefusal Blocks h p
+    unfolding payloadRefusal firstMet payloadFramed
+    block-own o = rw (le-leb 6 (length p) l, own-not-nine h p o) refl
 
   -- an announcement's
   pub announcement-open : announcementFramed p ≡ false → 7 ≡ payloadRefusal Announcements h p

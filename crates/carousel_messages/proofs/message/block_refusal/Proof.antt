@@ -1,6 +1,6 @@
 -- `carousel_messages::message::block_refusal` meets its contract.
 use native.Mathlib.Omega.{arith}
-use Rattle.carousel_messages.proofs.Laws.Refusals.{block-short, block-other, block-own}
+use Rattle.carousel_messages.proofs.Laws.Refusals.{block-short, another-module, another-number, another-version, block-own}
 use borrow.Author.Needs.{needs}
 use Rattle.carousel_messages.proofs.message.block_refusal.Statement.{statement}
 use Rattle.carousel_messages.proofs.message.block_refusal.Tie as tie
@@ -34,7 +34,7 @@ sixteen-at-requires : tie.Need-sixteen-at-requires
 sixteen-at-requires c κs = search needs
 
 returns-2 : tie.Need-returns-2
-returns-2 c = block-other _ (start-of-then2 c .args .p .now) (omega arith) (λ o. let e = o .0 in omega (arith, c .if2 .taken))
+returns-2 c = another-module _ (start-of-then2 c .args .p .now) (omega arith) (λ e. omega (arith, c .if2 .taken))
 
 sixteen-at-requires-2 : tie.Need-sixteen-at-requires-2
 sixteen-at-requires-2 c κs = search needs
@@ -43,13 +43,13 @@ cast-if3 : tie.Need-cast-if3
 cast-if3 c = search needs
 
 returns-3 : tie.Need-returns-3
-returns-3 c = block-other _ (start-of-then3 c .args .p .now) (omega arith) (λ o. let e = o .1 in omega (arith, c .if3 .taken))
+returns-3 c = another-number _ (start-of-then3 c .args .p .now) (omega arith) (λ e. omega (arith, c .if3 .taken))
 
 byte-at-requires : tie.Need-byte-at-requires
 byte-at-requires c κs = search needs
 
 returns-4 : tie.Need-returns-4
-returns-4 c = block-other _ (start-of-then4 c .args .p .now) (omega arith) (λ o. let e = o .2 in omega (arith, c .if4 .taken))
+returns-4 c = another-version _ (start-of-then4 c .args .p .now) (omega arith) (λ e. omega (arith, c .if4 .taken))
 
 returns-5 : tie.Need-returns-5
 returns-5 c = block-own _ (start-of-else4 c .args .p .now) (omega arith) (omega arith, omega arith, omega arith)
