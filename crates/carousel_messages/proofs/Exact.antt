@@ -166,6 +166,18 @@ module _ (s : List ℕ) where
   pub refused-exactly : (n : ℕ) → 0 < n → (numberOfJudged (judgedOf s) ≡ n) ↔ First n (carouselTests s)
   refused-exactly n p = rw all-tests (first-exactly (carouselTests s) n p)
 
+  -- 9 is the message's, in the blocks' table
+  pub nine-of-block : numberOfJudged (judgedOf s) ≡ 9 → (refusalOf Carousel s ≡ 0) × (carouselTableIn s ≡ Blocks) × (messageRefusal Blocks (headerOf s) (bodyOf s) ≡ 9)
+  nine-of-block n = go (eqb (refusalOf Carousel s) 0) (carouselTableIn s) refl refl (sym judged-number ∙ n)
+    where
+      go : (b : Bool) (t : CarouselTable) → eqb (refusalOf Carousel s) 0 ≡ b → carouselTableIn s ≡ t → cond b (messageRefusal t (headerOf s) (bodyOf s)) (refusalOf Carousel s) ≡ 9
+          → (refusalOf Carousel s ≡ 0) × (carouselTableIn s ≡ Blocks) × (messageRefusal Blocks (headerOf s) (bodyOf s) ≡ 9)
+      go true Announcements e f m = absurd (never-9 (headerOf s) (bodyOf s) m)
+      go true Blocks e f m = (eqb-true _ _ e, f, m)
+      go false t e f m =
+          let l = section.refused-has Carousel s _ (section.refused-with Carousel s (eqb-false _ _ e)) .2 in
+          absurd (omega arith)
+
   -- no refusal: neither of the section nor of the message
   neither-refused : numberOfJudged (judgedOf s) ≡ 0 → (refusalOf Carousel s ≡ 0) × (inMessage ≡ 0)
   neither-refused z = go (eqb (refusalOf Carousel s) 0) refl (sym judged-number ∙ z)

@@ -14,7 +14,7 @@ use Rattle.wire.proofs.Laws.Order.{None}
 use Rattle.section.specs.declared.Header.{Header}
 use Rattle.section.specs.declared.Rules.the-variants.{Carousel}
 use Rattle.section.specs.Header.{announcementTable, blockTable, headerOf, bodyOf}
-use Rattle.section.specs.Refusals.{GoodSection}
+use Rattle.section.specs.Refusals.{refusalOf, GoodSection}
 use Rattle.section.specs.Answer.{refused}
 use Rattle.section.proofs.Laws.Exact as section
 use Rattle.carousel_messages.specs.declared.CarouselTable.{CarouselTable}
@@ -25,14 +25,14 @@ use Rattle.carousel_messages.specs.Message.{messageOf, messageIdentifier
 use Rattle.carousel_messages.specs.Contents.{downloadOf, blockVersionOf, blockSizeOf, modulesStart, modulesEnd, modulesOf, moduleSizeOf, announcementFramed, blockModuleOf, blockNumberOf}
 use Rattle.carousel_messages.specs.Limits.{largestBlock, mostModules, mostBlocks, mostBytes, badSize, someBad, total, beyond10, among, twice11}
 use Rattle.carousel_messages.specs.Refusals.{short7, meets8, messageFramed, payloadFramed, messageMeets7, meets10, meets11, messageTests, messageRefusal}
-use Rattle.carousel_messages.specs.Judged.{announcementOf, blockOf, messageJudged, judgedOf, carouselTableIn}
+use Rattle.carousel_messages.specs.Judged.{announcementOf, blockOf, messageJudged, judgedOf, numberOfJudged, carouselTableIn}
 use Rattle.carousel_messages.specs.declared.Listed.{Listed}
 use Rattle.carousel_messages.specs.Heard.{Announced, Arrived, announced, arrived, announcedIn, arrivedIn, heardIn, heardOf}
 use Rattle.carousel_messages.proofs.Laws.Limits.{within}
 use Rattle.carousel_messages.proofs.Laws.Heard.{modules-said, data-said}
-use Rattle.carousel_messages.specs.Good.{saidAnnouncement, saidBlock, GoodMessage, Distinct, announcedSizes, announcedNumbers, GoodList, GoodAnnouncement, GoodBlock}
+use Rattle.carousel_messages.specs.Good.{saidAnnouncement, saidBlock, GoodMessage, Distinct, announcedSizes, announcedNumbers, GoodList, GoodAnnouncement, BlockSection, GoodBlock}
 use Rattle.carousel_messages.proofs.Laws.Refusals.{Own, not-nine, own-not-nine, other-nine, judged-bad, judged-message}
-use Rattle.carousel_messages.proofs.Exact.{Passed, exactly-9, good-exactly, announced-exactly, carried-exactly}
+use Rattle.carousel_messages.proofs.Exact.{Passed, exactly-9, nine-of-block, good-exactly, announced-exactly, carried-exactly}
 
 -- the message
 module _ (t : CarouselTable) (b : List ℕ) where
@@ -217,18 +217,24 @@ module _ (s : List ℕ) where
           let n : None (messageTests Announcements (headerOf s) (bodyOf s)) = (m .0, (m .1, (seven-back Announcements (bodyOf s) (m .2) (l .0), (l .1, (l .2, tt))))) in
           announced-exactly s (announcementOf (bodyOf s)) .1 (good-exactly s .1 (g .section, subst (λ (t : CarouselTable). None (messageTests t (headerOf s) (bodyOf s))) (sym t) n), t, refl)
 
-  -- a block that has its form: nothing meets it before 9, and if 9 does not either it is well formed
-  passed : GoodMessage Blocks (bodyOf s) → 6 ≤ length (payloadOf (bodyOf s)) → Passed Blocks (bodyOf s)
+  -- a section with a block in it: none of 2 to 8 meets it, and its header is its message's own exactly where it is well formed
+  block-formed : GoodSection Carousel s → carouselTableIn s ≡ Blocks → Passed Blocks (bodyOf s) → BlockSection s
   unfolding payloadFramed
-  passed m l = let k = message-back Blocks (bodyOf s) m in (k .0, k .1, seven-back Blocks (bodyOf s) (k .2) (le-leb 6 (length (payloadOf (bodyOf s))) l))
+  block-formed g t p =
+      let f = seven-there Blocks (bodyOf s) (p .2) in
+      record { section = g; table = blocks-is g t; message = message-there Blocks (bodyOf s) (p .0) (p .1) (f .0); headed = leb-true _ _ (f .1) }
 
-  own-header : GoodSection Carousel s → headerOf s .table ≡ blockTable → GoodMessage Blocks (bodyOf s) → 6 ≤ length (payloadOf (bodyOf s))
-      → Own (headerOf s) (payloadOf (bodyOf s)) → GoodBlock s
-  own-header g t m l o = record { section = g; table = t; message = m; headed = l; extension = o .0; number = o .1; version = o .2 }
+  block-passed : BlockSection s → Passed Blocks (bodyOf s)
+  unfolding payloadFramed
+  block-passed b =
+      let m = message-back Blocks (bodyOf s) (b .message) in
+      (m .0, m .1, seven-back Blocks (bodyOf s) (m .2) (le-leb 6 (length (payloadOf (bodyOf s))) (b .headed)))
+
+  own-good : BlockSection s → Own (headerOf s) (payloadOf (bodyOf s)) → GoodBlock s
+  own-good b o = record { formed = b; extension = o .0; number = o .1; version = o .2 }
 
   -- A BLOCK IS TAKEN EXACTLY WHEN IT IS WELL FORMED
   pub block-good : (judgedOf s ≡ judged.Carried (blockOf (bodyOf s))) ↔ GoodBlock s
-  unfolding payloadFramed
   block-good = (there, back)
     where
       there : judgedOf s ≡ judged.Carried (blockOf (bodyOf s)) → GoodBlock s
@@ -236,27 +242,29 @@ module _ (s : List ℕ) where
           let w = carried-exactly s (blockOf (bodyOf s)) .0 e in
           let g = good-exactly s .0 (w .0) in
           let n = subst (λ (t : CarouselTable). None (messageTests t (headerOf s) (bodyOf s))) (w .1) (g .1) in
-          let f = seven-there Blocks (bodyOf s) (n .1 .1 .0) in
-          own-header (g .0) (blocks-is (g .0) (w .1)) (message-there Blocks (bodyOf s) (n .0) (n .1 .0) (f .0)) (leb-true _ _ (f .1)) (not-nine _ _ (n .1 .1 .1 .0))
+          own-good (block-formed (g .0) (w .1) (n .0, n .1 .0, n .1 .1 .0)) (not-nine _ _ (n .1 .1 .1 .0))
 
       back : GoodBlock s → judgedOf s ≡ judged.Carried (blockOf (bodyOf s))
       back g =
-          let t = is-blocks (g .table) in
-          let f = passed (g .message) (g .headed) in
-          let n : None (messageTests Blocks (headerOf s) (bodyOf s)) = (f .0, (f .1, (f .2, (own-not-nine (headerOf s) (payloadOf (bodyOf s)) (g .extension, g .number, g .version), tt)))) in
-          carried-exactly s (blockOf (bodyOf s)) .1 (good-exactly s .1 (g .section, subst (λ (t : CarouselTable). None (messageTests t (headerOf s) (bodyOf s))) (sym t) n), t, refl)
+          let t = is-blocks (g .formed .table) in
+          let p = block-passed (g .formed) in
+          let n : None (messageTests Blocks (headerOf s) (bodyOf s)) = (p .0, (p .1, (p .2, (own-not-nine (headerOf s) (payloadOf (bodyOf s)) (g .extension, g .number, g .version), tt)))) in
+          carried-exactly s (blockOf (bodyOf s)) .1 (good-exactly s .1 (g .formed .section, subst (λ (t : CarouselTable). None (messageTests t (headerOf s) (bodyOf s))) (sym t) n), t, refl)
 
-  -- 9 EXACTLY WHERE A BLOCK HAS ITS FORM AND IS NOT WELL FORMED: section, message and fixed fields are right; extension, section number or section version is not its message's
-  pub nine-exactly : GoodSection Carousel s → headerOf s .table ≡ blockTable → GoodMessage Blocks (bodyOf s) → 6 ≤ length (payloadOf (bodyOf s))
-      → (judgedOf s ≡ judged.Refused (refused 9)) ↔ (GoodBlock s → ⊥)
-  nine-exactly g t m l = (λ e k. differ (sym (block-good .1 k) ∙ e), λ n. answer (exactly-9 _ _ .1 (passed m l, other-nine _ _ (λ o. n (own-header g t m l o)))))
+  -- 9 EXACTLY WHERE A SECTION WITH A BLOCK IN IT IS NOT WELL FORMED: its extension, section number or section version is not its message's
+  pub nine-exactly : (judgedOf s ≡ judged.Refused (refused 9)) ↔ (BlockSection s × (GoodBlock s → ⊥))
+  nine-exactly = (λ e. (there (nine-of-block s (ap numberOfJudged e)), λ g. differ (sym (block-good .1 g) ∙ e)), λ w. back (w .0) (w .1))
     where
       differ : judged.Carried (blockOf (bodyOf s)) ≡ judged.Refused (refused 9) → ⊥
       differ e = let z : _≡_ {A = ℕ} 0 1 = cc in omega arith
 
-      answer : messageRefusal Blocks (headerOf s) (bodyOf s) ≡ 9 → judgedOf s ≡ judged.Refused (refused 9)
-      answer e =
-          judged-by Blocks (is-blocks t) g
+      there : (refusalOf Carousel s ≡ 0) × (carouselTableIn s ≡ Blocks) × (messageRefusal Blocks (headerOf s) (bodyOf s) ≡ 9) → BlockSection s
+      there w = block-formed (section.good-exactly Carousel s .0 (w .0)) (w .1) (exactly-9 _ _ .0 (w .2) .0)
+
+      back : BlockSection s → (GoodBlock s → ⊥) → judgedOf s ≡ judged.Refused (refused 9)
+      back b n =
+          let e = exactly-9 (headerOf s) (bodyOf s) .1 (block-passed b, other-nine _ _ (λ o. n (own-good b o))) in
+          judged-by Blocks (is-blocks (b .table)) (b .section)
           ∙ sym (judged-bad Blocks (headerOf s) (bodyOf s) (λ z. omega arith))
           ∙ ap (λ (n : ℕ). judged.Refused (refused n)) e
 

@@ -50,7 +50,7 @@ unfolding messageRefusal firstMet short7 meets8 messageMeets7 messageFramed payl
 announcements = (refl, refl)
 
 -- SOURCES' two whole sections: an announcement of download 1 with one module of 6 bytes in blocks of 4, and its block 0, "ABCD"
-abbrev announcing : List ℕ
+abbrev pub announcing : List ℕ
 announcing = 0x3B ∷ 0xB0 ∷ 0x33 ∷ 0x00 ∷ 0x02 ∷ 0xC1 ∷ 0x00 ∷ 0x00 ∷ 0x11 ∷ 0x03 ∷ 0x10 ∷ 0x02 ∷ 0x80 ∷ 0x00 ∷ 0x00 ∷ 0x02 ∷ 0xFF ∷ 0x00 ∷ 0x00
     ∷ 0x1E ∷ 0x00 ∷ 0x00 ∷ 0x00 ∷ 0x01 ∷ 0x00 ∷ 0x04 ∷ 0x00 ∷ 0x00 ∷ 0x00 ∷ 0x00 ∷ 0x00 ∷ 0x00 ∷ 0x00 ∷ 0x00 ∷ 0x00 ∷ 0x00 ∷ 0x00 ∷ 0x00 ∷ 0x00
     ∷ 0x01 ∷ 0x00 ∷ 0x01 ∷ 0x00 ∷ 0x00 ∷ 0x00 ∷ 0x06 ∷ 0x00 ∷ 0x00 ∷ 0x00 ∷ 0x00 ∷ 0x13 ∷ 0x99 ∷ 0x19 ∷ 0x34 ∷ []
@@ -63,8 +63,11 @@ carrying b v crc = 0x3C ∷ 0xB0 ∷ 0x1F ∷ 0x00 ∷ 0x01 ∷ b ∷ 0x00 ∷ 0
 abbrev pub carried : (version : ℕ) → Block
 carried v = record { download = 1; number = 1; version = v; block = 0; start = 26; size = 4 }
 
+abbrev pub abcd : List ℕ
+abcd = carrying 0xC1 0 (0xAC ∷ 0x72 ∷ 0x9B ∷ 0x2F ∷ [])
+
 pub sections : (judgedOf announcing ≡ Announced (record { download = 1; «block_size» = 4; count = 1; start = 40; size = 8 }))
-    × (judgedOf (carrying 0xC1 0 (0xAC ∷ 0x72 ∷ 0x9B ∷ 0x2F ∷ [])) ≡ Carried (carried 0))
+    × (judgedOf abcd ≡ Carried (carried 0))
 unfolding judgedOf messageJudged readOf announcementOf blockOf crcOf crcFrom crcBits crcBit checkedOf refusalOf meets2 meets3 meets4 meets5 meets6
     messageRefusal firstMet short7 meets8 messageMeets7 messageFramed payloadFramed announcementFramed framed itemsIn items endOf meets9 meets10
     beyond10 someBad total meets11 twice11 among fieldAt

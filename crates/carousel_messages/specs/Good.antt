@@ -58,13 +58,17 @@ pub record GoodAnnouncement (s : List ℕ) : Type 0 where
   pub message : GoodMessage Announcements (bodyOf s)
   pub list : GoodList (payloadOf (bodyOf s))
 
--- A block: "module number 16, version 8, one byte unread, block number 16, data", and 9: "extension is not the module number, or section number is not block number mod 256",
--- and by 02 §6 "section version isn't the module version mod 32"
-pub record GoodBlock (s : List ℕ) : Type 0 where
+-- A section with a block in it, right in what 2 to 8 ask: "module number 16, version 8, one byte unread, block number 16, data"
+pub record BlockSection (s : List ℕ) : Type 0 where
   pub section : GoodSection Carousel s
   pub table : headerOf s .table ≡ blockTable
   pub message : GoodMessage Blocks (bodyOf s)
   pub headed : 6 ≤ length (payloadOf (bodyOf s))
+
+-- A block, whose section header is its message's own. 9: "extension is not the module number, or section number is not block number mod 256", and by 02 §6 "section version isn't
+-- the module version mod 32"
+pub record GoodBlock (s : List ℕ) : Type 0 where
+  pub formed : BlockSection s
   pub extension : headerOf s .extension ≡ blockModuleOf (payloadOf (bodyOf s))
   pub number : headerOf s .section ≡ blockNumberOf (payloadOf (bodyOf s)) % 256
   pub version : headerOf s .version ≡ blockVersionOf (payloadOf (bodyOf s)) % 32

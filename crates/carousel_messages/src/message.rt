@@ -102,6 +102,7 @@ fn payload_refusal(p: &[u8], table: CarouselTable, h: Header) -> u8
     }
 }
 
+// 0 where the section's header is the block's own, else 9; 7 where the block is cut short.
 fn block_refusal(p: &[u8], h: Header) -> u8
     ensures { λ r. ⌜ r ≡ payloadRefusal Blocks h (now (p .entry)) ⌝ }
 {

@@ -11,6 +11,7 @@ use Rattle.section.specs.Answer.{refused}
 use Rattle.carousel_messages.specs.Limits.{someBad, total, beyond10, among, twice11}
 use Rattle.carousel_messages.specs.Heard.{Announced, Arrived, Heard, announced, arrived, listOf, announcedIn, arrivedIn, heardIn, heardOf, placeIn}
 use Rattle.carousel_messages.proofs.Soundings as messages
+use Rattle.carousel_messages.proofs.Soundings.{announcing, abcd}
 use Rattle.carousel_record.specs.declared.Carousel.{Carousel}
 use Rattle.carousel_step.specs.declared.Answer.the-variants as answer
 use Rattle.carousel_record.specs.Blocks.{blocksOf, blockLengthOf}
@@ -77,15 +78,6 @@ unfolding afresh sums blocksOf blockLengthOf onHeard onArrived matched blockRefu
 two-copies = (refl, refl, refl, refl)
 
 -- The two whole sections of the messages' soundings: an announcement of download 1 with one module of 6 bytes in blocks of 4, and its block 0, "ABCD".
-abbrev announcing : List ℕ
-announcing = 0x3B ∷ 0xB0 ∷ 0x33 ∷ 0x00 ∷ 0x02 ∷ 0xC1 ∷ 0x00 ∷ 0x00 ∷ 0x11 ∷ 0x03 ∷ 0x10 ∷ 0x02 ∷ 0x80 ∷ 0x00 ∷ 0x00 ∷ 0x02 ∷ 0xFF ∷ 0x00 ∷ 0x00
-    ∷ 0x1E ∷ 0x00 ∷ 0x00 ∷ 0x00 ∷ 0x01 ∷ 0x00 ∷ 0x04 ∷ 0x00 ∷ 0x00 ∷ 0x00 ∷ 0x00 ∷ 0x00 ∷ 0x00 ∷ 0x00 ∷ 0x00 ∷ 0x00 ∷ 0x00 ∷ 0x00 ∷ 0x00 ∷ 0x00
-    ∷ 0x01 ∷ 0x00 ∷ 0x01 ∷ 0x00 ∷ 0x00 ∷ 0x00 ∷ 0x06 ∷ 0x00 ∷ 0x00 ∷ 0x00 ∷ 0x00 ∷ 0x13 ∷ 0x99 ∷ 0x19 ∷ 0x34 ∷ []
-
-abbrev carrying : List ℕ
-carrying = 0x3C ∷ 0xB0 ∷ 0x1F ∷ 0x00 ∷ 0x01 ∷ 0xC1 ∷ 0x00 ∷ 0x01 ∷ 0x11 ∷ 0x03 ∷ 0x10 ∷ 0x03 ∷ 0x00 ∷ 0x00 ∷ 0x00 ∷ 0x01 ∷ 0xFF ∷ 0x00 ∷ 0x00 ∷ 0x0A
-    ∷ 0x00 ∷ 0x01 ∷ 0x00 ∷ 0xFF ∷ 0x00 ∷ 0x00 ∷ 0x41 ∷ 0x42 ∷ 0x43 ∷ 0x44 ∷ 0xAC ∷ 0x72 ∷ 0x9B ∷ 0x2F ∷ []
-
 abbrev told : Announced
 told = record { download = 1; blockSize = 4; modules = record { number = 1; size = 6; version = 0 } ∷ [] }
 
@@ -96,9 +88,9 @@ hears-told : heardOf announcing ≡ announced told
 unfolding heardOf heardIn announcedIn listOf framed itemsIn items fieldAt
 hears-told = ap (heardIn announcing) (messages.sections .0)
 
-hears-carried : heardOf carrying ≡ arrived carried
+hears-carried : heardOf abcd ≡ arrived carried
 unfolding heardOf heardIn arrivedIn
-hears-carried = ap (heardIn carrying) (messages.sections .1)
+hears-carried = ap (heardIn abcd) (messages.sections .1)
 
 -- the record after the announcement, and after the block too; an image of 6 bytes, and the same with the block
 abbrev renewed : Carousel
@@ -151,16 +143,16 @@ carried-other = refl
 -- "new", "same", "stored" and "repeated", and what each leaves; and where the image has other bytes at a marked block's place, 17
 pub sections : (steppedOf emptyRecord announcing image ≡ record { answer = answer.New; state = renewed })
     × (steppedOf renewed announcing image ≡ record { answer = answer.Same; state = renewed })
-    × (steppedOf renewed carrying image ≡ record { answer = answer.Stored; state = holding }) × (imageOf renewed carrying image ≡ imaged)
-    × (steppedOf holding carrying imaged ≡ record { answer = answer.Repeated; state = holding })
-    × (steppedOf holding carrying image ≡ record { answer = answer.Refused (refused 17); state = holding })
+    × (steppedOf renewed abcd image ≡ record { answer = answer.Stored; state = holding }) × (imageOf renewed abcd image ≡ imaged)
+    × (steppedOf holding abcd imaged ≡ record { answer = answer.Repeated; state = holding })
+    × (steppedOf holding abcd image ≡ record { answer = answer.Refused (refused 17); state = holding })
 unfolding steppedOf imageOf overwrite
 sections =
-    let put = comes renewed carrying image (arrived carried) renewed-ruled hears-carried ∙ carried-stored in (
+    let put = comes renewed abcd image (arrived carried) renewed-ruled hears-carried ∙ carried-stored in (
       ap (λ (o : StepOutcome). returning emptyRecord o) (comes emptyRecord announcing image (announced told) empty-ruled hears-told ∙ told-new),
       ap (λ (o : StepOutcome). returning renewed o) (comes renewed announcing image (announced told) renewed-ruled hears-told ∙ told-same),
       ap (λ (o : StepOutcome). returning renewed o) put,
       ap (λ (o : StepOutcome). imageAfter image o) put,
-      ap (λ (o : StepOutcome). returning holding o) (comes holding carrying imaged (arrived carried) holding-ruled hears-carried ∙ carried-repeated),
-      ap (λ (o : StepOutcome). returning holding o) (comes holding carrying image (arrived carried) holding-ruled hears-carried ∙ carried-other),
+      ap (λ (o : StepOutcome). returning holding o) (comes holding abcd imaged (arrived carried) holding-ruled hears-carried ∙ carried-repeated),
+      ap (λ (o : StepOutcome). returning holding o) (comes holding abcd image (arrived carried) holding-ruled hears-carried ∙ carried-other),
     )

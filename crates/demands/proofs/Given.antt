@@ -19,7 +19,6 @@ use Rattle.ait_read.specs.declared.ReadAnswer.{ReadAnswer}
 use Rattle.ait_read.specs.declared.ReadAnswer.the-variants as reading
 use Rattle.ait_read.specs.Answers.{readAnswer}
 use Rattle.carousel_record.specs.declared.Carousel.{Carousel}
-use Rattle.carousel_step.specs.declared.Answer.{Answer}
 use Rattle.carousel_step.specs.declared.Answer.the-variants as answer
 use Rattle.carousel_record.specs.Marks.{markWords, markOf, isMarked}
 use Rattle.carousel_record.specs.Record.{Record, recordOf, received, ruledOf}

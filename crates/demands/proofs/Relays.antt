@@ -4,20 +4,16 @@
 --   state-free checks, so demand 3's matching narrows with it."
 --
 -- "The module version" is the one that the section's own message bears, so that no record is looked at. Below, x is any record that keeps its rule, and any image; s is a data
--- section that none of 2 to 8 meets: section, message and the six fixed bytes are right (carousel_messages `Good`); and `stale` is the request's sentence.
-use Prim.Native.Nat.{ℕ, _%_, _≤_, _<_}
+-- section that none of 2 to 8 meets (`BlockSection` of carousel_messages `Good`); and `stale` is the request's sentence.
+use Prim.Native.Nat.{ℕ, _%_, _<_}
 use mathlib.Core.Path.{_≡_, ap, _∙_}
 use mathlib.Core.Bool.{true, false}
 use mathlib.Core.List.{List, [], _∷_}
-use lib.ListN.{length}
-use Rattle.section.specs.declared.Rules.the-variants as rules
-use Rattle.section.specs.Header.{blockTable, tableOf, versionOf, bodyOf}
-use Rattle.section.specs.Refusals.{GoodSection}
+use Rattle.section.specs.Header.{versionOf, bodyOf}
 use Rattle.section.specs.Answer.{refused}
-use Rattle.carousel_messages.specs.declared.CarouselTable.the-variants.{Blocks}
 use Rattle.carousel_messages.specs.Message.{payloadOf}
 use Rattle.carousel_messages.specs.Contents.{blockVersionOf}
-use Rattle.carousel_messages.specs.Good.{GoodMessage}
+use Rattle.carousel_messages.specs.Good.{BlockSection}
 use Rattle.carousel_messages.specs.Heard.{Arrived, refusal, heardIn, heardOf}
 use Rattle.carousel_messages.specs.declared.Judged.the-variants as judged
 use Rattle.carousel_messages.specs.Judged.{judgedOf}
@@ -35,12 +31,11 @@ use Rattle.receiver.proofs.Laws.Fates.{fate-other}
 use Rattle.demands.specs.Demand.{Begun, told, modules, isFor, matches}
 use Rattle.demands.proofs.Three.{matching}
 
-module _ (x : Held) (ruled : ruledOf (x .state) ≡ true) (s : List ℕ)
-    (section : GoodSection rules.Carousel s) (table : tableOf s ≡ blockTable) (message : GoodMessage Blocks (bodyOf s)) (headed : 6 ≤ length (payloadOf (bodyOf s)))
+module _ (x : Held) (ruled : ruledOf (x .state) ≡ true) (s : List ℕ) (formed : BlockSection s)
     (stale : versionOf s ≡ blockVersionOf (payloadOf (bodyOf s)) % 32 → ⊥) where
   says-nine : heardOf s ≡ refusal (refused 9)
   unfolding heardOf heardIn
-  says-nine = ap (heardIn s) (nine-exactly s section table message headed .1 (λ g. stale (g .version)))
+  says-nine = ap (heardIn s) (nine-exactly s .1 (formed, λ g. stale (g .version)))
 
   comes-to-nine : outcomeOf (x .state) s (x .image) ≡ refusing (refused 9)
   unfolding onHeard
@@ -54,7 +49,7 @@ module _ (x : Held) (ruled : ruledOf (x .state) ≡ true) (s : List ℕ)
   -- the receiver answers the same
   pub stale-taken : givenOf (x .state) s (x .image) .fate ≡ fate.Refused (refused 9)
   unfolding carouselFate
-  stale-taken = fate-other (x .state) s (x .image) (rw table) ∙ ap (λ (a : Stepped). carouselFate (a .answer)) (stale-refused .0)
+  stale-taken = fate-other (x .state) s (x .image) (rw (formed .table)) ∙ ap (λ (a : Stepped). carouselFate (a .answer)) (stale-refused .0)
 
   -- IT IS FOR NO MODULE: demand 3 passes over it
   pub stale-for-none : (i : ℕ) → isFor x i s ≡ false

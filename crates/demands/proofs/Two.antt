@@ -126,8 +126,8 @@ module _ (c : Carousel) (s image : List ℕ) where
 
   pub kind-stored : (givenOf c s image .fate ≡ fate.Stored) ↔ (steppedOf c s image .answer ≡ answer.Stored)
   unfolding carouselFate
-  kind-stored = (kind-answer c s image answer.Stored refl, λ e. answer-kind c s image answer.Stored (λ z. omega (arith, stored-says c s image e .1 .table)) e)
+  kind-stored = (kind-answer c s image answer.Stored refl, λ e. answer-kind c s image answer.Stored (λ z. omega (arith, stored-says c s image e .1 .formed .table)) e)
 
   pub kind-repeated : (givenOf c s image .fate ≡ fate.Repeated) ↔ (steppedOf c s image .answer ≡ answer.Repeated)
   unfolding carouselFate
-  kind-repeated = (kind-answer c s image answer.Repeated refl, λ e. answer-kind c s image answer.Repeated (λ z. omega (arith, repeated-says c s image e .1 .table)) e)
+  kind-repeated = (kind-answer c s image answer.Repeated refl, λ e. answer-kind c s image answer.Repeated (λ z. omega (arith, repeated-says c s image e .1 .formed .table)) e)

@@ -68,7 +68,7 @@ impl Counts {
 
     /// A block that was refused with 9 or taken, by its versions.
     pub fn versions(&mut self, section: &[u8], fate: &Result<Kind, u8>) {
-        let Some((_, version)) = versions::of_block(section) else {
+        let Some(version) = versions::of_module(section) else {
             return;
         };
         let place = usize::from(version >= 32);
