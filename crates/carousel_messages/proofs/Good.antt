@@ -30,7 +30,7 @@ use Rattle.carousel_messages.specs.declared.Listed.{Listed}
 use Rattle.carousel_messages.specs.Heard.{Announced, Arrived, announced, arrived, announcedIn, arrivedIn, heardIn, heardOf}
 use Rattle.carousel_messages.proofs.Laws.Limits.{within}
 use Rattle.carousel_messages.proofs.Laws.Heard.{modules-said, data-said}
-use Rattle.carousel_messages.specs.Good.{saidAnnouncement, saidBlock, GoodMessage, Distinct, announcedSizes, announcedNumbers, GoodList, GoodAnnouncement, BlockSection, GoodBlock}
+use Rattle.carousel_messages.specs.Good.{saidAnnouncement, saidBlock, GoodMessage, Distinct, announcedSizes, announcedNumbers, GoodModules, GoodAnnouncement, BlockSection, GoodBlock}
 use Rattle.carousel_messages.proofs.Laws.Refusals.{Own, not-nine, own-not-nine, other-nine, judged-bad, judged-message}
 use Rattle.carousel_messages.proofs.Exact.{Passed, exactly-9, nine-of-block, good-exactly, announced-exactly, carried-exactly}
 
@@ -111,7 +111,7 @@ distinct-back (k ∷ ks) d = rw (among-back k ks (d .0)) (distinct-back ks (d .1
 
 -- an announcement's payload
 module _ (p : List ℕ) where
-  list-there : announcementFramed p ≡ true → meets10 p ≡ false → meets11 p ≡ false → GoodList p
+  list-there : announcementFramed p ≡ true → meets10 p ≡ false → meets11 p ≡ false → GoodModules p
   unfolding announcementFramed meets10 meets11
   list-there e f g =
       let a = both (leb (modulesStart p) (length p) && not (eqb (modulesEnd p) 0)) (eqb (modulesEnd p + 2 + sixteenAt p (modulesEnd p)) (length p)) e in
@@ -133,7 +133,7 @@ module _ (p : List ℕ) where
         distinct = distinct-there (announcedNumbers p) g;
       }
 
-  list-back : GoodList p → (announcementFramed p ≡ true) × (meets10 p ≡ false) × (meets11 p ≡ false)
+  list-back : GoodModules p → (announcementFramed p ≡ true) × (meets10 p ≡ false) × (meets11 p ≡ false)
   unfolding announcementFramed meets10 meets11 beyond10
   list-back g =
       let l = length-map (modulesOf p) moduleSizeOf in

@@ -37,7 +37,7 @@ abbrev pub announcedNumbers : List ℕ → List ℕ
 announcedNumbers p = map moduleNumberOf (modulesOf p)
 
 -- An announcement's payload p
-pub record GoodList (p : List ℕ) : Type 0 where
+pub record GoodModules (p : List ℕ) : Type 0 where
   -- the fixed fields and the compatibility bytes are there; so are as many modules as are counted; and the private bytes end exactly
   pub headed : modulesStart p ≤ length p
   pub counted : modulesEnd p ≡ 0 → ⊥
@@ -56,7 +56,7 @@ pub record GoodAnnouncement (s : List ℕ) : Type 0 where
   pub section : GoodSection Carousel s
   pub table : headerOf s .table ≡ announcementTable
   pub message : GoodMessage Announcements (bodyOf s)
-  pub list : GoodList (payloadOf (bodyOf s))
+  pub list : GoodModules (payloadOf (bodyOf s))
 
 -- A section with a block in it, right in what 2 to 8 ask: "module number 16, version 8, one byte unread, block number 16, data"
 pub record BlockSection (s : List ℕ) : Type 0 where

@@ -1,5 +1,9 @@
 pub mod Fields
+pub mod Bits
+pub mod Packed
+pub mod Spelled
 pub mod Tests
+pub mod Signed
 pub mod Order
 pub mod Steps
 pub mod Frames

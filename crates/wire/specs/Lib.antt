@@ -1,4 +1,6 @@
 pub mod Fields
+pub mod Bits
+pub mod Signed
 pub mod Tests
 pub mod Items
 pub mod Places

@@ -91,7 +91,7 @@ pub masked-low : (w x : ℕ) → bitAnd x (2 ^ w - 1) ≡ bits 0 w x
 masked-low w x = and-mask x w ∙ ap (λ (y : ℕ). y % 2 ^ w) (omega arith)
 
 -- what was spelled is read back
-pow256 : (n : ℕ) → 0 < 256 ^ n
+pub pow256 : (n : ℕ) → 0 < 256 ^ n
 pow256 zero = omega arith
 pow256 (suc n) = let p : 256 ^ suc n ≡ 256 ^ n * 256 = pow-suc 256 n in let q = pow256 n in omega arith
 

@@ -1,0 +1,12 @@
+pub mod Laws
+pub mod Exact
+pub mod Answers
+pub mod Walk
+pub mod Cases
+pub mod Writer
+pub mod Writes
+pub mod Left
+pub mod Rows
+pub mod Round
+pub mod Soundings
+pub mod Unique

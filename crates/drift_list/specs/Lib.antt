@@ -1,0 +1,4 @@
+pub mod Values
+pub mod Reading
+pub mod Answers
+pub mod Writing
