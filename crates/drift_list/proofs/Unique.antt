@@ -8,6 +8,8 @@ use Rattle.drift_list.proofs.read.Kinds as read-kinds
 use Rattle.drift_list.proofs.read.Reads as read-reads
 use Rattle.drift_list.proofs.record_at.Kinds as record-kinds
 use Rattle.drift_list.proofs.record_at.Reads as record-reads
+use Rattle.drift_list.proofs.walk_at.Kinds as walk-kinds
+use Rattle.drift_list.proofs.walk_at.Reads as walk-reads
 use Rattle.drift_list.proofs.write.Kinds as write-kinds
 use Rattle.drift_list.proofs.write.Reads as write-reads
 
@@ -16,6 +18,9 @@ read κs a x y s t p q = p ∙ sym q
 
 record-at : OneAnswer 1 record-kinds.ps record-kinds.r record-reads.Post
 record-at κs a x y s t p q = p ∙ sym q
+
+walk-at : OneAnswer 1 walk-kinds.ps walk-kinds.r walk-reads.Post
+walk-at κs a x y s t p q = p ∙ sym q
 
 write : OneAnswer 2 write-kinds.ps write-kinds.r write-reads.Post
 write κs a x y s t p q = p .0 ∙ sym (q .0)

@@ -84,5 +84,5 @@ walk-refuses s k n f e z m =
         let h = ltb-true k (countOf s) t in
         let r : refusedAt s k ≡ n = sym (walk-own s k x h) ∙ w in
         exact-answers s x ∙ faulty-exactly (countOf s) (refusedAt s) n (some n z) .1
-            (record { place = k; among = h; there = r; before = λ j l. sym (walk-own s j x (omega (arith, l, h))) ∙ f j l })
+        (record { place = k; among = h; there = r; before = λ j l. sym (walk-own s j x (omega (arith, l, h))) ∙ f j l })
     there x w false t = absurd (m (sym w ∙ walk-19 s k x (ltb-false k (countOf s) t)))

@@ -316,7 +316,7 @@ module _ (d : Draft) (room : ℕ) where
           let h2 = neither (leb (2 ^ 16) (d .issue) || leb (2 ^ 16) (d .count)) (not (eqb (length (d .numbers)) (5 * d .count))) e in
           let h1 = neither (leb (2 ^ 16) (d .issue)) (leb (2 ^ 16) (d .count)) (h2 .0) in
           rest (leb-false (2 ^ 16) (d .issue) (h1 .0)) (leb-false (2 ^ 16) (d .count) (h1 .1)) (eqb-true _ _ (not-false _ (h2 .1)))
-              (eqb (firstFault (d .count) 0 (wideRefusal (d .numbers))) 0) refl
+          (eqb (firstFault (d .count) 0 (wideRefusal (d .numbers))) 0) refl
 
   unfitting-36 : (Fitting d → ⊥) → writeRefusal d room ≡ 36
   unfitting-36 n = go fitting-or

@@ -2,6 +2,9 @@
 use Prim.Native.Nat.{ℕ}
 use mathlib.Core.Path.{_≡_, sym, _∙_}
 use mathlib.Core.List.{List}
+use contract.Lifetimes.{Lfts}
+use borrow.Fn.Kinds.{Dens, resT, endedOf}
+use denote.Triple.Clauses.{AtExit}
 use Rattle.wire.proofs.Once.{OneAnswer}
 use Rattle.carousel_record.specs.declared.Carousel.{Carousel}
 use Rattle.carousel_step.specs.Step.{imageOf}
@@ -27,6 +30,14 @@ use Rattle.nebosvar.proofs.nebosvar_extension.Kinds as nebosvar-extensi
 use Rattle.nebosvar.proofs.nebosvar_extension.Reads as nebosvar-extension-reads
 use Rattle.nebosvar.proofs.nebosvar_label.Kinds as nebosvar-label-kinds
 use Rattle.nebosvar.proofs.nebosvar_label.Reads as nebosvar-label-reads
+use Rattle.nebosvar.proofs.nebosvar_list_read.Kinds as nebosvar-list-read-kinds
+use Rattle.nebosvar.proofs.nebosvar_list_read.Reads as nebosvar-list-read-reads
+use Rattle.nebosvar.proofs.nebosvar_list_record.Kinds as nebosvar-list-record-kinds
+use Rattle.nebosvar.proofs.nebosvar_list_record.Reads as nebosvar-list-record-reads
+use Rattle.nebosvar.proofs.nebosvar_list_walk.Kinds as nebosvar-list-walk-kinds
+use Rattle.nebosvar.proofs.nebosvar_list_walk.Reads as nebosvar-list-walk-reads
+use Rattle.nebosvar.proofs.nebosvar_list_write.Kinds as nebosvar-list-write-kinds
+use Rattle.nebosvar.proofs.nebosvar_list_write.Reads as nebosvar-list-write-reads
 
 nebosvar-start : OneAnswer 0 nebosvar-start-kinds.ps nebosvar-start-kinds.r nebosvar-start-reads.Post
 nebosvar-start κs a x y s t p q = p ∙ sym q
@@ -48,6 +59,24 @@ nebosvar-extension κs a x y s t p q = p ∙ sym q
 
 nebosvar-label : OneAnswer 1 nebosvar-label-kinds.ps nebosvar-label-kinds.r nebosvar-label-reads.Post
 nebosvar-label κs a x y s t p q = p ∙ sym q
+
+nebosvar-list-read : OneAnswer 1 nebosvar-list-read-kinds.ps nebosvar-list-read-kinds.r nebosvar-list-read-reads.Post
+nebosvar-list-read κs a x y s t p q = p ∙ sym q
+
+nebosvar-list-record : OneAnswer 1 nebosvar-list-record-kinds.ps nebosvar-list-record-kinds.r nebosvar-list-record-reads.Post
+nebosvar-list-record κs a x y s t p q = p ∙ sym q
+
+nebosvar-list-walk : OneAnswer 1 nebosvar-list-walk-kinds.ps nebosvar-list-walk-kinds.r nebosvar-list-walk-reads.Post
+nebosvar-list-walk κs a x y s t p q = p ∙ sym q
+
+nebosvar-list-write : OneAnswer 2 nebosvar-list-write-kinds.ps nebosvar-list-write-kinds.r nebosvar-list-write-reads.Post
+nebosvar-list-write κs a x y s t p q = p .0 ∙ sym (q .0)
+
+-- and one content of the bytes lent to it
+nebosvar-list-left : (κs : Lfts 2) (a : Dens κs nebosvar-list-write-kinds.ps) (x y : resT nebosvar-list-write-kinds.r κs .Denot)
+    (s t : AtExit (endedOf 2 nebosvar-list-write-kinds.ps nebosvar-list-write-kinds.r) κs)
+    → nebosvar-list-write-reads.Post κs a x s → nebosvar-list-write-reads.Post κs a y t → s .1 .1 .1 .0 .now ≡ t .1 .1 .1 .0 .now
+nebosvar-list-left κs a x y s t p q = p .1 ∙ sym (q .1)
 
 -- The entries behind a pointer. Their proofs are walks by hand, for which the prover has no reading of the kind above; these are over the equations of their contracts.
 module _ (c : Carousel) (s image : List ℕ) (d d′ : Carousel) (l l′ : List ℕ) where

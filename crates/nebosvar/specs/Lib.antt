@@ -1,1 +1,2 @@
 pub mod Box
+pub mod Drift

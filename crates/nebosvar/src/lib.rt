@@ -2,7 +2,10 @@
 // is include/nebosvar.h, which names every number.
 //
 // Nothing is decided here. Each call is one of the library's, its answer laid out as a struct of
-// numbers; specs/Box.antt says how, and of tables the specs/ of crate `ait_numbers`.
+// numbers; specs/Box.antt says how, of the drift list specs/Drift.antt, and of tables the specs/ of
+// crate `ait_numbers`.
+
+mod drift;
 
 use ait_numbers::ApplicationOut;
 use ait_numbers::DescriptorOut;
@@ -12,17 +15,23 @@ use ait_numbers::PartOut;
 use ait_numbers::TableOut;
 use carousel_handout::Report;
 use carousel_record::Carousel;
+use drift::fix_out;
+use drift::list_out;
+use drift::written_out;
 use receiver::Fate;
 use receiver::What;
 ghost use mathlib.Core.Path.{_≡_};
-ghost use lib.ListN.{take, drop};
+ghost use lib.ListN.{length, take, drop};
 ghost use Rattle.ait_read.specs.Answers.{readAnswer, applicationAnswer, descriptorAnswer, extensionAnswer, resolveAnswer};
 ghost use Rattle.carousel_record.specs.Changes.{emptyRecord};
 ghost use Rattle.carousel_step.specs.Step.{imageOf};
 ghost use Rattle.carousel_handout.specs.Calls.{handedOut, reportOf};
 ghost use Rattle.receiver.specs.Run.{imageTook, imageRan};
+ghost use Rattle.drift_list.specs.Answers.{listAnswer, fixAnswer, walkAnswer};
+ghost use Rattle.drift_list.specs.Writing.{draft, writeAnswer, writtenBytes};
 ghost use Rattle.ait_numbers.specs.Reading.{tableOut, applicationOut, descriptorOut, itemAsked, itemOut, extensionOut, labelOut, scopeOf};
 ghost use Rattle.nebosvar.specs.Box.{fateOut, stepOut, whatOut, takeOut, runOut, partOut, lackOut};
+ghost use Rattle.nebosvar.specs.Drift.{listOut, fixOut, writtenOut};
 
 // What became of a section: its refusal, 0 for none, and its kind.
 #[repr(C)]
@@ -53,6 +62,32 @@ pub struct PassageOut {
 pub struct LackOut {
     pub count: usize,
     pub lowest: usize,
+    pub refusal: u8,
+}
+
+// A drift list that was judged: its issue and how many records it has; both 0 on a refusal.
+#[repr(C)]
+pub struct ListOut {
+    pub issue: u16,
+    pub count: u16,
+    pub refusal: u8,
+}
+
+// A record of it; all 0 on a refusal.
+#[repr(C)]
+pub struct FixOut {
+    pub buoy: u32,
+    pub longitude: i32,
+    pub latitude: i32,
+    pub minute: u16,
+    pub state: u8,
+    pub refusal: u8,
+}
+
+// The size of a drift list that was written; 0 on a refusal.
+#[repr(C)]
+pub struct WrittenOut {
+    pub size: usize,
     pub refusal: u8,
 }
 
@@ -205,6 +240,45 @@ pub extern "C" fn nebosvar_label(section: &[u8], application: usize, label: usiz
     ensures { λ r. ⌜ r ≡ labelOut (resolveAnswer (now (section .entry)) application label) ⌝ }
 {
     ait_numbers::label(section, application, label)
+}
+
+// Judges a drift list: its issue, and how many records it has.
+#[no_mangle]
+pub extern "C" fn nebosvar_list_read(list: &[u8]) -> ListOut
+    ensures { λ r. ⌜ r ≡ listOut (listAnswer (now (list .entry))) ⌝ }
+{
+    list_out(drift_list::read(list))
+}
+
+// The record at a place of it. The whole list is judged each time.
+#[no_mangle]
+pub extern "C" fn nebosvar_list_record(list: &[u8], k: usize) -> FixOut
+    ensures { λ r. ⌜ r ≡ fixOut (fixAnswer (now (list .entry)) k) ⌝ }
+{
+    fix_out(drift_list::record_at(list, k))
+}
+
+// The same of a list that was accepted, judging that record alone.
+#[no_mangle]
+pub extern "C" fn nebosvar_list_walk(list: &[u8], k: usize) -> FixOut
+    ensures { λ r. ⌜ r ≡ fixOut (walkAnswer (now (list .entry)) k) ⌝ }
+{
+    fix_out(drift_list::walk_at(list, k))
+}
+
+// Writes a drift list: five numbers for each record.
+#[no_mangle]
+pub extern "C" fn nebosvar_list_write(
+    issue: u32,
+    count: u32,
+    numbers: &[i32],
+    out: &mut [u8],
+) -> WrittenOut
+    ensures { λ r. ⌜ (r ≡ writtenOut (writeAnswer (draft issue count (now (numbers .entry))) (length (now (out .entry)))))
+        × (now (out .exit) ≡ writtenBytes (draft issue count (now (numbers .entry))) (now (out .entry))) ⌝ }
+{
+    let answer = drift_list::write(issue, count, numbers, out);
+    written_out(answer)
 }
 
 fn step(c: Carousel, s: &[u8], image: &mut [u8]) -> SteppedOut

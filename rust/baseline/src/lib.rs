@@ -2,21 +2,23 @@
 //!
 //! It is written from the paper `01-scope.md` ("the paper" below) and 02, §6, and serves as an
 //! independent second implementation and as a baseline for speed. Nothing is allocated except by
-//! [`read_all`], whose answer is a tree of owned values.
+//! [`read_all`], whose answer is a tree of owned values, and [`drift::read`].
 //!
 //! * [`Record::step`] takes one carousel section ("The messages", "The carousel record").
 //! * [`Record::take`] and [`Record::run`] walk over a stretch of sections ("The run").
 //! * [`Record::handout`] and [`Record::missing`] answer about one module.
 //! * [`read`] and [`read_all`] read one application section ("The application section").
+//! * [`drift`] reads and writes a drift list, which is of a request of its own and not of the paper.
 //!
-//! Every refusal is a number of the paper's table "Numbers a call may answer", and changes neither the
-//! record nor the image.
+//! Every refusal is a number of the paper's table "Numbers a call may answer", or of the drift list, and changes
+//! neither the record nor the image nor the buffer.
 
 #![forbid(unsafe_code)]
 #![warn(missing_docs)]
 
 mod ait;
 mod checksum;
+pub mod drift;
 mod message;
 mod reader;
 mod record;

@@ -39,3 +39,24 @@ pub const DIFFERS: u8 = 17;
 pub const DESCRIPTION: u8 = 18;
 /// Module not complete.
 pub const INCOMPLETE: u8 = 20;
+
+// The drift list.
+
+/// Place past the last record.
+pub const PLACE: u8 = 19;
+/// Under 4 bytes, or not 4 + 12 × count.
+pub const LIST_LENGTH: u8 = 30;
+/// Longitude or latitude out of its range.
+pub const COORDINATE: u8 = 31;
+/// Minute of the week not below 10,080.
+pub const MINUTE: u8 = 32;
+/// Buoy zero, or not above the one before.
+pub const BUOY: u8 = 33;
+/// Spare bits not zero.
+pub const SPARE: u8 = 34;
+/// State 3, or a state against its coordinates.
+pub const STATE: u8 = 35;
+/// A value too wide for its field, or a count that is not the number of records.
+pub const WIDTH: u8 = 36;
+/// Buffer shorter than the list.
+pub const BUFFER: u8 = 37;

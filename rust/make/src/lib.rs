@@ -3,6 +3,7 @@
 //!
 //! Nothing here is of a receiver: the CRC is its own, a bit at a time.
 
+pub mod drift;
 mod messages;
 mod tables;
 
