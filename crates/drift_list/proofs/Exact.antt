@@ -16,7 +16,7 @@ use Rattle.wire.proofs.Laws.Fields.{field-lt, spelled-reads, spelled-length}
 use Rattle.wire.proofs.Laws.Spelled.{part-spelled, field-after, spelled-are, both-are}
 use Rattle.drift_list.specs.declared.Fields.{Fields}
 use Rattle.drift_list.specs.Values.{Drift, GoodFix, GoodDrift, Rising, fixAmong, fixTests, buoyBefore, refusalAt, firstFault}
-use Rattle.drift_list.specs.Reading.{FitsFix, issueOf, countOf, begins, fixAt, spareAt, GoodList, readRefusal, fixesFrom, readList, spellFixes, spellList}
+use Rattle.drift_list.specs.Reading.{FitsFix, issueOf, countOf, begins, fixAt, spareAt, GoodList, faultOf, readRefusal, fixesFrom, readList, spellFixes, spellList}
 use Rattle.drift_list.proofs.Laws.Records.{saidBy, spareBy, numberOf, good-fits, fix-again, spare-again, fields-fit}
 use Rattle.drift_list.proofs.Laws.Lists.{recordAt, fix-number, spare-said, spelled-fixes-length, spelled-fixes-bytes, record-spelled, fixes-are, fixes-length, fixes-at, records-back}
 use Rattle.drift_list.proofs.Laws.Faults.{FirstFaulty, clean-exactly, number-within, none-faulty, all-clean, faulty-exactly, rising-told, rising-tells}
@@ -80,6 +80,16 @@ refused-within s k n = number-within (buoyBefore (fixAt s) k) (fixAt s k) (spare
 
 fault-above : (s : List ℕ) (k : ℕ) → (refusedAt s k ≡ 0 → ⊥) → 31 ≤ refusedAt s k
 fault-above s k n = refused-within s k n .0
+
+pub fault-within : (s : List ℕ) → (faultOf s ≡ 0 → ⊥) → (31 ≤ faultOf s) × (faultOf s ≤ 35)
+fault-within s z =
+    let f = faulty-exactly (countOf s) (refusedAt s) (faultOf s) (some (faultOf s) z) .0 refl in
+    let t : refusedAt s (f .place) ≡ faultOf s = f .there in
+    let w = refused-within s (f .place) (λ y. z (sym t ∙ y)) in
+    (subst (λ (n : ℕ). 31 ≤ n) t (w .0), subst (λ (n : ℕ). n ≤ 35) t (w .1))
+  where
+    some : (n : ℕ) → (n ≡ 0 → ⊥) → 0 < n
+    some n z = omega (arith, z)
 
 pub thirty-exactly : (s : List ℕ) → (readRefusal s ≡ 30) ↔ (length s ≡ 4 + 12 * countOf s → ⊥)
 thirty-exactly s = (there, inexact-answers s)

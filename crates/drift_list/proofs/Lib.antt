@@ -5,6 +5,7 @@ pub mod Walk
 pub mod Cases
 pub mod Writer
 pub mod Writes
+pub mod Tables
 pub mod Left
 pub mod Rows
 pub mod Round

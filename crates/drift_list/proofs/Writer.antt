@@ -285,7 +285,7 @@ module _ (d : Draft) (room : ℕ) where
   one-value true n z e = sym e
   one-value false n z e = absurd (z (sym e))
 
-  width-36 : (firstFault (d .count) 0 (wideRefusal (d .numbers)) ≡ 0 → ⊥) → firstFault (d .count) 0 (wideRefusal (d .numbers)) ≡ 36
+  pub width-36 : (firstFault (d .count) 0 (wideRefusal (d .numbers)) ≡ 0 → ⊥) → firstFault (d .count) 0 (wideRefusal (d .numbers)) ≡ 36
   width-36 z = go (firstFault (d .count) 0 (wideRefusal (d .numbers))) refl
     where
       go : (n : ℕ) → firstFault (d .count) 0 (wideRefusal (d .numbers)) ≡ n → firstFault (d .count) 0 (wideRefusal (d .numbers)) ≡ 36

@@ -9,7 +9,7 @@ use lib.Dec.{eqb, ltb}
 use borrow.Author.Tests.{eqb-true, eqb-false, ltb-true, ltb-false, lt-ltb}
 use Rattle.wire.specs.Tests.{firstMet}
 use Rattle.drift_list.specs.Values.{buoyBefore, fixTests, refusalAt, firstFault}
-use Rattle.drift_list.specs.Writing.{Draft, fixGiven, Fitting, GoodDraft, wideRefusal, writeRefusal}
+use Rattle.drift_list.specs.Writing.{Draft, fixGiven, givenFault, Fitting, GoodDraft, writeRefusal}
 use Rattle.drift_list.proofs.Laws.Faults.{FirstFaulty, number-within, faulty-exactly}
 use Rattle.drift_list.proofs.Cases.{case34}
 use Rattle.drift_list.proofs.Writer.{writes-exactly, widths-none, faults-none, is-fault, is-room, is37, is0, fitting-or}
@@ -28,7 +28,7 @@ given-not-34 d k e = let z = case34 (buoyBefore (fixGiven (d .numbers)) k) (fixG
 
 module _ (d : Draft) (room : ℕ) where
   abbrev faults : ℕ
-  faults = firstFault (d .count) 0 (givenRefusal d)
+  faults = givenFault d
 
   fault-within : (m : ℕ) → 0 < m → faults ≡ m → (31 ≤ m) × (m ≤ 35)
   fault-within m p e =
@@ -111,3 +111,13 @@ module _ (d : Draft) (room : ℕ) where
       go : Fitting d ⊎ (writeRefusal d room ≡ 36) → (31 ≤ writeRefusal d room) × (writeRefusal d room ≤ 37)
       go (inr x) = (omega (arith, x), omega (arith, x))
       go (inl f) = by-fault f (λ z x. late (ltb room (4 + 12 * d .count)) (writeRefusal d room) n x) (λ z x. early (writeRefusal d room) n x)
+
+-- a fault is one of the four
+pub given-fault-within : (d : Draft) → (givenFault d ≡ 0 → ⊥) → (31 ≤ givenFault d) × (givenFault d ≤ 35)
+given-fault-within d z = fault-within d 0 (givenFault d) (some (givenFault d) z) refl
+  where
+    some : (n : ℕ) → (n ≡ 0 → ⊥) → 0 < n
+    some n z = omega (arith, z)
+
+pub fault-not-34 : (d : Draft) → givenFault d ≡ 34 → ⊥
+fault-not-34 d e = let f = faulty-exactly (d .count) (givenRefusal d) 34 (omega arith) .0 e in given-not-34 d (f .place) (f .there)

@@ -1,12 +1,13 @@
 -- THE DRIFT LIST IN BYTES. 02, §1: "bit-packed, most significant first: issue 16, count 16, then 12-byte records".
 use Prim.Native.Nat.{ℕ, zero, suc, _+_, _*_, _^_, _<_}
 use mathlib.Core.Path.{_≡_}
-use mathlib.Core.Bool.{not, cond}
+use mathlib.Core.Bool.{Bool, not, cond}
 use mathlib.Core.List.{List, [], _∷_, _++_}
 use lib.Dec.{eqb}
 use lib.ListN.{length, replicate}
 use Rattle.wire.specs.Fields.{spelled}
 use Rattle.wire.specs.Bits.{bitsAt, putAll}
+use Rattle.wire.specs.Tests.{Tests}
 use Rattle.wire.specs.Signed.{signed, twos, InBits}
 use Rattle.drift_list.specs.declared.Fields.{Fields}
 use Rattle.drift_list.specs.Values.{Drift, GoodFix, Rising, refusalAt, firstFault}
@@ -48,8 +49,28 @@ pub record GoodList (s : List ℕ) : Type 0 where
   pub spare : (k : ℕ) → k < countOf s → spareAt s k ≡ 0
 
 -- REFUSALS: "30 length; then, at the first faulty record, the lowest of" 31 to 35
+
+-- 30: length
+abbrev pub meets30 : List ℕ → Bool
+meets30 s = not (eqb (length s) (4 + 12 * countOf s))
+
+-- the refusal of the first faulty record, 0 where none is faulty
+abbrev pub faultOf : List ℕ → ℕ
+faultOf s = firstFault (countOf s) 0 (refusalAt (fixAt s) (spareAt s))
+
 unfoldable pub readRefusal : List ℕ → ℕ
-readRefusal s = cond (not (eqb (length s) (4 + 12 * countOf s))) 30 (firstFault (countOf s) 0 (refusalAt (fixAt s) (spareAt s)))
+readRefusal s = cond (meets30 s) 30 (faultOf s)
+
+-- the same as a table of tests, lowest first
+unfoldable pub listTests : List ℕ → Tests
+listTests s =
+    (30, meets30 s)
+    ∷ (31, eqb (faultOf s) 31)
+    ∷ (32, eqb (faultOf s) 32)
+    ∷ (33, eqb (faultOf s) 33)
+    ∷ (34, eqb (faultOf s) 34)
+    ∷ (35, eqb (faultOf s) 35)
+    ∷ []
 
 -- the values
 unfoldable pub fixesFrom : (n k : ℕ) → (ℕ → Fields) → List Fields

@@ -10,6 +10,7 @@ use lib.Signed.{mag}
 use Rattle.drift_list.specs.declared.Fields.{Fields}
 use Rattle.drift_list.specs.declared.Written.{Written}
 use Rattle.drift_list.specs.declared.Written.the-variants as written
+use Rattle.wire.specs.Tests.{Tests}
 use Rattle.wire.specs.Signed.{InBits}
 use Rattle.drift_list.specs.Values.{Drift, GoodFix, Rising, refusalAt, firstFault}
 use Rattle.drift_list.specs.Reading.{fixesFrom, spellList}
@@ -91,13 +92,35 @@ headWide d = leb (2 ^ 16) (d .issue) || leb (2 ^ 16) (d .count) || not (eqb (len
 unfoldable pub orElse : ℕ → ℕ → ℕ
 orElse n m = cond (eqb n 0) m n
 
+-- the refusal of the first record with a value too wide, and of the first faulty one; a record holds no spare, so that is 0
+abbrev pub widthOf : Draft → ℕ
+widthOf d = firstFault (d .count) 0 (wideRefusal (d .numbers))
+
+abbrev pub givenFault : Draft → ℕ
+givenFault d = firstFault (d .count) 0 (refusalAt (fixGiven (d .numbers)) (λ k. 0))
+
+-- 37: a short buffer
+abbrev pub meets37 : Draft → (room : ℕ) → Bool
+meets37 d room = ltb room (4 + 12 * d .count)
+
 -- 36; then the first faulty record's; then 37
 unfoldable pub writeRefusal : Draft → (room : ℕ) → ℕ
-writeRefusal d room =
-    orElse (cond (headWide d) 36 0)
-    (orElse (firstFault (d .count) 0 (wideRefusal (d .numbers)))
-    (orElse (firstFault (d .count) 0 (refusalAt (fixGiven (d .numbers)) (λ k. 0)))
-    (cond (ltb room (4 + 12 * d .count)) 37 0)))
+writeRefusal d room = orElse (cond (headWide d) 36 0) (orElse (widthOf d) (orElse (givenFault d) (cond (meets37 d room) 37 0)))
+
+-- the same as a table of tests, in their order
+-- 36: a value too wide for its field, or a count that isn't the number of records
+unfoldable pub meets36 : Draft → Bool
+meets36 d = headWide d || not (eqb (widthOf d) 0)
+
+unfoldable pub writeTests : Draft → (room : ℕ) → Tests
+writeTests d room =
+    (36, meets36 d)
+    ∷ (31, eqb (givenFault d) 31)
+    ∷ (32, eqb (givenFault d) 32)
+    ∷ (33, eqb (givenFault d) 33)
+    ∷ (35, eqb (givenFault d) 35)
+    ∷ (37, meets37 d room)
+    ∷ []
 
 -- WHAT THE WRITER ANSWERS: the size, or the refusal
 unfoldable pub writeAnswer : Draft → (room : ℕ) → Written
