@@ -11,3 +11,4 @@ pub mod Soundings
 pub mod One
 pub mod Bearings
 pub mod Relays
+pub mod Drift

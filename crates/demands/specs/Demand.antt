@@ -108,6 +108,10 @@ unfoldable pub joinedBlocks : (n : ℕ) → (ℕ → List ℕ) → List ℕ
 joinedBlocks zero f = []
 joinedBlocks (suc n) f = joinedBlocks n f ++ f n
 
+-- what was heard of a module in a run: its blocks' data in block order, each as it first matched
+abbrev pub heardModule : Held → (i : ℕ) → List (List ℕ) → List ℕ
+heardModule x i ss = joinedBlocks (blocks x i) (λ b. firstData x i ss b)
+
 -- "if matching repeats agree": any two matching sections of the run for one block of the module have the same data
 abbrev pub RepeatsAgree : Held → (i : ℕ) → List (List ℕ) → Type 0
 RepeatsAgree x i ss = (b : ℕ) (s t : List ℕ) → Holds ss s → Holds ss t → matches x i b s ≡ true → matches x i b t ≡ true → sectionData s ≡ sectionData t

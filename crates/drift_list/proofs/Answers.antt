@@ -1,8 +1,8 @@
 -- The answers of the reader's calls, by whether the list is accepted; and what the walk has to do with them.
 use Prim.Native.Nat.{ℕ, _+_, _-_, _*_, _<_, _≤_}
 use mathlib.Core.Path.{_≡_, refl, sym, ap, _∙_}
-use mathlib.Core.Bool.{Bool, true, false}
-use mathlib.Core.List.{List}
+use mathlib.Core.Bool.{Bool, true, false, cond}
+use mathlib.Core.List.{List, []}
 use native.Mathlib.Omega.{arith}
 use lib.Dec.{eqb, ltb}
 use lib.ListN.{length}
@@ -16,7 +16,7 @@ use Rattle.wire.specs.Tests.{firstMet}
 use Rattle.drift_list.specs.Values.{fixOf, fixTests, buoyBefore, refusalAt}
 use Rattle.drift_list.specs.Reading.{fieldsFrom, spareFrom, issueOf, countOf, fixAt, readRefusal}
 use Rattle.drift_list.specs.Answers.{listAnswer, fixAnswer, walkRefusal, walkAnswer}
-use Rattle.drift_list.proofs.Exact.{refusedAt, by-length, accepted-exactly}
+use Rattle.drift_list.proofs.Exact.{refusedAt, by-length, accepted-exactly, inexact-answers}
 use Rattle.drift_list.proofs.Laws.Words.{part, part-record, part-spare}
 
 -- what is asked of record k in a part of the list
@@ -78,3 +78,36 @@ module _ (s : List ℕ) (k : ℕ) where
       go : length s ≡ 4 + 12 * countOf s → (t : Bool) → ltb k (countOf s) ≡ t → k < countOf s
       go x true e = ltb-true k (countOf s) e
       go x false e = let r = walk-19 x (ltb-false k (countOf s) e) in absurd (omega (arith, r, z))
+
+-- a record that was found is one of an accepted list
+pub found-told : (s : List ℕ) (k : ℕ) (f : Fix) → fixAnswer s k ≡ answer.Found f → (readRefusal s ≡ 0) × (k < countOf s) × (f ≡ fixOf (fixAt s k))
+unfolding fixAnswer
+found-told s k f e = go (eqb (readRefusal s) 0) (ltb k (countOf s)) refl refl e
+  where
+    sort : FixAnswer → ℕ
+    sort (answer.Refused n) = 1
+    sort (answer.Found g) = 0
+
+    fixIn : FixAnswer → Fix
+    fixIn (answer.Refused n) = fixOf (fixAt s k)
+    fixIn (answer.Found g) = g
+
+    clash : {A : Type 0} (n : ℕ) → answer.Refused n ≡ answer.Found f → A
+    clash n c = let z : _≡_ {A = ℕ} 1 0 = ap sort c in absurd (omega (arith, z))
+
+    go : (t u : Bool) → eqb (readRefusal s) 0 ≡ t → ltb k (countOf s) ≡ u
+        → cond t (cond u (answer.Found (fixOf (fixAt s k))) (answer.Refused 19)) (answer.Refused (readRefusal s)) ≡ answer.Found f
+        → (readRefusal s ≡ 0) × (k < countOf s) × (f ≡ fixOf (fixAt s k))
+    go true true t u e = (eqb-true (readRefusal s) 0 t, ltb-true k (countOf s) u, sym (ap fixIn e))
+    go true false t u e = clash 19 e
+    go false u t v e = clash (readRefusal s) e
+
+-- of no bytes nothing is read
+pub nothing-read : (listAnswer [] ≡ reading.Refused 30) × ((k : ℕ) → (fixAnswer [] k ≡ answer.Refused 30) × (walkAnswer [] k ≡ answer.Refused 30))
+nothing-read =
+    let short : length {A = ℕ} [] ≡ 4 + 12 * countOf [] → ⊥ = λ e. omega (arith, e) in
+    let r = inexact-answers [] short in
+    (
+      sym (list-refused [] 30 (sym r) (λ z. omega (arith, z))),
+      λ k. (sym (fix-refused [] 30 (sym r) k (λ z. omega (arith, z))), sym (walk-refused [] k 30 (sym (walk-30 [] k short)) (λ z. omega (arith, z)))),
+    )
