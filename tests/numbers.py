@@ -4,7 +4,7 @@
   the rows are the refusals of include/nebosvar.h, in order, none left out;
   the words stand in the comments of the files that the definitions are in, clause by clause;
   a definition stands beside the number in a table of tests, `(16, meets16 ..)`, or its file has such a table;
-  each function that is named gives the number, `return 16;`, `number: 16` or `refuse(c, 16)`, and no function besides them does;
+  each function that is named gives the number, `return 16;`, `number: 16`, `refuse(c, 16)` or `Answer::Refused(16)`, and no function besides them does;
   the stored answers of each crate that is named as a test have the number;
   the edits are edits of the gate."""
 import re
@@ -13,12 +13,13 @@ import sys
 import names
 from names import ROOT, text_of
 
-GIVEN = r"return {0};|Refusal {{ number: {0} }}|refuse\(c, {0}\)"
+GIVEN = r"return {0};|Refusal {{ number: {0} }}|refuse\(c, {0}\)|Answer::Refused\({0}\)"
 # a line of stored answers, and which of its numbers are refusals
 ANSWERS = {
     "test_section": r"^\w+ (\d+) (\d+)$",
     "test_ait": r"^(?:section|end) (\d+)",
     "test_carousel": r"^(?:step|handout|missing) (\d+)",
+    "test_drift": r"^(?:read|write|(?:record|walk) \d) (\d+)",
     "receive": r"^\d+,(\d+),",
 }
 

@@ -1,6 +1,7 @@
 -- The answers of the reader's calls, by whether the list is accepted; and what the walk has to do with them.
 use Prim.Native.Nat.{ℕ, _+_, _-_, _*_, _<_, _≤_}
 use mathlib.Core.Path.{_≡_, refl, sym, ap, _∙_}
+use mathlib.Core.Logic.{_↔_}
 use mathlib.Core.Bool.{Bool, true, false, cond}
 use mathlib.Core.List.{List, []}
 use native.Mathlib.Omega.{arith}
@@ -16,7 +17,7 @@ use Rattle.wire.specs.Tests.{firstMet}
 use Rattle.drift_list.specs.Values.{fixOf, fixTests, buoyBefore, refusalAt}
 use Rattle.drift_list.specs.Reading.{fieldsFrom, spareFrom, issueOf, countOf, fixAt, readRefusal}
 use Rattle.drift_list.specs.Answers.{listAnswer, fixAnswer, walkRefusal, walkAnswer}
-use Rattle.drift_list.proofs.Exact.{refusedAt, by-length, accepted-exactly, inexact-answers}
+use Rattle.drift_list.proofs.Exact.{refusedAt, by-length, accepted-exactly, exact-answers, inexact-answers, fault-within}
 use Rattle.drift_list.proofs.Laws.Words.{part, part-record, part-spare}
 
 -- what is asked of record k in a part of the list
@@ -102,12 +103,31 @@ found-told s k f e = go (eqb (readRefusal s) 0) (ltb k (countOf s)) refl refl e
     go true false t u e = clash 19 e
     go false u t v e = clash (readRefusal s) e
 
+-- 19 exactly past the last record of an accepted list
+abbrev number : FixAnswer → ℕ
+number (answer.Refused n) = n
+number (answer.Found g) = 0
+
+not-19 : (s : List ℕ) → readRefusal s ≡ 19 → ⊥
+not-19 s e = by-length s
+    (λ x. let r = exact-answers s x in let w = fault-within s (λ z. omega (arith, r, e, z)) .0 in omega (arith, r, e, w))
+    (λ n. let r = inexact-answers s n in omega (arith, r, e))
+
+pub past-exactly : (s : List ℕ) (k : ℕ) → (fixAnswer s k ≡ answer.Refused 19) ↔ ((readRefusal s ≡ 0) × (countOf s ≤ k))
+unfolding fixAnswer
+past-exactly s k = (λ e. there (eqb (readRefusal s) 0) (ltb k (countOf s)) refl refl e, λ w. sym (fix-past s (readRefusal s) refl k (w .0) (w .1)))
+  where
+    there : (t u : Bool) → eqb (readRefusal s) 0 ≡ t → ltb k (countOf s) ≡ u
+        → cond t (cond u (answer.Found (fixOf (fixAt s k))) (answer.Refused 19)) (answer.Refused (readRefusal s)) ≡ answer.Refused 19 → (readRefusal s ≡ 0) × (countOf s ≤ k)
+    there true true t u e = let z : _≡_ {A = ℕ} 0 19 = ap number e in absurd (omega (arith, z))
+    there true false t u e = (eqb-true (readRefusal s) 0 t, ltb-false k (countOf s) u)
+    there false u t v e = absurd (not-19 s (ap number e))
+
 -- of no bytes nothing is read
 pub nothing-read : (listAnswer [] ≡ reading.Refused 30) × ((k : ℕ) → (fixAnswer [] k ≡ answer.Refused 30) × (walkAnswer [] k ≡ answer.Refused 30))
 nothing-read =
     let short : length {A = ℕ} [] ≡ 4 + 12 * countOf [] → ⊥ = λ e. omega (arith, e) in
-    let r = inexact-answers [] short in
-    (
+    let r = inexact-answers [] short in (
       sym (list-refused [] 30 (sym r) (λ z. omega (arith, z))),
       λ k. (sym (fix-refused [] 30 (sym r) k (λ z. omega (arith, z))), sym (walk-refused [] k 30 (sym (walk-30 [] k short)) (λ z. omega (arith, z)))),
     )

@@ -42,8 +42,7 @@ pub fn walk_refusal(s: &[u8], k: usize) -> u8
     ensures { λ r. ⌜ r ≡ walkRefusal (now (s .entry)) k ⌝ }
 {
     let count = wire::sixteen_at(s, 2) as usize;
-    let size = 4 + 12 * count;
-    if s.len() != size {
+    if s.len() != 4 + 12 * count {
         return 30;
     }
     if count <= k {

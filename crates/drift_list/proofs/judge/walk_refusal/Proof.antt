@@ -35,11 +35,11 @@ sixteen-at-requires c κs = search needs
 cast-count : tie.Need-cast-count
 cast-count c = search needs
 
-mul-size : tie.Need-mul-size
-mul-size c = search needs
+mul-if1 : tie.Need-mul-if1
+mul-if1 c = search needs
 
-add-size : tie.Need-add-size
-add-size c = search needs
+add-if1 : tie.Need-add-if1
+add-if1 c = search needs
 
 returns : tie.Need-returns
 returns c = sym (walk-30 _ _ (λ e. c .if1 .taken (e ∙ ap (λ (n : ℕ). 4 + 12 * n) (sym (counted (c .before))))))
@@ -79,8 +79,8 @@ walk-refusal-spec =
     (tie.spec
     sixteen-at-requires
     cast-count
-    mul-size
-    add-size
+    mul-if1
+    add-if1
     returns
     returns-2
     buoy-before-requires
