@@ -1,4 +1,5 @@
--- THE DRIFT LIST, FROM THE AIR TO THE CHART. 00: "The position was last week's: old bytes, left in the receiver where a block of the new list had never been heard." 02, §1: "Demands 1 to 3 read as before."
+-- THE DRIFT LIST, FROM THE AIR TO THE CHART. 00: "The position was last week's: old bytes, left in the receiver where a block of the new list had never been heard."
+-- 02, §1: "Demands 1 to 3 read as before."
 --
 -- Here x is the record and image that a call left which answered "new"; ss is any run without a further new announcement; i is the place of the list's module, and y what
 -- the run leaves. `listAnswer`, `fixAnswer` and `walkAnswer` are what drift_list's `read`, `record_at` and `walk_at` answer; `heardModule` is the module's blocks' data,

@@ -67,7 +67,9 @@ above n m l e = omega (arith, l, e)
 -- THE READER
 pub list-table : (s : List ℕ) → readRefusal s ≡ firstMet (listTests s)
 unfolding readRefusal listTests
-list-table s = met-first 30 (meets30 s) _ (faultOf s) (sym (chosen-met (31 ∷ 32 ∷ 33 ∷ 34 ∷ 35 ∷ []) (faultOf s) [] (λ c. met-none ∙ sym (zero-unless (faultOf s) (none (faultOf s) (fault-within s) c)))))
+list-table s =
+    met-first 30 (meets30 s) _ (faultOf s)
+    (sym (chosen-met (31 ∷ 32 ∷ 33 ∷ 34 ∷ 35 ∷ []) (faultOf s) [] (λ c. met-none ∙ sym (zero-unless (faultOf s) (none (faultOf s) (fault-within s) c)))))
   where
     none : (m : ℕ) → ((m ≡ 0 → ⊥) → (31 ≤ m) × (m ≤ 35)) → NoneOf (31 ∷ 32 ∷ 33 ∷ 34 ∷ 35 ∷ []) m → (m ≡ 0 → ⊥) → ⊥
     none m w c z =

@@ -1,4 +1,5 @@
--- THE WALK AND THE LIST: on an accepted list the walk answers what `record_at` answers; and a walk from record 0 on judges as `read` does: its first refusal is the list's own, or 19 after the last record of an accepted list.
+-- THE WALK AND THE LIST: on an accepted list the walk answers what `record_at` answers;
+-- and a walk from record 0 on judges as `read` does: its first refusal is the list's own, or 19 after the last record of an accepted list.
 use Prim.Native.Nat.{ℕ, _+_, _*_, _<_, _≤_}
 use mathlib.Core.Path.{_≡_, refl, sym, ap, _∙_}
 use mathlib.Core.Bool.{Bool, true, false}

@@ -1,2 +1,3 @@
 pub mod Unique
 pub mod Numbers
+pub mod Lists
