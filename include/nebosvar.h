@@ -2,11 +2,13 @@
  *
  * Every call is proved to end with its one stated answer, whatever bytes, record and image it is lent:
  * there is nothing to check first. What C can not say is left to the caller: each pointer is to as many
- * bytes as its length says (for a length of 0 it is not read); the record, the section and the image of one
- * call do not overlap; and nothing else changes what is lent while the call runs. No call keeps a pointer,
- * allocates, blocks or uses anything but what it is lent.
+ * bytes as its length says, or numbers (for a length of 0 it is not read); the record, the section and the
+ * image of one call do not overlap, nor do the numbers of a list and the bytes it is written to; and nothing
+ * else changes what is lent while the call runs. No call keeps a pointer, allocates, blocks or uses anything
+ * but what it is lent.
  *
- * A refusal (1 to 20 below) changes neither the record nor the image. */
+ * A refusal (1 to 20, and 30 to 37, below) changes nothing: not the record, not the image, not the bytes to
+ * be written to. */
 #ifndef NEBOSVAR_H
 #define NEBOSVAR_H
 
@@ -17,7 +19,8 @@
 extern "C" {
 #endif
 
-/* Refusals: the paper's numbers, in its words. A DII is an announcement, a DDB a block, an AIT an application table; L is the section's length. */
+/* Refusals: the paper's numbers, in its words. A DII is an announcement, a DDB a block, an AIT an application table; L is the section's length.
+ * From 30 on they are the drift list's, and 36 and 37 its writer's. */
 enum {
     NEBOSVAR_ACCEPTED = 0,
     NEBOSVAR_BAD_RECORD = 1,                 /* record breaks its rule (carousel calls) */
@@ -39,7 +42,15 @@ enum {
     NEBOSVAR_BYTES_DIFFER = 17,              /* block marked, bytes differ */
     NEBOSVAR_NO_APPLICATION_DESCRIPTOR = 18, /* an application without exactly one 0x00 descriptor */
     NEBOSVAR_NO_PLACE = 19,                  /* no such place */
-    NEBOSVAR_INCOMPLETE = 20                 /* module not complete */
+    NEBOSVAR_INCOMPLETE = 20,                /* module not complete */
+    NEBOSVAR_LIST_LENGTH = 30,               /* length */
+    NEBOSVAR_LIST_COORDINATE = 31,           /* coordinate range */
+    NEBOSVAR_LIST_MINUTE = 32,               /* minute */
+    NEBOSVAR_LIST_BUOY = 33,                 /* buoy zero or not rising */
+    NEBOSVAR_LIST_SPARE = 34,                /* spare */
+    NEBOSVAR_LIST_STATE = 35,                /* state 3, or state against coordinates */
+    NEBOSVAR_LIST_WIDTH = 36,                /* a value too wide for its field, or a count that isn't the number of records */
+    NEBOSVAR_LIST_ROOM = 37                  /* a short buffer */
 };
 
 /* What became of a section. */
@@ -270,6 +281,65 @@ nebosvar_part nebosvar_extension(const uint8_t *section, size_t length, size_t a
 
 /* Which 0x02 descriptor a label of an application names. `label` is the label's place in the application's 0x00, from 0, not its value. */
 nebosvar_label_found nebosvar_label(const uint8_t *section, size_t length, size_t application, size_t label);
+
+/* The drift list: an issue, a count, and a record of 12 bytes for each buoy. It is read out of any bytes that are lent, as of a module
+ * that was handed out, and written into any. Records are asked for by place, from 0. Coordinates are in 1/10,000 minute, east and north
+ * positive; the minute is of the week. On a refusal all other fields are 0. */
+
+enum { /* states of a fix */
+    NEBOSVAR_STATE_NONE = 0,     /* no position: both coordinates are 0, and only then */
+    NEBOSVAR_STATE_FIX = 1,
+    NEBOSVAR_STATE_LASTKNOWN = 2
+};
+
+typedef struct {
+    uint16_t issue;
+    uint16_t count; /* of records */
+    uint8_t refusal;
+} nebosvar_list;
+
+/* A record that was read. */
+typedef struct {
+    uint32_t buoy;     /* 1 to 1,048,575 */
+    int32_t longitude; /* -107,999,999 to 108,000,000 */
+    int32_t latitude;  /* -54,000,000 to 54,000,000 */
+    uint16_t minute;   /* 0 to 10,079 */
+    uint8_t state;
+    uint8_t refusal;
+} nebosvar_found;
+
+/* A record to be written: five numbers, in this order and with nothing between them. The writer takes the numbers of all records one
+ * after another, so fill an array `nebosvar_fix fixes[n]` and pass `&fixes[0].buoy, 5 * n` for `numbers, length`. */
+typedef struct {
+    int32_t buoy;
+    int32_t state;
+    int32_t longitude;
+    int32_t latitude;
+    int32_t minute;
+} nebosvar_fix;
+
+typedef struct {
+    size_t size; /* of the list that was written, in bytes */
+    uint8_t refusal;
+} nebosvar_written;
+
+/* Judges a whole list (30; then, at its first faulty record, the lowest of 31 to 35): its issue, and how many records it has. */
+nebosvar_list nebosvar_list_read(const uint8_t *list, size_t length);
+
+/* Record k of a list (30 to 35, as nebosvar_list_read; then 19). It judges the whole list each time. */
+nebosvar_found nebosvar_list_record(const uint8_t *list, size_t length, size_t k);
+
+/* Record k, judged alone, with the buoy before it (30; then 19; then 31 to 35 of record k), so that it costs the same for every k. It
+ * answers as nebosvar_list_record does wherever nebosvar_list_read accepts the list. Asked for k = 0, 1, 2 and so on, its first refusal is
+ * the list's own, or 19 after the last record of an accepted list. So read the list first, or throw away what was walked when a refusal
+ * other than 19 comes. */
+nebosvar_found nebosvar_list_walk(const uint8_t *list, size_t length, size_t k);
+
+/* Writes a list of 4 + 12 * count bytes: `length` is how many numbers there are, five for each record (nebosvar_fix), and not their bytes;
+ * `room` is that of `out`, in bytes. It can refuse with 36, where issue, count or any number is too wide for its field or length is not
+ * 5 * count; then, at the first faulty record, with the lowest of 31, 32, 33 and 35 (34 can not come: the spare bits are not given); then
+ * with 37. A refusal writes nothing, and what `out` has past the list stays as it was. */
+nebosvar_written nebosvar_list_write(uint32_t issue, uint32_t count, const int32_t *numbers, size_t length, uint8_t *out, size_t room);
 
 #ifdef __cplusplus
 }

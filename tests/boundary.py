@@ -4,7 +4,8 @@
     calls       name -> ([(parameter, type)], answer)
     constants   lists of (name, number), one for each enum
 
-with C's names and Rust's types; `faults` tells where the header differs from the source, and `swaps` makes wrong headers to try that on."""
+with C's names and Rust's types; `faults` tells where the header differs from the source, and `swaps` makes wrong headers to try that on. The row that
+the writer of drift lists is given is no struct of the source, which takes its numbers; it is held to the definition that names them."""
 import itertools
 import re
 
@@ -14,6 +15,8 @@ CRATES = ROOT / "crates"
 RUST = ROOT / "rust" / "nebosvar" / "src"
 HEADER = ROOT / "include" / "nebosvar.h"
 SOURCES = [CRATES / c / "src" / "lib.rt" for c in ("nebosvar", "ait_numbers", "carousel_record")]
+DRIFT = CRATES / "drift_list" / "src" / "lib.rt"
+ROWS = CRATES / "drift_list" / "specs" / "Writing.antt"
 LIMITS = [CRATES / c / "src" / f for c, f in (("carousel_messages", "limits.rt"), ("carousel_record", "marks.rt"))]
 
 # ---- names that differ, and why
@@ -32,13 +35,17 @@ STRUCTS = {
     "DescriptorOut": "descriptor_head",
     "ItemOut": "item_found",
     "LabelOut": "label_found",
+    "ListOut": "list",
+    "FixOut": "found",
+    "WrittenOut": "written",
 }
+RUST_STRUCTS = {"Row": "fix"}  # in Rust, `Fix` is a record that was read
 PARAMETERS = {"c": "record"}  # `record` is a word of the contracts' language
-LENGTHS = {"image": "room"}  # a slice is a pointer and a length; that of the image has a name of its own
+LENGTHS = {"image": "room", "out": "room"}  # a slice is a pointer and a length; where it is written to, that has a name of its own
 ARRAYS = {"language": ["first", "second", "third"]}  # three fields are an array
 VARIANTS = {"KIND_REFUSED": "KIND_NONE"}  # the section's kind where it was refused
 WORDS = {"×": "*", "not as above": "not as in the paper"}  # of the paper's table, in a header
-C_TYPES = {"uint8_t": "u8", "uint16_t": "u16", "uint32_t": "u32", "size_t": "usize"}
+C_TYPES = {"uint8_t": "u8", "uint16_t": "u16", "uint32_t": "u32", "int32_t": "i32", "size_t": "usize"}
 
 
 def blank(text):
@@ -84,18 +91,31 @@ def source_structs(text):
 
 def crossed(name, type_):
     """A parameter as C has it."""
-    behind = re.fullmatch(r"&(mut )?(\[u8\]|[A-Z]\w*)", type_)
+    behind = re.fullmatch(r"&(mut )?(?:\[(u8|i32)\]|([A-Z]\w*))", type_)
     if not behind:
         return [(name, type_)]
     pointer = "*mut " if behind[1] else "*const "
-    if behind[2] != "[u8]":
-        return [(PARAMETERS[name], pointer + c_type(behind[2]))]
-    return [(name, pointer + "u8"), (LENGTHS.get(name, "length"), "usize")]
+    if behind[3]:
+        return [(PARAMETERS[name], pointer + c_type(behind[3]))]
+    return [(name, pointer + behind[2]), (LENGTHS.get(name, "length"), "usize")]
 
 
 def source_calls(text):
     for name, parameters, answer in re.findall(r"#\[no_mangle\]\s*pub extern \"C\" fn (\w+)\((.*?)\) -> (\w+)", text, re.S):
         yield name, ([c for p in re.findall(r"(\w+): ([^,]+)", parameters) for c in crossed(p[0], p[1].strip())], c_type(answer))
+
+
+def row(calls):
+    """The row that the writer is given, as the definitions have it: by the places where the numbers are looked for, and as values are given in numbers. Each
+    number is of the type that the call's slice has."""
+    text = ROWS.read_text()
+    fields = re.search(r"^pub record InFields .*? where\n((?:  .*\n)+)", text, re.M)[1]
+    looked = re.findall(r"pub (\w+) : \w+ \S.*? \(cell ns (?:i|\(i \+ (\d)\))\)$", fields, re.M)
+    given = re.search(r"^rowsOf \(f ∷ fs\) = (.*) ∷ rowsOf fs$", text, re.M)[1]
+    assert [int(k or 0) for _, k in looked] == list(range(fields.count("\n"))), looked
+    assert [n for n, _ in looked] == re.findall(r"f \.(\w+)", given), (looked, given)
+    one = dict(calls["nebosvar_list_write"][0])["numbers"].removeprefix("*const ")
+    return {"nebosvar_fix": [(n, one, 1) for n, _ in looked]}
 
 
 def variants(prefix, told):
@@ -162,13 +182,16 @@ def source_constants():
         variants("DESCRIPTOR", descriptor_kinds(numbers)),
         variants("ITEM", item_kinds(numbers)),
         variants("FOUND", found[1:]),
+        variants("STATE", matched(DRIFT, "state_number")),
         [("COMMON", int(common, 16))],
     ]
 
 
 def source():
     text = "".join(blank(p.read_text()) for p in SOURCES)
-    return {"structs": dict(source_structs(text)), "calls": dict(source_calls(text)), "constants": source_constants(), "words": refusals()[1], "unread": {}}
+    calls = dict(source_calls(text))
+    structs = {**dict(source_structs(text)), **row(calls)}
+    return {"structs": structs, "calls": calls, "constants": source_constants(), "words": refusals()[1], "unread": {}}
 
 
 # ---- the header
@@ -270,6 +293,15 @@ def others(raw):
         ("/* Which 0x02", "extern int nebosvar_more;\n/* Which 0x02"),
         ("nebosvar_part nebosvar_extension", "nebosvar_lack nebosvar_extension"),
         ("/* no such place */", "/* module not complete */"),
+        ("const int32_t *numbers", "const uint8_t *numbers"),
+        ("const int32_t *numbers", "int32_t *numbers"),
+        ("    int32_t minute;\n", "    uint16_t minute;\n"),
+        ("    int32_t minute;\n", "    int32_t minute;\n    int32_t spare;\n"),
+        ("    NEBOSVAR_STATE_LASTKNOWN = 2\n", "    NEBOSVAR_STATE_LASTKNOWN = 2,\n    NEBOSVAR_STATE_REFUSED = 3\n"),
+        ("NEBOSVAR_LIST_ROOM = 37  ", "NEBOSVAR_LIST_ROOM = 38  "),
+        ("/* spare */", "/* minute */"),
+        ("nebosvar_list nebosvar_list_read", "nebosvar_written nebosvar_list_read"),
+        ("uint8_t *out, size_t room", "const uint8_t *out, size_t room"),
     ):
         assert raw.count(old) == 1, old
         yield "%r for %r" % (new, old), raw.replace(old, new)
@@ -279,6 +311,8 @@ def others(raw):
 
 
 def snake(name):
+    if name in RUST_STRUCTS:
+        return "nebosvar_" + RUST_STRUCTS[name]
     return "nebosvar_" + re.sub(r"(?<!^)(?=[A-Z])", "_", name).lower()
 
 
@@ -289,7 +323,7 @@ def rust_type(t):
 
 def rust():
     """The structs and calls of the Rust crate's declarations."""
-    text = "".join(blank((RUST / f).read_text()) for f in ("ffi.rs", "record.rs"))
+    text = "".join(blank((RUST / f).read_text()) for f in ("ffi.rs", "record.rs", "drift.rs"))
     structs = {}
     for name, inside in re.findall(r"#\[repr\(C\)\][^{]*pub struct (\w+) \{(.*?)\}", text, re.S):
         fields = structs[snake(name)] = []
@@ -303,11 +337,12 @@ def rust():
 
 
 def rust_constants():
-    """The numbers that the Rust crate takes for each case, by C's names."""
-    prefix = {"Kind": "KIND", "Stop": "STOP", "Class": "CLASS", "Control": "CONTROL", "Descriptor": "DESCRIPTOR", "Item": "ITEM", "Label": "FOUND"}
-    text = "".join(blank((RUST / f).read_text()) for f in ("answer.rs", "table.rs"))
-    for n, enum, variant in re.findall(r"(\d+) => (?:Ok\()?(\w+)::(\w+)", text):
-        if enum in prefix:
-            yield "%s_%s" % (prefix[enum], variant.upper()), int(n)
-    for variant, n in re.findall(r"(\w+) = (\d+),", re.search(r"pub enum ItemKind \{(.*?)\}", text, re.S)[1]):
-        yield "ITEM_" + variant.upper(), int(n)
+    """The numbers that the Rust crate takes for each case, by C's names; and those that it gives."""
+    prefix = {"Kind": "KIND", "Stop": "STOP", "Class": "CLASS", "Control": "CONTROL", "Descriptor": "DESCRIPTOR", "Item": "ITEM", "Label": "FOUND", "State": "STATE"}
+    text = "".join(blank((RUST / f).read_text()) for f in ("answer.rs", "table.rs", "drift.rs"))
+    taken = [("%s_%s" % (prefix[e], v.upper()), int(n)) for n, e, v in re.findall(r"(\d+) => (?:Ok\()?(\w+)::(\w+)", text) if e in prefix]
+    given = []
+    for enum, name in (("ItemKind", "ITEM"), ("State", "STATE")):
+        inside = re.search(r"pub enum %s \{(.*?)\}" % enum, text, re.S)[1]
+        given += [("%s_%s" % (name, v.upper()), int(n)) for v, n in re.findall(r"(\w+) = (\d+),", inside)]
+    return taken, given

@@ -1,12 +1,13 @@
 #!/usr/bin/env python3
 """The C side: include/nebosvar.h declares what the source exports, by name, order, type and number (tests/boundary.py), and the C programs, compiled with
 every warning an error, print what the programs in Python print: examples/receive.c the paper's lines, and of each module what the receiver says;
-tests/table.c the lines of `inspect`.
+tests/table.c the lines of `inspect`; tests/list.c what tests/driftlist.py reads of a drift list, which it also writes again.
 
     embed.py          compare the declarations
-    embed.py run      the same, then `make install` into a folder of its own, compile both programs with what pkg-config says of it, and run them"""
+    embed.py run      the same, then `make install` into a folder of its own, compile the programs with what pkg-config says of it, and run them"""
 import os
 import platform
+import random
 import re
 import subprocess
 import sys
@@ -14,6 +15,7 @@ import tempfile
 from pathlib import Path
 
 import boundary
+import driftlist
 import program
 import receiver
 import test_inspect
@@ -24,7 +26,7 @@ def compare_declarations():
     """The header and the Rust crate beside the source; and that the comparison finds every wrong header."""
     wanted, raw = boundary.source(), boundary.HEADER.read_text()
     found = list(boundary.faults(wanted, raw))
-    assert not found and len(wanted["calls"]) >= 12, "\n".join(found)
+    assert not found and len(wanted["calls"]) >= 16, "\n".join(found)
     counts = tuple(sum(map(len, part)) for part in (wanted["structs"].values(), (ps for ps, _ in wanted["calls"].values()), wanted["constants"]))
     print("embed.py: include/nebosvar.h has the source's %d calls, %d fields, %d parameters and %d constants" % (len(wanted["calls"]), *counts))
     declared = boundary.rust()
@@ -33,18 +35,18 @@ def compare_declarations():
     compare_rust(dict(c for enum in wanted["constants"] for c in enum))
     tried = [*boundary.swaps(raw), *boundary.others(raw)]
     passed = [what for what, text in tried if not any(boundary.faults(wanted, text))]
-    assert len(tried) > 700 and not passed, passed
+    assert len(tried) > 1200 and not passed, passed
     print("embed.py: each of %d wrong headers, with two names or values exchanged, is found to be one" % len(tried))
 
 
 def compare_rust(numbers):
-    """Every number that the Rust crate takes for a case, and none left out."""
-    taken = list(boundary.rust_constants())
-    assert all(numbers.get(n) == k for n, k in taken), taken
-    named = {n for n in numbers if n.split("_")[0] in ("KIND", "STOP", "CLASS", "CONTROL", "DESCRIPTOR", "ITEM", "FOUND")}
-    assert {n for n, _ in taken} == named - {"KIND_NONE"}, named ^ {n for n, _ in taken}
+    """Every number that the Rust crate takes for a case, or gives for one, and none left out."""
+    taken, given = boundary.rust_constants()
+    for told, enums in ((taken, ("KIND", "STOP", "CLASS", "CONTROL", "DESCRIPTOR", "ITEM", "FOUND", "STATE")), (given, ("ITEM", "STATE"))):
+        named = {n: k for n, k in numbers.items() if n.split("_")[0] in enums and n != "KIND_NONE"}
+        assert set(told) == set(named.items()), set(told) ^ set(named.items())
     words, printed = boundary.short_words(), boundary.rust_words()
-    assert len(words) == 20 and words == printed, set(words.items()) ^ set(printed.items())
+    assert len(words) == 28 and words == printed, set(words.items()) ^ set(printed.items())
     print("embed.py: the Rust crate has the same structs and calls, the same number for each of %d cases, and the same words for %d refusals" % (len(set(taken)), len(words)))
 
 
@@ -113,6 +115,42 @@ def check_tables(command):
     print("embed.py: tests/table.c prints the lines of inspect for %d accepted tables and %d refused" % (tables["table"], tables["none"]))
 
 
+def drift_lists():
+    """Good lists, the empty and the longest among them; lists with a field that is wrong, or any bits in its place; and lists of another length."""
+    rnd = random.Random(2026)
+    good = [driftlist.listing(driftlist.random_rows(rnd), rnd.randrange(65_536)) for _ in range(100)]
+    longest = [(k + 1, k % 3, *((0, 0) if k % 3 == 0 else (k - 30_000, 30_000 - 2 * k)), k % 10_080) for k in range(65_535)]
+    good += [driftlist.ONES, driftlist.MINUS_ONES, driftlist.LIST.data, driftlist.listing([]), driftlist.listing(longest, 65_535)]
+    yield from good
+    for k in range(300):
+        rows = driftlist.random_rows(rnd, 1)
+        place, name = rnd.randrange(len(rows)), driftlist.Row._fields[k % 6]
+        any_bits = rnd.getrandbits(getattr(driftlist.WIDTHS, name))
+        yield driftlist.with_field(driftlist.listing(rows), place, name, rnd.choice([any_bits, driftlist.wrong_value(rnd, rows, place, name)]))
+    for data in good:
+        yield rnd.choice([data[:-1], data[:3], data[:-12], data + b"\0", data + bytes(12)])
+
+
+def list_lines(data):
+    refusal, issue, rows = driftlist.read(data)
+    if refusal:
+        return "list,%d\n" % refusal
+    words = ("none", "fix", "last")
+    return "issue,%d,%d\n" % (issue, len(rows)) + "".join("%d,%s,%d,%d,%d\n" % (r.buoy, words[r.state], r.longitude, r.latitude, r.minute) for r in rows)
+
+
+def check_lists(command):
+    """What the second program reads of a drift list; and what was read is written again, which tests/list.c sees to itself."""
+    met = dict.fromkeys(("issue", *("list,%d\n" % n for n in range(30, 36))), 0)
+    for k, data in enumerate(drift_lists()):
+        name, wanted = "drift list %d" % k, list_lines(data)
+        with program.file_of(data) as stdin:
+            program.check_same(name, program.run_it(command, name, stdin), wanted.encode())
+        met["issue" if wanted.startswith("issue") else wanted] += 1
+    assert min(met.values()) >= 20, met
+    print("embed.py: tests/list.c reads what tests/driftlist.py does of %d drift lists, and writes the %d that are accepted again" % (sum(met.values()), met["issue"]))
+
+
 def check_needs(archive):
     """The archive defines the exported functions and asks for nothing but these two of the C library."""
     symbols = subprocess.run(["nm", archive], check=True, capture_output=True, text=True).stdout.split("\n")
@@ -167,6 +205,7 @@ def run_example():
         command = compile_strictly(ROOT / "examples" / "receive.c", prefix, Path(folder) / "receive")
         print("embed.py: the C example over %d modules" % check_modules(command))
         check_tables(compile_strictly(ROOT / "tests" / "table.c", prefix, Path(folder) / "table"))
+        check_lists(compile_strictly(ROOT / "tests" / "list.c", prefix, Path(folder) / "list"))
         subprocess.run([sys.executable, ROOT / "tests" / "program.py", "run", *command], check=True)
 
 

@@ -1,7 +1,7 @@
 -- EACH NUMBER OF A RECORD IN ITS CASE, as plain facts.
 use Prim.Native.Nat.{ℕ, zero, suc, _<_, _≤_}
 use mathlib.Core.Path.{_≡_, refl, sym}
-use mathlib.Core.Logic.{_↔_}
+use mathlib.Core.Logic.{_↔_, _⊎_, inl, inr}
 use mathlib.Core.Bool.{Bool, true, false, cond}
 use mathlib.Core.List.{[], _∷_}
 use native.Mathlib.Omega.{arith}
@@ -11,7 +11,9 @@ use Rattle.wire.specs.Tests.{Tests, firstMet, RisingFrom}
 use Rattle.wire.proofs.Laws.Tests.{clash}
 use Rattle.drift_list.specs.declared.Fields.{Fields}
 use Rattle.wire.specs.Signed.{Between}
-use Rattle.drift_list.specs.Values.{west, east, south, north, week, StateTold, meets31, meets35, fixTests}
+use Rattle.drift_list.specs.declared.State.{State}
+use Rattle.drift_list.specs.declared.State.the-variants as state
+use Rattle.drift_list.specs.Values.{west, east, south, north, week, StateTold, stateOf, stateNumber, meets31, meets35, fixTests}
 use Rattle.wire.proofs.Laws.Signed.{between-tells}
 use Rattle.drift_list.proofs.Laws.Faults.{ranges-told, ranges-tell, state-told, state-tells, is32, is33, is34, is35}
 
@@ -116,3 +118,19 @@ module _ (before : ℕ) (f : Fields) (spare : ℕ) where
   -- 35: then it is the state
   pub case35 : (answer ≡ 35) ↔ (InRanges × (f .minute < week) × (before < f .buoy) × (spare ≤ 0) × (StateTold f → ⊥))
   case35 = (to35, from35 (meets35 f) refl)
+
+-- A STATE AND ITS NUMBER: each gives the other, of 0, 1 and 2
+pub state-again : (s : State) → stateOf (stateNumber s) ≡ s
+unfolding stateOf stateNumber
+state-again state.None = refl
+state-again state.Fix = refl
+state-again state.LastKnown = refl
+
+pub number-again : (f : Fields) → StateTold f → stateNumber (stateOf (f .state)) ≡ f .state
+unfolding stateOf stateNumber
+number-again f (inl s) = rw (s .0) refl
+number-again f (inr s) = go (s .0)
+  where
+    go : ((f .state ≡ 1) ⊎ (f .state ≡ 2)) → stateNumber (stateOf (f .state)) ≡ f .state
+    go (inl e) = rw e refl
+    go (inr e) = rw e refl

@@ -10,6 +10,8 @@ use Rattle.drift_list.proofs.record_at.Kinds as record-kinds
 use Rattle.drift_list.proofs.record_at.Reads as record-reads
 use Rattle.drift_list.proofs.walk_at.Kinds as walk-kinds
 use Rattle.drift_list.proofs.walk_at.Reads as walk-reads
+use Rattle.drift_list.proofs.state_number.Kinds as state-kinds
+use Rattle.drift_list.proofs.state_number.Reads as state-reads
 use Rattle.drift_list.proofs.write.Kinds as write-kinds
 use Rattle.drift_list.proofs.write.Reads as write-reads
 
@@ -21,6 +23,9 @@ record-at κs a x y s t p q = p ∙ sym q
 
 walk-at : OneAnswer 1 walk-kinds.ps walk-kinds.r walk-reads.Post
 walk-at κs a x y s t p q = p ∙ sym q
+
+state-number : OneAnswer 0 state-kinds.ps state-kinds.r state-reads.Post
+state-number κs a x y s t p q = p ∙ sym q
 
 write : OneAnswer 2 write-kinds.ps write-kinds.r write-reads.Post
 write κs a x y s t p q = p .0 ∙ sym (q .0)

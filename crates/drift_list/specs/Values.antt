@@ -26,6 +26,11 @@ noFields = record { buoy = 0; state = 0; longitude = pos 0; latitude = pos 0; mi
 unfoldable pub stateOf : ℕ → State
 stateOf n = cond (eqb n 0) state.None (cond (eqb n 1) state.Fix state.LastKnown)
 
+unfoldable pub stateNumber : State → ℕ
+stateNumber state.None = 0
+stateNumber state.Fix = 1
+stateNumber state.LastKnown = 2
+
 unfoldable pub fixOf : Fields → Fix
 fixOf f = record { buoy = f .buoy; state = stateOf (f .state); longitude = f .longitude; latitude = f .latitude; minute = f .minute }
 

@@ -18,7 +18,7 @@ use pack::put_four;
 use unpack::fields_of;
 ghost use mathlib.Core.Path.{_≡_};
 ghost use lib.ListN.{length};
-ghost use Rattle.drift_list.specs.Values.{stateOf, fixOf};
+ghost use Rattle.drift_list.specs.Values.{stateOf, stateNumber, fixOf};
 ghost use Rattle.drift_list.specs.Answers.{listAnswer, fixAnswer, walkAnswer};
 ghost use Rattle.drift_list.specs.Writing.{draft, writeAnswer, writtenBytes};
 
@@ -132,6 +132,17 @@ pub fn write(issue: u32, count: u32, numbers: &[i32], out: &mut [u8]) -> Written
         k += 1;
     }
     Written::Size(4 + 12 * c)
+}
+
+// The paper's number of a state.
+pub fn state_number(s: State) -> u8
+    ensures { λ r. ⌜ r ≡ stateNumber s ⌝ }
+{
+    match s {
+        State::None => 0,
+        State::Fix => 1,
+        State::LastKnown => 2,
+    }
 }
 
 // What a record is handed out as.

@@ -1,5 +1,5 @@
 -- Of a drift list too, what a program in C sees as `refusal` is the paper's number, 0 where there is none; and of a list that was judged and accepted, the walk's answers are the records.
-use Prim.Native.Nat.{ℕ, _<_}
+use Prim.Native.Nat.{ℕ, _+_, _*_}
 use mathlib.Core.Path.{_≡_, refl, sym, ap, _∙_}
 use mathlib.Core.Bool.{Bool, true, false, cond}
 use mathlib.Core.List.{List}
@@ -45,7 +45,7 @@ pub write-refusal : (d : Draft) (room : ℕ) → writtenOut (writeAnswer d room)
 unfolding writeAnswer
 write-refusal d room = go (eqb (writeRefusal d room) 0) refl
   where
-    go : (t : Bool) → eqb (writeRefusal d room) 0 ≡ t → writtenOut (cond t (written.Size _) (written.Refused (writeRefusal d room))) .refusal ≡ writeRefusal d room
+    go : (t : Bool) → eqb (writeRefusal d room) 0 ≡ t → writtenOut (cond t (written.Size (4 + 12 * d .count)) (written.Refused (writeRefusal d room))) .refusal ≡ writeRefusal d room
     go true e = sym (eqb-true (writeRefusal d room) 0 e)
     go false e = refl
 

@@ -4,10 +4,9 @@ use crate::ListOut;
 use crate::WrittenOut;
 use drift_list::FixAnswer;
 use drift_list::Reading;
-use drift_list::State;
 use drift_list::Written;
 ghost use mathlib.Core.Path.{_≡_};
-ghost use Rattle.nebosvar.specs.Drift.{stateOut, listOut, fixOut, writtenOut};
+ghost use Rattle.nebosvar.specs.Drift.{listOut, fixOut, writtenOut};
 
 pub fn list_out(a: Reading) -> ListOut
     ensures { λ r. ⌜ r ≡ listOut a ⌝ }
@@ -45,20 +44,10 @@ pub fn fix_out(a: FixAnswer) -> FixOut
                 longitude: fix.longitude,
                 latitude: fix.latitude,
                 minute: fix.minute,
-                state: state_out(state),
+                state: drift_list::state_number(state),
                 refusal: 0,
             }
         }
-    }
-}
-
-fn state_out(s: State) -> u8
-    ensures { λ r. ⌜ r ≡ stateOut s ⌝ }
-{
-    match s {
-        State::None => 0,
-        State::Fix => 1,
-        State::LastKnown => 2,
     }
 }
 

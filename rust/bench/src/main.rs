@@ -1,6 +1,7 @@
-//! `bench`: both receivers run over the same 64 MiB of sections, in three mixes. It ends with 1 when they do not
-//! leave the same; how fast they are is only told.
+//! `bench`: both receivers run over the same 64 MiB of sections, in three mixes; then both readers and writers go through
+//! a drift list. It ends with 1 when they do not leave the same; how fast they are is only told.
 
+mod lists;
 mod mixes;
 mod receiver;
 
@@ -22,13 +23,17 @@ fn main() -> ExitCode {
         "{:<16}{:>10}{:>8}{:>12}{:>16}{:>8}",
         "mix", "sections", "MiB", "ours MiB/s", "baseline MiB/s", "ratio"
     );
-    for mix in MIXES {
-        if let Err(told) = measure(&mix()) {
+    let mut mixes = MIXES.iter();
+    match mixes
+        .try_for_each(|mix| measure(&mix()))
+        .and_then(|()| lists::measure())
+    {
+        Ok(()) => ExitCode::SUCCESS,
+        Err(told) => {
             println!("bench: {told}");
-            return ExitCode::FAILURE;
+            ExitCode::FAILURE
         }
     }
-    ExitCode::SUCCESS
 }
 
 /// Measures one mix and prints its line, or tells what differed.

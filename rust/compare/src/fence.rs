@@ -4,7 +4,7 @@
 #![allow(unsafe_code)] // Only the machine's own calls can make a fence.
 
 use std::ffi::{c_int, c_void};
-use std::mem::{align_of, size_of};
+use std::mem::{align_of, size_of, size_of_val};
 use std::ptr::{null_mut, NonNull};
 use std::slice;
 
@@ -108,6 +108,17 @@ impl Fenced {
         }
     }
 
+    /// A copy of these numbers, and no bytes any more.
+    pub fn put_numbers(&mut self, numbers: &[i32]) -> &mut [i32] {
+        assert_eq!(FENCE % align_of::<i32>(), 0);
+        self.length = 0;
+        let at = self.place(size_of_val(numbers)).cast::<i32>();
+        // SAFETY: in the room, and aligned: its ends are; all bytes have a value, and they are borrowed from no one else.
+        let put = unsafe { slice::from_raw_parts_mut(at, numbers.len()) };
+        put.copy_from_slice(numbers);
+        put
+    }
+
     pub fn bytes(&self) -> &[u8] {
         // SAFETY: so many bytes of the room, which all have a value: at first 0.
         unsafe { slice::from_raw_parts(self.place(self.length), self.length) }
@@ -134,7 +145,7 @@ impl Drop for Fenced {
     }
 }
 
-/// Lends bytes, at a fence if there is one.
+/// Lends bytes or numbers, at a fence if there is one.
 pub struct Lender(Option<Fenced>);
 
 impl Lender {
@@ -149,6 +160,13 @@ impl Lender {
             Some(fenced) => fenced.put(bytes),
         }
     }
+
+    pub fn lend_numbers<'a>(&'a mut self, numbers: &'a [i32]) -> &'a [i32] {
+        match &mut self.0 {
+            None => numbers,
+            Some(fenced) => fenced.put_numbers(numbers),
+        }
+    }
 }
 
 #[cfg(test)]
@@ -159,6 +177,9 @@ mod tests {
 
     /// A fault of memory, by its signal.
     const FAULT: i32 = 11;
+    /// A drift list of one record, and its numbers, that lack the last byte and the last number.
+    const SHORT_LIST: [u8; 15] = [0, 7, 0, 1, 0, 0, 0x14, 0, 0, 0, 0x7F, 0xFF, 0xFF, 0xF8, 0];
+    const SHORT_ROW: [i32; 4] = [1, 1, 1, -1];
     /// A table that lacks its last byte.
     const SHORT: [u8; 15] = [0x74, 0xB0, 13, 0, 1, 0xC1, 0, 0, 0xF0, 0, 0xF0, 0, 0, 0, 0];
 
@@ -169,6 +190,8 @@ mod tests {
         let at = after.put(b"buoy").as_mut_ptr_range();
         let first = before.put(b"buoy").as_mut_ptr();
         let table = after_table();
+        let (mut list, mut row) = (Fenced::new(Edge::Ends, 16), Fenced::new(Edge::Ends, 20));
+        let (list, row) = (list.put(&SHORT_LIST), row.put_numbers(&SHORT_ROW));
         // SAFETY: none, but for the first and the last: these are the faults that a fence is to find.
         unsafe {
             match std::env::var("GOES").as_deref() {
@@ -181,6 +204,26 @@ mod tests {
                 Ok("table") => {
                     let told = slice::from_raw_parts(table.bytes().as_ptr(), SHORT.len() + 1);
                     assert!(nebosvar::table(told).is_err());
+                }
+                Ok("list") => {
+                    let told = slice::from_raw_parts(list.as_ptr(), SHORT_LIST.len() + 1);
+                    assert!(nebosvar::drift::DriftList::read(told).is_err());
+                }
+                Ok("numbers") => {
+                    let told = slice::from_raw_parts(row.as_ptr(), SHORT_ROW.len() + 1);
+                    assert!(nebosvar::drift::write_numbers(7, 1, told, &mut [0; 16]).is_ok());
+                }
+                Ok("buffer") => {
+                    let told = slice::from_raw_parts_mut(list.as_mut_ptr(), SHORT_LIST.len() + 1);
+                    let numbers = [1, 1, 1, -1, 3];
+                    assert!(nebosvar::drift::write_numbers(7, 1, &numbers, told).is_ok());
+                }
+                Ok("whole list") => {
+                    let refusal = nebosvar::Refusal::LIST_LENGTH;
+                    assert_eq!(nebosvar::drift::DriftList::read(list), Err(refusal));
+                    let refusal = nebosvar::Refusal::LIST_WIDTH;
+                    let answer = nebosvar::drift::write_numbers(7, 1, row, list);
+                    assert_eq!(answer, Err(refusal));
                 }
                 _ => assert!(nebosvar::table(table.bytes()).is_err()),
             }
@@ -203,6 +246,10 @@ mod tests {
             ("writes before", Some(FAULT)),
             ("table", Some(FAULT)),
             ("whole table", None),
+            ("list", Some(FAULT)),
+            ("numbers", Some(FAULT)),
+            ("buffer", Some(FAULT)),
+            ("whole list", None),
         ] {
             let mut other = Command::new(std::env::current_exe().unwrap());
             other.args(["--exact", "fence::tests::goes_outside", "--ignored"]);
@@ -223,6 +270,9 @@ mod tests {
             let value = fenced.put_value(0x0102_0304_u32);
             assert_eq!(place(value as *const u32 as usize, 4), first);
             assert_eq!(*value, 0x0102_0304);
+            let numbers = fenced.put_numbers(&[-1, 7, 9]);
+            assert_eq!(place(numbers.as_ptr() as usize, 12), first);
+            assert_eq!(numbers, [-1, 7, 9]);
             assert_eq!(place(fenced.put(&[]).as_ptr() as usize, 0), first);
         }
     }

@@ -1,5 +1,6 @@
 //! A differential test: the proved receiver, `nebosvar`, beside the independent one, `baseline`, over made
-//! stretches of sections, valid, damaged and hostile. The paper (`01-scope.md`) decides who is right.
+//! stretches of sections, valid, damaged and hostile. The paper (`01-scope.md`) decides who is right. And the
+//! reader and writer of drift lists beside the independent ones ([`lists`]); there the request's §1 decides.
 //!
 //! * Making: [`random`], sections by the crate `make`, [`tables`], [`carousels`], [`damage`], [`starts`] (records and
 //!   images to start from), [`stretches`] (all of it put together).
@@ -17,6 +18,7 @@ pub mod counts;
 pub mod damage;
 pub mod difference;
 pub mod fence;
+pub mod lists;
 pub mod pair;
 pub mod random;
 pub mod reading;

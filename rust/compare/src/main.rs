@@ -1,15 +1,18 @@
-//! `compare [STRETCHES [SEED]]`: both receivers over so many made stretches. It ends with 1 at a difference, and
-//! when an answer came too rarely for the comparison to mean much.
+//! `compare [STRETCHES [SEED]]`: both receivers over so many made stretches, and both readers and writers of drift lists
+//! over so many made lists besides those at the bounds. It ends with 1 at a difference, and when an answer came too rarely
+//! for the comparison to mean much.
 
 use std::process::ExitCode;
 
 use compare::counts::Counts;
-use compare::threads;
+use compare::{lists, threads};
 
 const STRETCHES: u64 = 20_000;
 const SEED: u64 = 0x4E65_626F_7376_6172;
 /// Each answer must have come so often, in a run over at least [`STRETCHES`].
 const LEAST: u64 = 100;
+/// The same of drift lists.
+const LEAST_OF_LISTS: u64 = 300;
 
 fn main() -> ExitCode {
     let mut arguments = std::env::args().skip(1).map(|text| text.parse::<u64>());
@@ -20,8 +23,12 @@ fn main() -> ExitCode {
         return ExitCode::from(2);
     };
     println!("compare: {stretches} stretches, seed {seed}");
-    match threads::compare(seed, stretches) {
-        Ok(counts) => conclude(&counts, stretches),
+    let done = threads::compare(seed, stretches)
+        .and_then(|counts| conclude(&counts, stretches))
+        .and_then(|()| lists::compare(seed, stretches))
+        .and_then(|counts| conclude_lists(&counts, stretches));
+    match done {
+        Ok(()) => ExitCode::SUCCESS,
         Err(told) => {
             println!("{told}");
             ExitCode::FAILURE
@@ -30,16 +37,33 @@ fn main() -> ExitCode {
 }
 
 /// Tells what was reached. A short run need not reach everything.
-fn conclude(counts: &Counts, stretches: u64) -> ExitCode {
+fn conclude(counts: &Counts, stretches: u64) -> Result<(), String> {
     println!("{counts}");
-    let rare = counts.rare(LEAST);
-    if stretches >= STRETCHES && !rare.is_empty() {
-        println!("compare: fewer than {LEAST} times: {}", rare.join(", "));
-        return ExitCode::FAILURE;
-    }
+    enough(stretches, LEAST, &counts.rare(LEAST))?;
     let [ends, begins] = counts.fenced;
     println!("compare: all that is lent ends at a page that may not be touched in {ends} stretches, and begins after one in {begins}");
     let sections = counts.sections;
     println!("compare: {stretches} stretches, {sections} sections, 0 differences");
-    ExitCode::SUCCESS
+    Ok(())
+}
+
+/// The same of drift lists.
+fn conclude_lists(counts: &lists::counts::Counts, stretches: u64) -> Result<(), String> {
+    println!("{counts}");
+    enough(stretches, LEAST_OF_LISTS, &counts.rare(LEAST_OF_LISTS))?;
+    let [ends, begins] = counts.fenced;
+    println!("compare: all that is lent ends at a page that may not be touched for {ends} drift lists, and begins after one for {begins}");
+    let (read, drafts, buffers) = (counts.lists, counts.drafts, counts.buffers);
+    println!(
+        "compare: {read} drift lists read, {drafts} written into {buffers} buffers, 0 differences"
+    );
+    Ok(())
+}
+
+fn enough(stretches: u64, least: u64, rare: &[String]) -> Result<(), String> {
+    if stretches < STRETCHES || rare.is_empty() {
+        return Ok(());
+    }
+    let rare = rare.join(", ");
+    Err(format!("compare: fewer than {least} times: {rare}"))
 }

@@ -7,20 +7,20 @@ use crate::counts::{Call, Counts};
 use crate::difference::{same, same_bytes, Same};
 use crate::fence::{Edge, Fenced};
 
-/// Bytes before and after each image that lies at no fence: a byte written outside shows in them.
+/// Bytes before and after each image that lies at no fence, and each buffer: a byte written outside shows in them.
 const GUARD: usize = 64;
 
 const GUARDS: [u8; GUARD] = [0xA5; GUARD];
 
-/// The bytes that a receiver is lent as its image.
+/// The bytes that a receiver is lent as its image, or a writer as its buffer.
 #[derive(Clone)]
-enum Image {
+pub enum Image {
     Guarded(Vec<u8>),
     Fenced(Fenced),
 }
 
 impl Image {
-    fn new(bytes: &[u8], edge: Option<Edge>) -> Image {
+    pub fn new(bytes: &[u8], edge: Option<Edge>) -> Image {
         let Some(edge) = edge else {
             return Image::Guarded([&GUARDS, bytes, &GUARDS].concat());
         };
@@ -29,14 +29,14 @@ impl Image {
         Image::Fenced(fenced)
     }
 
-    fn bytes(&self) -> &[u8] {
+    pub fn bytes(&self) -> &[u8] {
         match self {
             Image::Guarded(all) => &all[GUARD..all.len() - GUARD],
             Image::Fenced(fenced) => fenced.bytes(),
         }
     }
 
-    fn bytes_mut(&mut self) -> &mut [u8] {
+    pub fn bytes_mut(&mut self) -> &mut [u8] {
         match self {
             Image::Guarded(all) => {
                 let end = all.len() - GUARD;
@@ -47,7 +47,7 @@ impl Image {
     }
 
     /// The bytes before and after it are as they were. A fence needs no look.
-    fn is_guarded(&self) -> bool {
+    pub fn is_guarded(&self) -> bool {
         match self {
             Image::Guarded(all) => all.starts_with(&GUARDS) && all.ends_with(&GUARDS),
             Image::Fenced(_) => true,

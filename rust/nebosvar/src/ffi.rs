@@ -1,5 +1,6 @@
 //! The archive's structs and functions, as `include/nebosvar.h` has them.
 
+use crate::drift::Row;
 use crate::{Module, Record};
 use std::mem::{offset_of, size_of};
 
@@ -110,6 +111,29 @@ pub struct LabelFound {
     pub refusal: u8,
 }
 
+#[repr(C)]
+pub struct List {
+    pub issue: u16,
+    pub count: u16,
+    pub refusal: u8,
+}
+
+#[repr(C)]
+pub struct Found {
+    pub buoy: u32,
+    pub longitude: i32,
+    pub latitude: i32,
+    pub minute: u16,
+    pub state: u8,
+    pub refusal: u8,
+}
+
+#[repr(C)]
+pub struct Written {
+    pub size: usize,
+    pub refusal: u8,
+}
+
 extern "C" {
     pub fn nebosvar_start() -> Record;
     pub fn nebosvar_step(
@@ -176,6 +200,17 @@ extern "C" {
         application: usize,
         label: usize,
     ) -> LabelFound;
+    pub fn nebosvar_list_read(list: *const u8, length: usize) -> List;
+    pub fn nebosvar_list_record(list: *const u8, length: usize, k: usize) -> Found;
+    pub fn nebosvar_list_walk(list: *const u8, length: usize, k: usize) -> Found;
+    pub fn nebosvar_list_write(
+        issue: u32,
+        count: u32,
+        numbers: *const i32,
+        length: usize,
+        out: *mut u8,
+        room: usize,
+    ) -> Written;
 }
 
 // The layout on x86-64.
@@ -201,4 +236,14 @@ const _: () = {
     assert!(size_of::<DescriptorHead>() == 48);
     assert!(size_of::<ItemFound>() == 48);
     assert!(size_of::<LabelFound>() == 24);
+    assert!(size_of::<List>() == 6);
+    assert!(size_of::<Found>() == 16);
+    assert!(size_of::<Written>() == 16);
+    // A row is its five numbers, in the writer's order, and nothing else.
+    assert!(size_of::<Row>() == 5 * size_of::<i32>());
+    assert!(offset_of!(Row, buoy) == 0);
+    assert!(offset_of!(Row, state) == 4);
+    assert!(offset_of!(Row, longitude) == 8);
+    assert!(offset_of!(Row, latitude) == 12);
+    assert!(offset_of!(Row, minute) == 16);
 };

@@ -1,17 +1,18 @@
 //! The receiver of wheelhouse boxes: it hears application tables and a data carousel off a DVB
 //! multiplex, section by section, and hands out a module once every block of it has come.
 //!
-//! [`Record`] is the carousel; [`table`] and the functions beside it read an application section. Each
-//! is one call of `libnebosvar.a` (x86-64 Linux), which is proved to answer as the paper, the
-//! association's document 01, states:
+//! [`Record`] is the carousel; [`table`] and the functions beside it read an application section; [`drift`]
+//! reads and writes the drift list, which is one of its modules. Each is one call of `libnebosvar.a` (x86-64
+//! Linux), which is proved to answer as the paper, the association's document 01, states, and its document 02
+//! of the drift list:
 //!
 //! * Any bytes, any record, any image: each call ends, with the one answer stated for them. There is
 //!   nothing to check first.
-//! * A refusal changes neither the record nor the image.
+//! * A refusal changes neither the record nor the image nor the bytes to be written.
 //! * No call allocates, blocks, keeps a reference, or uses anything but what it is lent.
 //!
-//! The proofs leave it to the caller that a length is its pointer's, and that record, section and image
-//! do not overlap or change while the call runs. Rust's types see to that: a slice has its length, what is
+//! The proofs leave it to the caller that a length is its pointer's, and that what is lent, as record, section
+//! and image, does not overlap or change while the call runs. Rust's types see to that: a slice has its length, what is
 //! lent to be changed is lent to no one else, and what is lent to be read nobody changes. This crate itself is not proved, but it only passes arguments and answers on.
 //!
 //! ```
@@ -72,6 +73,7 @@
 #![deny(unsafe_op_in_unsafe_fn)]
 
 mod answer;
+pub mod drift;
 mod ffi;
 mod proved;
 mod record;

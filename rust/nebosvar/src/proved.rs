@@ -21,12 +21,15 @@ pub fn range(at: usize, length: usize) -> Range<usize> {
 #[cfg(test)]
 mod tests {
     use super::range;
+    use crate::drift::State;
     use crate::{Class, Control, Kind, Refusal, Stop};
 
     #[test]
     fn what_the_header_does_not_have_is_excluded() {
-        let calls: [fn(); 10] = [
+        let calls: [fn(); 13] = [
             || assert!(Refusal::check(21).is_ok()),
+            || assert!(Refusal::check(29).is_ok()),
+            || assert!(Refusal::check(38).is_ok()),
             || assert!(Kind::check(0, 0).is_ok()),
             || assert!(Kind::check(0, 6).is_ok()),
             || assert_eq!(Stop::of(0), Stop::End),
@@ -35,6 +38,7 @@ mod tests {
             || assert_eq!(Class::of(5), Class::Unsigned),
             || assert_eq!(Control::of(0), Control::Reserved),
             || assert_eq!(Control::of(5), Control::Reserved), // a reserved code, told as 255
+            || assert_eq!(State::of(3), State::LastKnown),    // which is refused
             || assert!(range(1, usize::MAX).is_empty()),
         ];
         for call in calls {

@@ -4,8 +4,9 @@ use crate::proved::excluded;
 use std::error::Error;
 use std::fmt;
 
-/// Why a call refused: a number from 1 to 20 of the paper's table. Of several that apply it is the
-/// lowest, but for the table's one exception (a message's 8 goes before most cases of 7).
+/// Why a call refused: a number from 1 to 20 of the paper's table, or from 30 to 37 of a drift list. Of several
+/// that apply it is the lowest, but for the table's one exception (a message's 8 goes before most cases of 7) and
+/// for drift lists, whose order is told in [`drift`](crate::drift).
 ///
 /// ```
 /// use nebosvar::{Record, Refusal};
@@ -60,8 +61,24 @@ impl Refusal {
     pub const NO_PLACE: Refusal = Refusal(19);
     /// 20: module not complete.
     pub const INCOMPLETE: Refusal = Refusal(20);
+    /// 30: a drift list under 4 bytes, or not of 4 + 12 × count.
+    pub const LIST_LENGTH: Refusal = Refusal(30);
+    /// 31: a longitude or latitude out of its range.
+    pub const LIST_COORDINATE: Refusal = Refusal(31);
+    /// 32: a minute of the week that is not below 10,080.
+    pub const LIST_MINUTE: Refusal = Refusal(32);
+    /// 33: a buoy zero, or not above the one before.
+    pub const LIST_BUOY: Refusal = Refusal(33);
+    /// 34: spare bits that are not zero.
+    pub const LIST_SPARE: Refusal = Refusal(34);
+    /// 35: state 3, or a state against its coordinates.
+    pub const LIST_STATE: Refusal = Refusal(35);
+    /// 36: a value too wide for its field, or a count that is not the number of records.
+    pub const LIST_WIDTH: Refusal = Refusal(36);
+    /// 37: bytes to write to that are too few for the list.
+    pub const LIST_ROOM: Refusal = Refusal(37);
 
-    /// The paper's number.
+    /// The number, which is the paper's or the drift list's.
     pub fn number(self) -> u8 {
         self.0
     }
@@ -70,7 +87,7 @@ impl Refusal {
     pub(crate) fn check(number: u8) -> Result<(), Refusal> {
         match number {
             0 => Ok(()),
-            1..=20 => Err(Refusal(number)),
+            1..=20 | 30..=37 => Err(Refusal(number)),
             _ => excluded(),
         }
     }
@@ -99,6 +116,14 @@ impl fmt::Display for Refusal {
             18 => "an application without exactly one 0x00 descriptor",
             19 => "no such place",
             20 => "module not complete",
+            30 => "length",
+            31 => "coordinate range",
+            32 => "minute",
+            33 => "buoy zero or not rising",
+            34 => "spare",
+            35 => "state 3, or state against coordinates",
+            36 => "a value too wide for its field, or a count that isn't the number of records",
+            37 => "a short buffer",
             _ => excluded(),
         };
         write!(f, "refusal {}: {words}", self.0)

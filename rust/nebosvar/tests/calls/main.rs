@@ -1,6 +1,7 @@
 //! Every call of the crate. What is expected is worked out from the paper by hand.
 
 mod carousel;
+mod drift_list;
 #[allow(dead_code)]
 #[path = "../../examples/receive.rs"]
 mod receive;

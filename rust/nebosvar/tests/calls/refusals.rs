@@ -43,16 +43,25 @@ fn numbers_and_words() {
         Refusal::NO_APPLICATION_DESCRIPTOR,
         Refusal::NO_PLACE,
         Refusal::INCOMPLETE,
+        Refusal::LIST_LENGTH,
+        Refusal::LIST_COORDINATE,
+        Refusal::LIST_MINUTE,
+        Refusal::LIST_BUOY,
+        Refusal::LIST_SPARE,
+        Refusal::LIST_STATE,
+        Refusal::LIST_WIDTH,
+        Refusal::LIST_ROOM,
     ];
-    for (refusal, number) in all.iter().zip(1..) {
+    for (refusal, number) in all.iter().zip((1..=20).chain(30..)) {
         assert_eq!(refusal.number(), number);
         assert!(refusal
             .to_string()
             .starts_with(&format!("refusal {number}: ")));
     }
-    assert_eq!(all.len(), 20);
+    assert_eq!(all.len(), 28);
     let error: Box<dyn std::error::Error> = Refusal::OTHER_VERSION.into();
     assert_eq!(error.to_string(), "refusal 14: version differs");
+    assert_eq!(Refusal::LIST_SPARE.to_string(), "refusal 34: spare");
 }
 
 #[test]

@@ -8,7 +8,7 @@ use Rattle.nebosvar.proofs.drift.fix_out.Statement.{statement}
 use Rattle.nebosvar.proofs.drift.fix_out.Tie as tie
 use Rattle.nebosvar.proofs.drift.fix_out.Reads as reads
 use Rattle.nebosvar.proofs.drift.fix_out.Lts as lts
-use Rattle.nebosvar.proofs.drift.state_out.Reads as state-out-reads
+use Rattle.drift_list.proofs.state_number.Reads as state-number-reads
 
 enum-known-a : tie.Need-enum-known-a
 enum-known-a c = search needs
@@ -16,8 +16,8 @@ enum-known-a c = search needs
 enum-known-a-2 : tie.Need-enum-known-a-2
 enum-known-a-2 c = search needs
 
-state-out-requires : tie.Need-state-out-requires
-state-out-requires c κs = search needs
+state-number-requires : tie.Need-state-number-requires
+state-number-requires c κs = search needs
 
 returns : tie.Need-returns
 returns c = sym (ap fixOut (c .before .a .given .1))
@@ -28,9 +28,9 @@ returns-2 c =
     let f = b .a2 .given .0 .0 in
     let x = toZ-ofZ w32 (f .longitude) (record { sfits = c .struct-told .given .1 .1 .0 .1 }) in
     let y = toZ-ofZ w32 (f .latitude) (record { sfits = c .struct-told .given .1 .1 .1 .0 .1 }) in
-    (λ i. record { buoy = f .buoy; longitude = x i; latitude = y i; minute = f .minute; state = c .before .state-out .ensures i; refusal = 0 })
+    (λ i. record { buoy = f .buoy; longitude = x i; latitude = y i; minute = f .minute; state = c .before .state-number .ensures i; refusal = 0 })
     ∙ sym (ap fixOut (b .a2 .given .1))
 
 pub fix-out-spec : {M : Type 1} → statement M
 fix-out-spec =
-    tie.close (tie.spec enum-known-a enum-known-a-2 state-out-requires returns returns-2)
+    tie.close (tie.spec enum-known-a enum-known-a-2 state-number-requires returns returns-2)
