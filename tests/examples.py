@@ -3,27 +3,46 @@
 
     examples.py          compare the stored captures with what is made here, and README with what the second programs print of them
     examples.py --write  the same, but first write the captures
-    examples.py built    the same, and run what README shows, `./run PROGRAM < CAPTURE`
+    examples.py built    the same, and run what README shows, `./run PROGRAM [ARGUMENT] < CAPTURE`
 """
 import re
 import subprocess
 import sys
 
+import driftlist
 import program
 import test_inspect
 from receiver import byte5, ddb, dii
 from second import ROOT
 from test_ait import ait, app, d00, d02, desc
 
-SECOND = {"receive": program.program, "inspect": test_inspect.printed}
+# a program by its arguments and its input
+SECOND = {
+    "receive": lambda arguments, stdin: program.program(stdin),
+    "inspect": lambda arguments, stdin: test_inspect.printed(stdin),
+    "driftlist": lambda arguments, stdin: driftlist.printed([a.encode() for a in arguments], stdin)[0],
+}
 
 # ---- the carousel of both captures: a drift list of 100 bytes and a chart of 60, in blocks of 40
 
 DOWNLOAD, BLOCK = 2026, 40
 DRIFT, CHART = (1, 100, 3), (2, 60, 0)  # number, size, version
+# issue 46: buoy, state (0 none, 1 fix, 2 last known), longitude, latitude, minute of the week
+LOOSE = [
+    (17, 1, 9_723_456, 26_101_234, 1_445),
+    (42, 2, 9_871_003, 25_998_710, 605),
+    (43, 0, 0, 0, 2_880),
+    (318, 1, 9_000_000, 26_400_005, 1_500),
+    (1_204, 1, -6_123_450, 25_712_345, 9_999),
+    (1_205, 2, 10_260_000, -1, 10_079),
+    (77_001, 1, 9_799_999, 26_099_999, 0),
+    (1_048_575, 1, 9_650_112, 26_220_480, 1_439),
+]
 
 
 def contents(module):
+    if module == DRIFT:
+        return driftlist.spell(46, len(LOOSE), LOOSE)
     number, size, _ = module
     return bytes((37 * number + 11 * k) % 256 for k in range(size))
 
@@ -96,20 +115,20 @@ def check_captures(write):
             sys.exit("%s is not what tests/examples.py makes: run it with --write and look at the change" % path)
 
 
-# ---- README: each `./run PROGRAM < examples/CAPTURE` with what it prints below it
+# ---- README: each `./run PROGRAM [ARGUMENT] < examples/CAPTURE` with what it prints below it
 
 
 def shown():
-    """Program, capture and text of each command that README shows with what it prints; `...` stands for lines left out."""
+    """Program, its arguments, capture and text of each command that README shows with what it prints; `...` stands for lines left out."""
     lines = (ROOT / "README.md").read_text().splitlines()
     for n, line in enumerate(lines):
-        command = re.fullmatch(r"    \$ \./run (\w+) < (examples/\S+)", line)
+        command = re.fullmatch(r"    \$ \./run (\w+)((?: \w+)*) < (examples/\S+)", line)
         if command:
             text = []
             while n + 1 < len(lines) and lines[n + 1].startswith("    ") and not lines[n + 1].startswith("    $"):
                 n += 1
                 text.append(lines[n][4:])
-            yield command[1], command[2], text
+            yield command[1], command[2].split(), command[3], text
 
 
 def agree(text, printed):
@@ -120,13 +139,13 @@ def agree(text, printed):
 
 def check_readme(built):
     commands = list(shown())
-    assert {c[0] for c in commands} == set(SECOND) and {c[1] for c in commands} == {"examples/" + n for n in CAPTURES}, commands
-    for name, capture, text in commands:
+    assert {c[0] for c in commands} == set(SECOND) and {c[2] for c in commands} == {"examples/" + n for n in CAPTURES}, commands
+    for name, arguments, capture, text in commands:
         stdin = (ROOT / capture).read_bytes()
-        wanted = SECOND[name](stdin).decode()
+        wanted = SECOND[name](arguments, stdin).decode()
         assert agree(text, wanted), "README shows of ./run %s < %s what is not printed:\n%s" % (name, capture, wanted)
         if built:
-            got = subprocess.run([ROOT / "run", name], input=stdin, stdout=subprocess.PIPE, check=True).stdout.decode()
+            got = subprocess.run([ROOT / "run", name, *arguments], input=stdin, stdout=subprocess.PIPE, check=True).stdout.decode()
             assert got == wanted, "./run %s < %s prints\n%s" % (name, capture, got)
     return len(commands)
 
