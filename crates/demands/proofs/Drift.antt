@@ -6,8 +6,7 @@
 -- joined in order, each as it first matched in this run.
 use Prim.Native.Nat.{ℕ, _<_}
 use mathlib.Core.Path.{_≡_, refl, sym, ap, ap₂, _∙_}
-use mathlib.Core.Bool.{Bool, true, false, cond}
-use mathlib.Core.Logic.{_↔_}
+use mathlib.Core.Bool.{Bool, true, false}
 use mathlib.Core.List.{List, []}
 use native.Mathlib.Omega.{arith}
 use lib.Dec.{eqb}
@@ -26,7 +25,7 @@ use Rattle.drift_list.specs.Values.{fixOf}
 use Rattle.drift_list.specs.Reading.{countOf, fixAt, readRefusal}
 use Rattle.drift_list.specs.Answers.{listAnswer, fixAnswer, walkAnswer}
 use Rattle.drift_list.proofs.Answers.{found-told, nothing-read}
-use Rattle.demands.specs.Demand.{Begun, NoNew, told, modules, blocks, matches, firstMatching, Came, firstData, joinedBlocks, heardModule, Call, called, tookBy}
+use Rattle.demands.specs.Demand.{Begun, NoNew, told, modules, blocks, matches, firstMatching, Came, joinedBlocks, heardModule, Call, called, tookBy}
 use Rattle.demands.proofs.Given.{begun-ruled}
 use Rattle.demands.proofs.Three.{completeness, handed-out, content-handed-out, calls-walk}
 

@@ -7,8 +7,7 @@ use mathlib.Core.List.{List, []}
 use native.Mathlib.Omega.{arith}
 use lib.Dec.{eqb, ltb}
 use lib.ListN.{length}
-use borrow.Author.Tests.{eq-eqb, ne-eqb, eqb-true, eqb-false, lt-ltb, le-ltb, ltb-true, ltb-false}
-use Rattle.drift_list.specs.declared.Fields.{Fields}
+use borrow.Author.Tests.{eq-eqb, ne-eqb, eqb-true, lt-ltb, le-ltb, ltb-true, ltb-false}
 use Rattle.drift_list.specs.declared.Fix.{Fix}
 use Rattle.drift_list.specs.declared.Reading.the-variants as reading
 use Rattle.drift_list.specs.declared.FixAnswer.{FixAnswer}

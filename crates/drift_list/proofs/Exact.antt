@@ -1,9 +1,9 @@
 -- THE THEOREMS OF THE DRIFT LIST: accepted exactly when good, each number exactly in its case, and reading and writing undo each other.
-use Prim.Native.Nat.{ℕ, zero, suc, _+_, _*_, _^_, _<_, _≤_}
+use Prim.Native.Nat.{ℕ, suc, _+_, _*_, _<_, _≤_}
 use mathlib.Core.Path.{_≡_, refl, sym, ap, ap₂, subst, _∙_}
 use mathlib.Core.Logic.{_↔_}
-use mathlib.Core.Bool.{Bool, true, false, not, cond}
-use mathlib.Core.List.{List, [], _∷_, _++_}
+use mathlib.Core.Bool.{Bool, true, false}
+use mathlib.Core.List.{List, _++_}
 use native.Mathlib.Nat.{mod-eq-of-lt}
 use native.Mathlib.Omega.{arith}
 use lib.Dec.{eqb}
@@ -15,7 +15,7 @@ use Rattle.wire.proofs.Laws.Bits.{bitsAt-lt, bits-field}
 use Rattle.wire.proofs.Laws.Fields.{field-lt, spelled-reads, spelled-length}
 use Rattle.wire.proofs.Laws.Spelled.{part-spelled, field-after, spelled-are, both-are}
 use Rattle.drift_list.specs.declared.Fields.{Fields}
-use Rattle.drift_list.specs.Values.{Drift, GoodFix, GoodDrift, Rising, fixAmong, fixTests, buoyBefore, refusalAt, firstFault}
+use Rattle.drift_list.specs.Values.{Drift, GoodFix, GoodDrift, fixAmong, buoyBefore, refusalAt, firstFault}
 use Rattle.drift_list.specs.Reading.{FitsFix, issueOf, countOf, begins, fixAt, spareAt, GoodList, faultOf, readRefusal, fixesFrom, readList, spellFixes, spellList}
 use Rattle.drift_list.proofs.Laws.Records.{saidBy, spareBy, numberOf, good-fits, fix-again, spare-again, fields-fit}
 use Rattle.drift_list.proofs.Laws.Lists.{recordAt, fix-number, spare-said, spelled-fixes-length, spelled-fixes-bytes, record-spelled, fixes-are, fixes-length, fixes-at, records-back}

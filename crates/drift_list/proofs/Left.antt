@@ -1,9 +1,9 @@
 -- What the writer leaves, byte after byte: the first k records of an accepted draft lie in the lent bytes.
-use Prim.Native.Nat.{ℕ, zero, suc, _+_, _*_, _^_, _<_, _≤_}
-use mathlib.Core.Path.{_≡_, refl, sym, ap, ap₂, subst, _∙_}
-use mathlib.Core.List.{List, [], _∷_, _++_, append-assoc}
+use Prim.Native.Nat.{ℕ, zero, suc, _+_, _*_, _<_, _≤_}
+use mathlib.Core.Path.{_≡_, refl, sym, ap, ap₂, _∙_}
+use mathlib.Core.List.{List, _++_, append-assoc}
 use native.Mathlib.Omega.{arith}
-use lib.ListN.{length, take, drop, length-append}
+use lib.ListN.{length, drop, length-append}
 use lib.Seq.{sets, sets-eq}
 use lib.IntN.{ℤ}
 use borrow.Author.Tests.{eq-eqb, ne-eqb}
@@ -11,7 +11,6 @@ use Rattle.wire.specs.Fields.{spelled}
 use Rattle.wire.proofs.Laws.Fields.{spelled-length}
 use Rattle.wire.proofs.Laws.Meaning.{append-nil}
 use Rattle.drift_list.specs.declared.Fields.{Fields}
-use Rattle.drift_list.specs.declared.Written.{Written}
 use Rattle.drift_list.specs.declared.Written.the-variants as written
 use Rattle.drift_list.specs.Reading.{FitsFix, fixesFrom, spellFix, spellFixes, spellList}
 use Rattle.drift_list.specs.Writing.{Draft, fixGiven, valueOf, GoodDraft, writeRefusal, writeAnswer, writtenBytes}
@@ -19,7 +18,7 @@ use Rattle.wire.proofs.Laws.Spelled.{shift, spelled-join}
 use Rattle.drift_list.proofs.Laws.Lists.{spelled-fixes-length, fixes-length}
 use Rattle.drift_list.proofs.Laws.Puts.{sets-more}
 use Rattle.drift_list.proofs.Laws.Records.{good-fits}
-use Rattle.drift_list.proofs.Writer.{writes-exactly, buoy-in, spelled-size}
+use Rattle.drift_list.proofs.Writer.{writes-exactly, buoy-in}
 
 -- one record more
 more-from : (n k : ℕ) (g : ℕ → Fields) → spellFixes (fixesFrom (suc n) k g) ≡ spellFixes (fixesFrom n k g) ++ spellFix (g (k + n))

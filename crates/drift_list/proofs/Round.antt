@@ -2,9 +2,9 @@
 use Prim.Native.Nat.{ℕ, _+_, _*_, _<_, _≤_}
 use mathlib.Core.Path.{_≡_, refl, sym, ap, ap₂, subst, _∙_}
 use mathlib.Core.Logic.{_↔_}
-use mathlib.Core.List.{List, [], _∷_, _++_}
+use mathlib.Core.List.{List, _++_}
 use native.Mathlib.Omega.{arith}
-use lib.ListN.{length, take, drop, replicate, length-replicate}
+use lib.ListN.{length, take, drop}
 use Rattle.wire.specs.Bits.{AllBytes}
 use Rattle.drift_list.specs.declared.Fields.{Fields}
 use Rattle.drift_list.specs.declared.Reading.the-variants as reading
@@ -13,7 +13,7 @@ use Rattle.drift_list.specs.declared.Written.the-variants as written
 use Rattle.drift_list.specs.Values.{Drift, fixOf, fixAmong}
 use Rattle.drift_list.specs.Reading.{issueOf, countOf, fixAt, GoodList, readRefusal, fixesFrom, readList, spellList}
 use Rattle.drift_list.specs.Answers.{listAnswer, fixAnswer}
-use Rattle.drift_list.specs.Writing.{Draft, fixGiven, valueOf, GoodDraft, writeRefusal, writeAnswer, writtenBytes, draftOf}
+use Rattle.drift_list.specs.Writing.{Draft, fixGiven, valueOf, writeRefusal, writeAnswer, writtenBytes, draftOf}
 use Rattle.drift_list.proofs.Laws.Lists.{fixes-length, fixes-at}
 use Rattle.drift_list.proofs.Exact.{accepted-exactly, read-write, read-good, out-bytes}
 use Rattle.drift_list.proofs.Answers.{list-taken, fix-there}

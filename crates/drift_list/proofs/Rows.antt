@@ -1,17 +1,17 @@
 -- EVERY GOOD LIST CAN BE GIVEN TO THE WRITER: as five numbers for each record it is a good draft of the same values.
-use Prim.Native.Nat.{ℕ, zero, suc, _+_, _*_, _%_, _^_, _<_, _≤_}
+use Prim.Native.Nat.{ℕ, zero, suc, _+_, _*_, _%_, _^_, _<_}
 use mathlib.Core.Path.{_≡_, refl, sym, ap, subst, _∙_}
 use mathlib.Core.List.{List, [], _∷_}
 use native.Mathlib.Nat.{mod-eq-of-lt}
 use native.Mathlib.Omega.{arith}
 use lib.ListN.{length}
-use lib.IntN.{ℤ, pos, negsuc}
+use lib.IntN.{ℤ, pos}
 use lib.Signed.{mag}
 use Rattle.drift_list.specs.declared.Fields.{Fields}
 use Rattle.wire.specs.Signed.{InBits}
-use Rattle.drift_list.specs.Values.{Drift, GoodFix, GoodDrift, Rising, fixAmong}
-use Rattle.drift_list.specs.Reading.{FitsFix, fixesFrom}
-use Rattle.drift_list.specs.Writing.{Draft, cell, fixIn, fixGiven, valueOf, InField, InFields, GoodDraft, rowsOf, draftOf}
+use Rattle.drift_list.specs.Values.{Drift, GoodFix, GoodDrift, fixAmong}
+use Rattle.drift_list.specs.Reading.{FitsFix}
+use Rattle.drift_list.specs.Writing.{cell, fixIn, fixGiven, valueOf, InField, InFields, GoodDraft, rowsOf, draftOf}
 use Rattle.drift_list.proofs.Laws.Lists.{fixes-are}
 use Rattle.drift_list.proofs.Laws.Records.{good-fits}
 

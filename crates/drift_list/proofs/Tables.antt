@@ -1,12 +1,12 @@
 -- THE REFUSALS AS TABLES: reader and writer answer the number of the first test that holds, in the order of `listTests` and `writeTests`.
 use Prim.Native.Nat.{ℕ, suc, _<_, _≤_}
-use mathlib.Core.Path.{_≡_, refl, sym, ap, _∙_}
+use mathlib.Core.Path.{_≡_, refl, sym, _∙_}
 use mathlib.Core.Logic.{_↔_}
 use mathlib.Core.Bool.{Bool, true, false, not, cond, _||_}
 use mathlib.Core.List.{List, [], _∷_}
 use native.Mathlib.Omega.{arith}
 use lib.Dec.{eqb}
-use borrow.Author.Tests.{eqb-true, eqb-false, eq-eqb, ne-eqb}
+use borrow.Author.Tests.{eqb-true, eqb-false, ne-eqb}
 use Rattle.wire.specs.Tests.{Tests, firstMet, holds}
 use Rattle.wire.proofs.Laws.Tests.{lowest-met}
 use Rattle.drift_list.specs.Reading.{meets30, faultOf, readRefusal, listTests}

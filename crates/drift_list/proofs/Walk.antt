@@ -7,7 +7,7 @@ use mathlib.Core.List.{List}
 use native.Mathlib.Omega.{arith}
 use lib.Dec.{eqb, ltb}
 use lib.ListN.{length}
-use borrow.Author.Tests.{eq-eqb, ne-eqb, eqb-true, eqb-false, ltb-true, ltb-false}
+use borrow.Author.Tests.{eqb-true, eqb-false, ltb-true, ltb-false}
 use Rattle.drift_list.specs.declared.FixAnswer.{FixAnswer}
 use Rattle.drift_list.specs.declared.FixAnswer.the-variants as answer
 use Rattle.drift_list.specs.Values.{fixOf}
@@ -15,7 +15,7 @@ use Rattle.drift_list.specs.Reading.{countOf, fixAt, readRefusal}
 use Rattle.drift_list.specs.Answers.{fixAnswer, walkRefusal, walkAnswer}
 use Rattle.drift_list.proofs.Laws.Faults.{none-faulty, all-clean, faulty-exactly}
 use Rattle.drift_list.proofs.Exact.{refusedAt, refused-within, by-length, accepted-exactly, exact-answers, inexact-answers}
-use Rattle.drift_list.proofs.Answers.{fix-past, fix-there, walk-30, walk-19, walk-own, walk-refused, walk-there, walk-within}
+use Rattle.drift_list.proofs.Answers.{fix-past, fix-there, walk-30, walk-19, walk-own, walk-refused, walk-there}
 
 -- ON AN ACCEPTED LIST
 walk-none : (s : List ℕ) (k : ℕ) → readRefusal s ≡ 0 → k < countOf s → walkRefusal s k ≡ 0

@@ -1,12 +1,12 @@
 -- THE THEOREMS OF THE WRITER: it writes exactly where the draft is good and there is room; what it wrote is read back; every good list can be given to it.
 use Prim.Native.Nat.{ℕ, zero, suc, _+_, _*_, _^_, _<_, _≤_}
-use mathlib.Core.Path.{_≡_, refl, sym, ap, ap₂, subst, _∙_}
+use mathlib.Core.Path.{_≡_, refl, sym, ap, subst, _∙_}
 use mathlib.Core.Logic.{_↔_, _⊎_, inl, inr}
 use mathlib.Core.Bool.{Bool, true, false, not, cond, _||_}
-use mathlib.Core.List.{List, [], _∷_, _++_}
+use mathlib.Core.List.{List, _++_}
 use native.Mathlib.Omega.{arith}
 use lib.Dec.{leb, ltb, eqb}
-use lib.ListN.{length, getD, take, drop, length-append}
+use lib.ListN.{length, take, drop}
 use lib.Seq.{take-append-seam}
 use lib.IntN.{ℤ, pos, negsuc}
 use lib.Signed.{mag}
@@ -14,11 +14,11 @@ use borrow.Author.Tests.{eqb-true, eqb-false, eq-eqb, ne-eqb, leb-false, lt-leb,
 use Rattle.wire.specs.Tests.{firstMet}
 use Rattle.wire.proofs.Laws.Tests.{neither}
 use Rattle.drift_list.specs.declared.Fields.{Fields}
-use Rattle.drift_list.specs.Values.{Drift, GoodFix, GoodDrift, Rising, fixAmong, buoyBefore, fixTests, refusalAt, firstFault}
-use Rattle.drift_list.specs.Reading.{fixesFrom, readList, readRefusal, spellList}
+use Rattle.drift_list.specs.Values.{GoodFix, GoodDrift, fixAmong, buoyBefore, fixTests, refusalAt, firstFault}
+use Rattle.drift_list.specs.Reading.{readList, readRefusal, spellList}
 use Rattle.drift_list.specs.Writing.{Draft, cell, fixIn, fixGiven, valueOf, InField, InFields, Fitting, GoodDraft, outside, outsideSigned}
-use Rattle.drift_list.specs.Writing.{wideAt, wideRefusal, headWide, orElse, writeRefusal, writtenBytes, rowsOf, draftOf}
-use Rattle.drift_list.proofs.Laws.Lists.{fixes-are, fixes-length, fixes-at}
+use Rattle.drift_list.specs.Writing.{wideAt, wideRefusal, headWide, orElse, writeRefusal, writtenBytes}
+use Rattle.drift_list.proofs.Laws.Lists.{fixes-length, fixes-at}
 use Rattle.drift_list.proofs.Laws.Faults.{clean-exactly, number-within, none-faulty, all-clean, faulty-exactly, rising-told, rising-tells}
 use Rattle.drift_list.proofs.Exact.{write-read, length-is}
 

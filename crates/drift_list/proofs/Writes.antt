@@ -1,14 +1,12 @@
 -- EACH NUMBER OF THE WRITER EXACTLY IN ITS CASE. 36 is `thirty-six-exactly` of Writer; 31 to 35 are the first faulty record's, as the reader's; 37 comes last. 30 and 34 can not come.
-use Prim.Native.Nat.{ℕ, zero, suc, _+_, _*_, _<_, _≤_}
-use mathlib.Core.Path.{_≡_, refl, sym, ap, _∙_}
+use Prim.Native.Nat.{ℕ, _+_, _*_, _<_, _≤_}
+use mathlib.Core.Path.{_≡_, refl, sym, _∙_}
 use mathlib.Core.Logic.{_↔_, _⊎_, inl, inr}
 use mathlib.Core.Bool.{Bool, true, false, cond}
-use mathlib.Core.List.{List}
 use native.Mathlib.Omega.{arith}
 use lib.Dec.{eqb, ltb}
-use borrow.Author.Tests.{eqb-true, eqb-false, ltb-true, ltb-false, lt-ltb}
-use Rattle.wire.specs.Tests.{firstMet}
-use Rattle.drift_list.specs.Values.{buoyBefore, fixTests, refusalAt, firstFault}
+use borrow.Author.Tests.{eqb-true, eqb-false, ltb-true}
+use Rattle.drift_list.specs.Values.{buoyBefore, refusalAt, firstFault}
 use Rattle.drift_list.specs.Writing.{Draft, fixGiven, givenFault, Fitting, GoodDraft, writeRefusal}
 use Rattle.drift_list.proofs.Laws.Faults.{FirstFaulty, number-within, faulty-exactly}
 use Rattle.drift_list.proofs.Cases.{case34}

@@ -2,17 +2,16 @@
 use Prim.Native.Nat.{ℕ, zero, suc, _+_, _-_, _<_, _≤_}
 use mathlib.Core.Path.{_≡_, refl, sym, ap, _∙_}
 use mathlib.Core.Logic.{_⊎_, inl, inr, _↔_}
-use mathlib.Core.Bool.{Bool, true, false, not, cond, _&&_, _||_}
-use mathlib.Core.List.{List, [], _∷_}
+use mathlib.Core.Bool.{Bool, true, false, not, cond, _||_}
+use mathlib.Core.List.{_∷_}
 use native.Mathlib.Omega.{arith}
 use lib.Dec.{eqb, leb, ltb}
-use lib.IntN.{ℤ, pos}
-use borrow.Author.Tests.{eqb-true, eqb-false, eq-eqb, ne-eqb, leb-false, leb-true, lt-leb, le-leb, ltb-false, ltb-true, le-ltb, lt-ltb, not-true, not-false}
-use Rattle.wire.specs.Tests.{Tests, firstMet, holds, RisingFrom, Within}
+use borrow.Author.Tests.{eqb-true, eqb-false, eq-eqb, ne-eqb, leb-false, lt-leb, le-leb, ltb-false, le-ltb, lt-ltb, not-false}
+use Rattle.wire.specs.Tests.{Tests, firstMet, holds}
 use Rattle.wire.proofs.Laws.Tests.{both, neither, clash, met-within, lowest-met}
 use Rattle.drift_list.specs.declared.Fields.{Fields}
 use Rattle.wire.specs.Signed.{Between, between, isZero}
-use Rattle.drift_list.specs.Values.{west, east, south, north, week, AtZero, StateTold, GoodFix, Rising, atZero, meets31, stateFault, meets35, fixTests, buoyBefore, refusalAt, firstFault}
+use Rattle.drift_list.specs.Values.{west, east, south, north, week, AtZero, StateTold, GoodFix, Rising, atZero, meets31, stateFault, meets35, fixTests, buoyBefore, firstFault}
 use Rattle.wire.proofs.Laws.Signed.{between-told, between-tells, zero-told, zero-tells}
 
 -- 31

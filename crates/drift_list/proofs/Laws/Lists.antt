@@ -5,7 +5,7 @@ use mathlib.Core.List.{List, [], _∷_, _++_}
 use native.Mathlib.Nat.{mod-eq-of-lt}
 use native.Mathlib.Omega.{arith}
 use lib.ListN.{length, drop, length-append, drop-of-length-le}
-use Rattle.wire.specs.Fields.{byteAt, fieldAt, spelled}
+use Rattle.wire.specs.Fields.{fieldAt, spelled}
 use Rattle.wire.specs.Bits.{AllBytes}
 use Rattle.wire.proofs.Laws.Fields.{field-lt, spelled-reads}
 use Rattle.wire.proofs.Laws.Spelled.{part-spelled, field-after, both-are}

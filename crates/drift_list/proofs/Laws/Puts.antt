@@ -1,12 +1,9 @@
 -- Bytes put one after another into lent bytes, and a record's twelve bytes as three words.
-use Prim.Native.Nat.{ℕ, zero, suc, _+_, _-_, _*_, _/_, _%_, _^_, _<_, _≤_}
-use mathlib.Core.Path.{_≡_, refl, sym, ap, ap₂, _∙_}
+use Prim.Native.Nat.{ℕ, suc, _+_, _-_, _*_, _/_, _%_, _^_, _<_}
+use mathlib.Core.Path.{_≡_, sym, ap, ap₂, _∙_}
 use mathlib.Core.List.{List, [], _∷_, _++_, append-assoc}
-use native.Mathlib.Nat.{mod-eq-of-lt, pow-suc, pow-succ', mul-assoc, div-div-eq-div-mul}
 use native.Mathlib.Omega.{arith}
-use lib.Arith.{digits-div}
 use lib.ListN.{length, set, length-set}
-use lib.Pow.{pow-add}
 use lib.Seq.{sets}
 use Rattle.wire.specs.Fields.{spelled}
 use Rattle.wire.proofs.Laws.Fields.{spelled-length}

@@ -1,21 +1,20 @@
 -- One record: values and the 96 bits, each from the other.
-use Prim.Native.Nat.{ℕ, zero, suc, _+_, _*_, _%_, _^_, _<_, _≤_}
+use Prim.Native.Nat.{ℕ, zero, suc, _+_, _*_, _^_, _<_}
 use mathlib.Core.Path.{_≡_, refl, sym, ap, _∙_}
 use mathlib.Core.Logic.{_⊎_, inl, inr}
 use mathlib.Core.List.{List, [], _∷_}
-use native.Mathlib.Nat.{mod-eq-of-lt, mod-lt}
+use native.Mathlib.Nat.{mod-eq-of-lt}
 use native.Mathlib.Omega.{arith}
 use lib.Dec.{leb→le}
-use lib.ListN.{length, getD, replicate, length-replicate}
+use lib.ListN.{length, getD, replicate}
 use lib.IntN.{ℤ, pos, negsuc}
 use lib.Pow.{pow-pos}
-use lib.Signed.{mag}
 use Rattle.wire.specs.Fields.{byteAt, fieldAt, bits, spelled}
 use Rattle.wire.specs.Bits.{AllBytes, bitsAt, valuesAt, Fit}
 use Rattle.wire.proofs.Laws.Fields.{bits-lt, field-lt}
 use Rattle.drift_list.specs.declared.Fields.{Fields}
-use Rattle.wire.specs.Signed.{signed, twos, InBits, Between}
-use Rattle.drift_list.specs.Values.{GoodFix, StateTold, west, east, south, north}
+use Rattle.wire.specs.Signed.{signed, InBits, Between}
+use Rattle.drift_list.specs.Values.{GoodFix, StateTold}
 use Rattle.drift_list.specs.Reading.{fieldsFrom, spareFrom, fieldWidths, fieldValues, spellFix, FitsFix}
 use Rattle.wire.proofs.Laws.Bits.{bitsAt-lt, bits-field, all-length, all-put, all-bytes}
 use Rattle.wire.proofs.Laws.Packed.{packed, unpacked, packed-lt, packed-read, read-packed, values-field}

@@ -1,5 +1,5 @@
 -- A record read by words of its bytes: bytes 0 to 7 hold buoy, state and longitude, bytes 4 to 11 latitude, minute and spare; and a record in a part of the list.
-use Prim.Native.Nat.{ℕ, zero, suc, _+_, _-_, _*_, _/_, _%_, _^_, _<_, _≤_}
+use Prim.Native.Nat.{ℕ, zero, suc, _+_, _-_, _*_, _/_, _%_}
 use mathlib.Core.Path.{_≡_, refl, sym, ap, _∙_}
 use mathlib.Core.List.{List}
 use native.Mathlib.Omega.{arith}
@@ -12,7 +12,7 @@ use Rattle.wire.proofs.Laws.Bits.{bits-field, bits-drop}
 use Rattle.wire.proofs.Laws.Loops.{tail}
 use Rattle.drift_list.specs.declared.Fields.{Fields}
 use Rattle.drift_list.specs.Values.{buoyBefore}
-use Rattle.drift_list.specs.Reading.{fieldsFrom, spareFrom, begins, fixAt, spareAt}
+use Rattle.drift_list.specs.Reading.{fieldsFrom, spareFrom, fixAt, spareAt}
 
 pub fix-words : (s : List ℕ) → AllBytes s → (hi lo : ℕ) → hi ≡ fieldAt 8 s 0 → lo ≡ fieldAt 8 s 4
     → fieldsFrom s 0 ≡ record { buoy = bits 44 20 hi; state = bits 42 2 hi; longitude = signed 27 (bits 14 28 hi); latitude = signed 26 (bits 19 27 lo); minute = bits 5 14 lo }

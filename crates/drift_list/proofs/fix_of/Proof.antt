@@ -1,14 +1,10 @@
 -- `drift_list::fix_of` meets its contract: the coordinates are read back from their bits.
-use mathlib.Core.Path.{_≡_}
 use mir.Syntax.{w32}
 use mir.ValLaws.{toZ-ofZ}
 use Rattle.drift_list.specs.Values.{fixOf}
-use Rattle.drift_list.proofs.state_of.Reads as state-of-reads
 use borrow.Author.Needs.{needs}
 use Rattle.drift_list.proofs.fix_of.Statement.{statement}
 use Rattle.drift_list.proofs.fix_of.Tie as tie
-use Rattle.drift_list.proofs.fix_of.Reads as reads
-use Rattle.drift_list.proofs.fix_of.Lts as lts
 
 state-of-requires : tie.Need-state-of-requires
 state-of-requires c κs = search needs

@@ -7,10 +7,6 @@ use Rattle.wire.specs.Bits.{AllBytes}
 use borrow.Author.Needs.{needs}
 use Rattle.drift_list.proofs.read.Statement.{statement}
 use Rattle.drift_list.proofs.read.Tie as tie
-use Rattle.drift_list.proofs.read.Reads as reads
-use Rattle.drift_list.proofs.read.Lts as lts
-use Rattle.drift_list.proofs.judge.list_refusal.Reads as list-refusal-reads
-use Rattle.wire.proofs.sixteen_at.Reads as sixteen-at-reads
 
 list-refusal-requires : tie.Need-list-refusal-requires
 list-refusal-requires c κs = search needs

@@ -11,12 +11,6 @@ use Rattle.drift_list.proofs.Laws.Words.{part-record}
 use borrow.Author.Needs.{needs}
 use Rattle.drift_list.proofs.record_at.Statement.{statement}
 use Rattle.drift_list.proofs.record_at.Tie as tie
-use Rattle.drift_list.proofs.record_at.Reads as reads
-use Rattle.drift_list.proofs.record_at.Lts as lts
-use Rattle.drift_list.proofs.unpack.fields_of.Reads as fields-of-reads
-use Rattle.drift_list.proofs.fix_of.Reads as fix-of-reads
-use Rattle.drift_list.proofs.judge.list_refusal.Reads as list-refusal-reads
-use Rattle.wire.proofs.sixteen_at.Reads as sixteen-at-reads
 
 -- the places that stand before a place, by name
 abbrev start-of-else1 : tie.Else1 → tie.Start

@@ -4,8 +4,6 @@ use Rattle.drift_list.specs.Values.{stateNumber}
 use borrow.Author.Needs.{needs}
 use Rattle.drift_list.proofs.state_number.Statement.{statement}
 use Rattle.drift_list.proofs.state_number.Tie as tie
-use Rattle.drift_list.proofs.state_number.Reads as reads
-use Rattle.drift_list.proofs.state_number.Lts as lts
 
 enum-told : tie.Need-enum-told
 enum-told c = search needs

@@ -2,11 +2,8 @@
 use mathlib.Core.Path.{refl, sym}
 use borrow.Author.Tests.{eq-eqb, ne-eqb}
 use Rattle.drift_list.specs.Values.{stateOf}
-use borrow.Author.Needs.{needs}
 use Rattle.drift_list.proofs.state_of.Statement.{statement}
 use Rattle.drift_list.proofs.state_of.Tie as tie
-use Rattle.drift_list.proofs.state_of.Reads as reads
-use Rattle.drift_list.proofs.state_of.Lts as lts
 
 returns : tie.Need-returns
 unfolding stateOf

@@ -12,11 +12,6 @@ use Rattle.drift_list.proofs.Laws.Words.{part-record}
 use borrow.Author.Needs.{needs}
 use Rattle.drift_list.proofs.walk_at.Statement.{statement}
 use Rattle.drift_list.proofs.walk_at.Tie as tie
-use Rattle.drift_list.proofs.walk_at.Reads as reads
-use Rattle.drift_list.proofs.walk_at.Lts as lts
-use Rattle.drift_list.proofs.fix_of.Reads as fix-of-reads
-use Rattle.drift_list.proofs.judge.walk_refusal.Reads as walk-refusal-reads
-use Rattle.drift_list.proofs.unpack.fields_of.Reads as fields-of-reads
 
 within : (c : tie.Else1) → 4 + 12 * c .before .before .before .args .k ≤ length (c .before .before .before .args .list .now)
 within c =

@@ -5,7 +5,6 @@ use mathlib.Core.List.{List}
 use native.Mathlib.Omega.{arith}
 use lib.ListN.{length}
 use lib.Seq.{sets, length-sets}
-use Rattle.drift_list.specs.declared.Fields.{Fields}
 use Rattle.wire.specs.Fields.{spelled}
 use Rattle.drift_list.specs.Reading.{FitsFix, spellFix}
 use Rattle.drift_list.specs.Writing.{Draft, draft, writeRefusal}
@@ -14,12 +13,6 @@ use Rattle.drift_list.proofs.Left.{begun, none-begun, onward, fits, pla
 use borrow.Author.Needs.{needs}
 use Rattle.drift_list.proofs.write.Statement.{statement}
 use Rattle.drift_list.proofs.write.Tie as tie
-use Rattle.drift_list.proofs.write.Reads as reads
-use Rattle.drift_list.proofs.write.Lts as lts
-use Rattle.drift_list.proofs.given.fields_in.Reads as fields-in-reads
-use Rattle.drift_list.proofs.pack.put_fix.Reads as put-fix-reads
-use Rattle.drift_list.proofs.pack.put_four.Reads as put-four-reads
-use Rattle.drift_list.proofs.given.write_refusal.Reads as write-refusal-reads
 
 abbrev Inv-loop : tie.InvT-loop
 Inv-loop issue count numbers out₀ n c k₀ out k = (k ≤ count) × (c ≡ count) × (length out ≡ length out₀) × (out ≡ sets out₀ 4 (begun numbers k))

@@ -4,10 +4,6 @@ use Rattle.nebosvar.specs.Drift.{listOut}
 use borrow.Author.Needs.{needs}
 use Rattle.nebosvar.proofs.nebosvar_list_read.Statement.{statement}
 use Rattle.nebosvar.proofs.nebosvar_list_read.Tie as tie
-use Rattle.nebosvar.proofs.nebosvar_list_read.Reads as reads
-use Rattle.nebosvar.proofs.nebosvar_list_read.Lts as lts
-use Rattle.drift_list.proofs.read.Reads as read-reads
-use Rattle.nebosvar.proofs.drift.list_out.Reads as list-out-reads
 
 read-requires : tie.Need-read-requires
 read-requires c κs = search needs

@@ -4,10 +4,6 @@ use Rattle.nebosvar.specs.Drift.{fixOut}
 use borrow.Author.Needs.{needs}
 use Rattle.nebosvar.proofs.nebosvar_list_record.Statement.{statement}
 use Rattle.nebosvar.proofs.nebosvar_list_record.Tie as tie
-use Rattle.nebosvar.proofs.nebosvar_list_record.Reads as reads
-use Rattle.nebosvar.proofs.nebosvar_list_record.Lts as lts
-use Rattle.drift_list.proofs.record_at.Reads as record-at-reads
-use Rattle.nebosvar.proofs.drift.fix_out.Reads as fix-out-reads
 
 record-at-requires : tie.Need-record-at-requires
 record-at-requires c κs = search needs

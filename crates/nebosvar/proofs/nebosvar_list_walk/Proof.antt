@@ -4,10 +4,6 @@ use Rattle.nebosvar.specs.Drift.{fixOut}
 use borrow.Author.Needs.{needs}
 use Rattle.nebosvar.proofs.nebosvar_list_walk.Statement.{statement}
 use Rattle.nebosvar.proofs.nebosvar_list_walk.Tie as tie
-use Rattle.nebosvar.proofs.nebosvar_list_walk.Reads as reads
-use Rattle.nebosvar.proofs.nebosvar_list_walk.Lts as lts
-use Rattle.drift_list.proofs.walk_at.Reads as walk-at-reads
-use Rattle.nebosvar.proofs.drift.fix_out.Reads as fix-out-reads
 
 walk-at-requires : tie.Need-walk-at-requires
 walk-at-requires c κs = search needs

@@ -4,10 +4,6 @@ use Rattle.nebosvar.specs.Drift.{writtenOut}
 use borrow.Author.Needs.{needs}
 use Rattle.nebosvar.proofs.nebosvar_list_write.Statement.{statement}
 use Rattle.nebosvar.proofs.nebosvar_list_write.Tie as tie
-use Rattle.nebosvar.proofs.nebosvar_list_write.Reads as reads
-use Rattle.nebosvar.proofs.nebosvar_list_write.Lts as lts
-use Rattle.drift_list.proofs.write.Reads as write-reads
-use Rattle.nebosvar.proofs.drift.written_out.Reads as written-out-reads
 
 write-requires : tie.Need-write-requires
 write-requires c κs = search needs

@@ -1,14 +1,10 @@
 -- `test_drift::fill` ends, within what it is lent.
-use Prim.Native.Nat.{ℕ, _-_, _≤_}
+use Prim.Native.Nat.{_-_, _≤_}
 use mathlib.Core.Path.{_≡_}
 use lib.ListN.{length}
 use borrow.Author.Needs.{needs}
 use Rattle.test_drift.proofs.fill.Statement.{statement}
 use Rattle.test_drift.proofs.fill.Tie as tie
-use Rattle.test_drift.proofs.fill.Reads as reads
-use Rattle.test_drift.proofs.fill.Lts as lts
-use Rattle.test_drift.proofs.signed.Reads as signed-reads
-use Rattle.wire.proofs.thirty_two_at.Reads as thirty-two-at-reads
 
 abbrev Inv-loop : tie.InvT-loop
 Inv-loop numbers₀ s n₀ numbers n = (n ≤ 32) × (length numbers ≡ 32) × (length numbers₀ ≡ 32)

@@ -3,8 +3,6 @@ use Rattle.wire.proofs.Laws.Signed.{not-cast, plain-cast, cast-fine}
 use borrow.Author.Needs.{needs}
 use Rattle.test_drift.proofs.magnitude.Statement.{statement}
 use Rattle.test_drift.proofs.magnitude.Tie as tie
-use Rattle.test_drift.proofs.magnitude.Reads as reads
-use Rattle.test_drift.proofs.magnitude.Lts as lts
 
 cast-result : tie.Need-cast-result
 cast-result c = cast-fine (c .before .args .z) (c .before .fits .z) _ (not-cast (c .before .args .z) (c .before .fits .z) (c .if1 .taken))

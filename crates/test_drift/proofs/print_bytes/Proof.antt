@@ -1,13 +1,9 @@
 -- `test_drift::print_bytes` ends, within what it is lent.
-use Prim.Native.Nat.{ℕ, _-_, _≤_}
+use Prim.Native.Nat.{_-_, _≤_}
 use lib.ListN.{length}
 use borrow.Author.Needs.{needs}
 use Rattle.test_drift.proofs.print_bytes.Statement.{statement}
 use Rattle.test_drift.proofs.print_bytes.Tie as tie
-use Rattle.test_drift.proofs.print_bytes.Reads as reads
-use Rattle.test_drift.proofs.print_bytes.Lts as lts
-use Rattle.io.proofs.print_hex.Reads as print-hex-reads
-use Rattle.wire.proofs.byte_at.Reads as byte-at-reads
 
 abbrev Inv-loop : tie.InvT-loop
 Inv-loop s i₀ i = i ≤ length s

@@ -1,12 +1,9 @@
 -- `test_drift::print_each` ends: each turn passes a case.
-use Prim.Native.Nat.{ℕ, _-_, _≤_}
+use Prim.Native.Nat.{_-_, _≤_}
 use lib.ListN.{length}
 use borrow.Author.Needs.{needs}
 use Rattle.test_drift.proofs.print_each.Statement.{statement}
 use Rattle.test_drift.proofs.print_each.Tie as tie
-use Rattle.test_drift.proofs.print_each.Reads as reads
-use Rattle.test_drift.proofs.print_each.Lts as lts
-use Rattle.test_drift.proofs.print_case.Reads as print-case-reads
 
 abbrev Inv-loop : tie.InvT-loop
 Inv-loop s at₀ at = at ≤ length s

@@ -5,14 +5,6 @@ use lib.Seq.{length-take-le}
 use borrow.Author.Needs.{needs}
 use Rattle.test_drift.proofs.print_written.Statement.{statement}
 use Rattle.test_drift.proofs.print_written.Tie as tie
-use Rattle.test_drift.proofs.print_written.Reads as reads
-use Rattle.test_drift.proofs.print_written.Lts as lts
-use Rattle.test_drift.proofs.fill.Reads as fill-reads
-use Rattle.test_drift.proofs.marked.Reads as marked-reads
-use Rattle.test_drift.proofs.no_numbers.Reads as no-numbers-reads
-use Rattle.test_drift.proofs.print_write.Reads as print-write-reads
-use Rattle.wire.proofs.eight_at.Reads as eight-at-reads
-use Rattle.wire.proofs.thirty_two_at.Reads as thirty-two-at-reads
 
 thirty-two-at-requires : tie.Need-thirty-two-at-requires
 thirty-two-at-requires c κs = search needs

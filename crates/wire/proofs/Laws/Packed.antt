@@ -1,6 +1,6 @@
 -- Fields side by side as one number, the first the most significant: fields of a packed number are read back, read fields pack to the number again,
 -- and the fields of whole bytes are those of their number. Once, over the widths.
-use Prim.Native.Nat.{ℕ, _+_, _-_, _*_, _/_, _%_, _^_, _<_, _≤_}
+use Prim.Native.Nat.{ℕ, _+_, _-_, _*_, _%_, _^_, _<_, _≤_}
 use mathlib.Core.Path.{_≡_, refl, sym, ap, ap₂, _∙_}
 use mathlib.Core.List.{List, [], _∷_}
 use native.Mathlib.Nat.{mod-eq-of-lt}

@@ -5,10 +5,10 @@ use mathlib.Core.List.{List, [], _∷_, _++_}
 use native.Mathlib.Nat.{mod-eq-of-lt, pow-succ', mul-assoc, mul-add-div-right, div-div-eq-div-mul}
 use native.Mathlib.Omega.{arith}
 use lib.Arith.{digits-div}
-use lib.ListN.{length, getD, take, drop, length-drop, take-append-drop}
+use lib.ListN.{length, take, drop, length-drop, take-append-drop}
 use lib.Pow.{pow-add}
 use lib.Seq.{length-take-le, drop-append-seam, drop-drop, getD-drop}
-use Rattle.wire.specs.Fields.{byteAt, fieldAt, spelled}
+use Rattle.wire.specs.Fields.{fieldAt, spelled}
 use Rattle.wire.specs.Bits.{AllBytes}
 use Rattle.wire.proofs.Laws.Fields.{pow256, field-lt, field-join, field-one, field-drop, field-part, spelled-length}
 

@@ -10,8 +10,6 @@ use lib.ListN.{getD, List·getD-eq-default}
 use borrow.Author.Needs.{needs}
 use Rattle.drift_list.proofs.given.cell_at.Statement.{statement}
 use Rattle.drift_list.proofs.given.cell_at.Tie as tie
-use Rattle.drift_list.proofs.given.cell_at.Reads as reads
-use Rattle.drift_list.proofs.given.cell_at.Lts as lts
 
 returns : tie.Need-returns
 returns c = (sym (List·getD-eq-default (c .before .args .numbers .now) (pos 0) (c .if1 .taken)), omega arith)

@@ -7,10 +7,6 @@ use Rattle.drift_list.proofs.Laws.Cells.{kept}
 use borrow.Author.Needs.{needs}
 use Rattle.drift_list.proofs.given.fields_in.Statement.{statement}
 use Rattle.drift_list.proofs.given.fields_in.Tie as tie
-use Rattle.drift_list.proofs.given.fields_in.Reads as reads
-use Rattle.drift_list.proofs.given.fields_in.Lts as lts
-use Rattle.drift_list.proofs.given.cell_at.Reads as cell-at-reads
-use Rattle.drift_list.proofs.given.magnitude.Reads as magnitude-reads
 
 -- the places that stand before a place, by name
 abbrev after-magnitude-of-after-magnitude2 : tie.After-magnitude2 → tie.After-magnitude

@@ -7,8 +7,6 @@ use Rattle.wire.proofs.Laws.Signed.{plain-cast, cast-fine}
 use Rattle.drift_list.proofs.Laws.Cells.{below-outside, above-outside}
 use Rattle.drift_list.proofs.given.is_outside.Statement.{statement}
 use Rattle.drift_list.proofs.given.is_outside.Tie as tie
-use Rattle.drift_list.proofs.given.is_outside.Reads as reads
-use Rattle.drift_list.proofs.given.is_outside.Lts as lts
 
 returns : tie.Need-returns
 returns c = let z = c .before .args .z in let f = c .before .fits .z in below-outside z f _ (c .if1 .taken)

@@ -4,8 +4,6 @@ use lib.IntN.{natAbs}
 use Rattle.wire.proofs.Laws.Signed.{not-cast, plain-cast, cast-fine}
 use Rattle.drift_list.proofs.given.magnitude.Statement.{statement}
 use Rattle.drift_list.proofs.given.magnitude.Tie as tie
-use Rattle.drift_list.proofs.given.magnitude.Reads as reads
-use Rattle.drift_list.proofs.given.magnitude.Lts as lts
 
 cast-result : tie.Need-cast-result
 cast-result c = let z = c .before .args .z in let f = c .before .fits .z in cast-fine z f _ (not-cast z f (c .if1 .taken))

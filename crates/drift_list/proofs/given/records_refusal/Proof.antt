@@ -13,10 +13,6 @@ use Rattle.drift_list.proofs.Laws.Faults.{turn-done, turn-hit, turn-on}
 use borrow.Author.Needs.{needs}
 use Rattle.drift_list.proofs.given.records_refusal.Statement.{statement}
 use Rattle.drift_list.proofs.given.records_refusal.Tie as tie
-use Rattle.drift_list.proofs.given.records_refusal.Reads as reads
-use Rattle.drift_list.proofs.given.records_refusal.Lts as lts
-use Rattle.drift_list.proofs.given.fields_in.Reads as fields-in-reads
-use Rattle.drift_list.proofs.judge.fields_refusal.Reads as fields-refusal-reads
 
 abbrev refused : List ℤ → ℕ → ℕ
 refused ns = refusalAt (fixGiven ns) (λ k. 0)

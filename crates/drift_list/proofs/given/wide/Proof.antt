@@ -8,11 +8,6 @@ use Rattle.drift_list.proofs.Laws.Cells.{kept, wide-1, wide-2, wide-3, 
 use borrow.Author.Needs.{needs}
 use Rattle.drift_list.proofs.given.wide.Statement.{statement}
 use Rattle.drift_list.proofs.given.wide.Tie as tie
-use Rattle.drift_list.proofs.given.wide.Reads as reads
-use Rattle.drift_list.proofs.given.wide.Lts as lts
-use Rattle.drift_list.proofs.given.cell_at.Reads as cell-at-reads
-use Rattle.drift_list.proofs.given.is_outside.Reads as is-outside-reads
-use Rattle.drift_list.proofs.given.magnitude.Reads as magnitude-reads
 
 -- the places that stand before a place, by name
 abbrev start-of-else1 : tie.Else1 → tie.Start

@@ -12,9 +12,6 @@ use Rattle.drift_list.proofs.Laws.Faults.{turn-done, turn-hit, turn-on}
 use borrow.Author.Needs.{needs}
 use Rattle.drift_list.proofs.given.widths_refusal.Statement.{statement}
 use Rattle.drift_list.proofs.given.widths_refusal.Tie as tie
-use Rattle.drift_list.proofs.given.widths_refusal.Reads as reads
-use Rattle.drift_list.proofs.given.widths_refusal.Lts as lts
-use Rattle.drift_list.proofs.given.wide.Reads as wide-reads
 
 abbrev Inv-loop : tie.InvT-loop
 Inv-loop numbers count c k₀ k = (k ≤ count) × (c ≡ count) × (firstFault (count - k) k (wideRefusal numbers) ≡ firstFault count 0 (wideRefusal numbers))

@@ -4,10 +4,6 @@ use Rattle.drift_list.proofs.Writer.{is36-issue, is36-count, is36-numbe
 use borrow.Author.Needs.{needs}
 use Rattle.drift_list.proofs.given.write_refusal.Statement.{statement}
 use Rattle.drift_list.proofs.given.write_refusal.Tie as tie
-use Rattle.drift_list.proofs.given.write_refusal.Reads as reads
-use Rattle.drift_list.proofs.given.write_refusal.Lts as lts
-use Rattle.drift_list.proofs.given.records_refusal.Reads as records-refusal-reads
-use Rattle.drift_list.proofs.given.widths_refusal.Reads as widths-refusal-reads
 
 returns : tie.Need-returns
 returns c = let a = c .before in is36-issue (draft (a .args .issue) (a .args .count) (a .args .numbers .now)) (a .args .room) (c .if1 .taken)

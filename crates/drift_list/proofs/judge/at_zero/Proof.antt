@@ -7,8 +7,6 @@ use Rattle.wire.specs.Signed.{isZero}
 use Rattle.wire.proofs.Laws.Signed.{zero-bits}
 use Rattle.drift_list.proofs.judge.at_zero.Statement.{statement}
 use Rattle.drift_list.proofs.judge.at_zero.Tie as tie
-use Rattle.drift_list.proofs.judge.at_zero.Reads as reads
-use Rattle.drift_list.proofs.judge.at_zero.Lts as lts
 
 returns : tie.Need-returns
 returns c =

@@ -3,9 +3,6 @@ use Rattle.drift_list.proofs.Laws.Words.{before-part}
 use borrow.Author.Needs.{needs}
 use Rattle.drift_list.proofs.judge.buoy_before.Statement.{statement}
 use Rattle.drift_list.proofs.judge.buoy_before.Tie as tie
-use Rattle.drift_list.proofs.judge.buoy_before.Reads as reads
-use Rattle.drift_list.proofs.judge.buoy_before.Lts as lts
-use Rattle.drift_list.proofs.unpack.buoy_of.Reads as buoy-of-reads
 
 returns : tie.Need-returns
 returns c = search needs

@@ -1,9 +1,9 @@
 -- `drift_list::judge::fields_refusal` meets its contract: one law of Laws/Faults for each way.
 use mathlib.Core.Path.{_≡_, sym, ap, ap₂, _∙_}
-use mathlib.Core.Bool.{Bool, true, false, _&&_}
-use lib.IntN.{ℤ, pos, negsuc}
+use mathlib.Core.Bool.{true, _&&_}
+use lib.IntN.{ℤ}
 use mir.Syntax.{w32}
-use mir.Val.{toZ, ofZ, SFits}
+use mir.Val.{toZ, ofZ}
 use mir.ValLaws.{toZ-ofZ}
 use borrow.Author.Tests.{not-true, not-false}
 use Rattle.wire.specs.Signed.{between, isZero}
@@ -12,11 +12,6 @@ use Rattle.drift_list.proofs.Laws.Faults.{is31-longitude, is31-latitude
 use borrow.Author.Needs.{needs}
 use Rattle.drift_list.proofs.judge.fields_refusal.Statement.{statement}
 use Rattle.drift_list.proofs.judge.fields_refusal.Tie as tie
-use Rattle.drift_list.proofs.judge.fields_refusal.Reads as reads
-use Rattle.drift_list.proofs.judge.fields_refusal.Lts as lts
-use Rattle.drift_list.proofs.judge.at_zero.Reads as at-zero-reads
-use Rattle.drift_list.proofs.judge.state_fault.Reads as state-fault-reads
-use Rattle.drift_list.proofs.judge.within.Reads as within-reads
 
 -- the places that stand before a place, by name
 abbrev start-of-else1 : tie.Else1 → tie.Start

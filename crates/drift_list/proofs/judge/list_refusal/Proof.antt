@@ -1,13 +1,12 @@
 -- `drift_list::judge::list_refusal` meets its contract: the loop asks of each record in turn.
-use Prim.Native.Nat.{ℕ, suc, _+_, _-_, _*_, _<_, _≤_}
-use mathlib.Core.Path.{_≡_, refl, sym, ap, ap₂, subst, _∙_}
+use Prim.Native.Nat.{ℕ, suc, _+_, _-_, _*_, _≤_}
+use mathlib.Core.Path.{_≡_, refl, sym, ap, _∙_}
 use mathlib.Core.List.{List}
 use native.Mathlib.Omega.{arith}
 use lib.ListN.{length}
-use Rattle.wire.specs.Tests.{firstMet}
 use Rattle.drift_list.specs.declared.Fields.{Fields}
-use Rattle.drift_list.specs.Values.{fixTests, buoyBefore, refusalAt, firstFault}
-use Rattle.drift_list.specs.Reading.{fieldsFrom, spareFrom, countOf, fixAt, spareAt, readRefusal}
+use Rattle.drift_list.specs.Values.{buoyBefore, firstFault}
+use Rattle.drift_list.specs.Reading.{fieldsFrom, countOf, fixAt, readRefusal}
 use Rattle.drift_list.proofs.Laws.Faults.{turn-done, turn-hit, turn-on}
 use Rattle.drift_list.proofs.Exact.{refusedAt, exact-answers, inexact-answers, count-sixteen}
 use Rattle.drift_list.proofs.Laws.Words.{part, part-record}
@@ -15,11 +14,6 @@ use Rattle.drift_list.proofs.Answers.{asked}
 use borrow.Author.Needs.{needs}
 use Rattle.drift_list.proofs.judge.list_refusal.Statement.{statement}
 use Rattle.drift_list.proofs.judge.list_refusal.Tie as tie
-use Rattle.drift_list.proofs.judge.list_refusal.Reads as reads
-use Rattle.drift_list.proofs.judge.list_refusal.Lts as lts
-use Rattle.drift_list.proofs.unpack.buoy_of.Reads as buoy-of-reads
-use Rattle.drift_list.proofs.judge.record_refusal.Reads as record-refusal-reads
-use Rattle.wire.proofs.sixteen_at.Reads as sixteen-at-reads
 
 next-buoy : (s : List ℕ) (k last : ℕ) → last ≡ fieldsFrom (part s k) 0 .buoy → last ≡ buoyBefore (fixAt s) (k + 1)
 next-buoy s k last e = e ∙ ap (λ (f : Fields). f .buoy) (part-record s k) ∙ ap (buoyBefore (fixAt s)) o

@@ -7,11 +7,6 @@ use Rattle.drift_list.specs.Values.{fixTests}
 use borrow.Author.Needs.{needs}
 use Rattle.drift_list.proofs.judge.record_refusal.Statement.{statement}
 use Rattle.drift_list.proofs.judge.record_refusal.Tie as tie
-use Rattle.drift_list.proofs.judge.record_refusal.Reads as reads
-use Rattle.drift_list.proofs.judge.record_refusal.Lts as lts
-use Rattle.drift_list.proofs.unpack.fields_of.Reads as fields-of-reads
-use Rattle.drift_list.proofs.judge.fields_refusal.Reads as fields-refusal-reads
-use Rattle.drift_list.proofs.unpack.spare_of.Reads as spare-of-reads
 
 fields-of-requires : tie.Need-fields-of-requires
 fields-of-requires c κs = search needs

@@ -1,8 +1,6 @@
 use Rattle.drift_list.proofs.Laws.Faults.{fault-three, fault-zero, fault-other}
 use Rattle.drift_list.proofs.judge.state_fault.Statement.{statement}
 use Rattle.drift_list.proofs.judge.state_fault.Tie as tie
-use Rattle.drift_list.proofs.judge.state_fault.Reads as reads
-use Rattle.drift_list.proofs.judge.state_fault.Lts as lts
 
 returns : tie.Need-returns
 returns c = fault-three _ _ (c .if1 .taken)

@@ -9,11 +9,6 @@ use Rattle.drift_list.proofs.Answers.{asked, walk-30, walk-19, walk-own
 use borrow.Author.Needs.{needs}
 use Rattle.drift_list.proofs.judge.walk_refusal.Statement.{statement}
 use Rattle.drift_list.proofs.judge.walk_refusal.Tie as tie
-use Rattle.drift_list.proofs.judge.walk_refusal.Reads as reads
-use Rattle.drift_list.proofs.judge.walk_refusal.Lts as lts
-use Rattle.drift_list.proofs.judge.buoy_before.Reads as buoy-before-reads
-use Rattle.drift_list.proofs.judge.record_refusal.Reads as record-refusal-reads
-use Rattle.wire.proofs.sixteen_at.Reads as sixteen-at-reads
 
 -- the count that was read
 counted : (c : tie.After-sixteen-at) → c .sixteen-at .result ≡ countOf (c .before .before .args .s .now)

@@ -1,8 +1,6 @@
 use Rattle.wire.proofs.Laws.Signed.{below-range, from-range}
 use Rattle.drift_list.proofs.judge.within.Statement.{statement}
 use Rattle.drift_list.proofs.judge.within.Tie as tie
-use Rattle.drift_list.proofs.judge.within.Reads as reads
-use Rattle.drift_list.proofs.judge.within.Lts as lts
 
 returns : tie.Need-returns
 returns c =

@@ -9,11 +9,6 @@ use Rattle.drift_list.proofs.Laws.Puts.{highOf, high-lt, record-put}
 use borrow.Author.Needs.{needs}
 use Rattle.drift_list.proofs.pack.put_fix.Statement.{statement}
 use Rattle.drift_list.proofs.pack.put_fix.Tie as tie
-use Rattle.drift_list.proofs.pack.put_fix.Reads as reads
-use Rattle.drift_list.proofs.pack.put_fix.Lts as lts
-use Rattle.drift_list.proofs.pack.bits27.Reads as bits27-reads
-use Rattle.drift_list.proofs.pack.bits28.Reads as bits28-reads
-use Rattle.drift_list.proofs.pack.put_four.Reads as put-four-reads
 
 -- the places that stand before a place, by name
 abbrev start-of-after-slice-known : tie.After-slice-known → tie.Start

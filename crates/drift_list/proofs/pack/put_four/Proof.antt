@@ -6,8 +6,6 @@ use Rattle.drift_list.proofs.Laws.Puts.{four-spelled, room2, room3}
 use borrow.Author.Needs.{needs}
 use Rattle.drift_list.proofs.pack.put_four.Statement.{statement}
 use Rattle.drift_list.proofs.pack.put_four.Tie as tie
-use Rattle.drift_list.proofs.pack.put_four.Reads as reads
-use Rattle.drift_list.proofs.pack.put_four.Lts as lts
 
 cast-out : tie.Need-cast-out
 cast-out c = search needs

@@ -3,9 +3,6 @@ use Rattle.drift_list.proofs.Laws.Words.{buoy-word}
 use borrow.Author.Needs.{needs}
 use Rattle.drift_list.proofs.unpack.buoy_of.Statement.{statement}
 use Rattle.drift_list.proofs.unpack.buoy_of.Tie as tie
-use Rattle.drift_list.proofs.unpack.buoy_of.Reads as reads
-use Rattle.drift_list.proofs.unpack.buoy_of.Lts as lts
-use Rattle.wire.proofs.thirty_two_at.Reads as thirty-two-at-reads
 
 thirty-two-at-requires : tie.Need-thirty-two-at-requires
 thirty-two-at-requires c κs = search needs

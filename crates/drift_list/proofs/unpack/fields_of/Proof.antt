@@ -12,11 +12,6 @@ use Rattle.drift_list.proofs.Laws.Words.{fix-words}
 use borrow.Author.Needs.{needs}
 use Rattle.drift_list.proofs.unpack.fields_of.Statement.{statement}
 use Rattle.drift_list.proofs.unpack.fields_of.Tie as tie
-use Rattle.drift_list.proofs.unpack.fields_of.Reads as reads
-use Rattle.drift_list.proofs.unpack.fields_of.Lts as lts
-use Rattle.drift_list.proofs.unpack.signed27.Reads as signed27-reads
-use Rattle.drift_list.proofs.unpack.signed28.Reads as signed28-reads
-use Rattle.drift_list.proofs.unpack.sixty_four_at.Reads as sixty-four-at-reads
 
 -- the places that stand before a place, by name
 abbrev start-of-after-shared-slice-known : tie.After-shared-slice-known → tie.Start

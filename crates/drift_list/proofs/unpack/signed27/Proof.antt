@@ -7,8 +7,6 @@ use Rattle.wire.proofs.Laws.Signed.{machine-pos, machine-neg}
 use borrow.Author.Needs.{needs}
 use Rattle.drift_list.proofs.unpack.signed27.Statement.{statement}
 use Rattle.drift_list.proofs.unpack.signed27.Tie as tie
-use Rattle.drift_list.proofs.unpack.signed27.Reads as reads
-use Rattle.drift_list.proofs.unpack.signed27.Lts as lts
 
 cast-v : tie.Need-cast-v
 cast-v c = search needs

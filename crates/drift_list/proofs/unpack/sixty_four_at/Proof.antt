@@ -9,9 +9,6 @@ use Rattle.wire.proofs.Laws.Loops.{tail}
 use borrow.Author.Needs.{needs}
 use Rattle.drift_list.proofs.unpack.sixty_four_at.Statement.{statement}
 use Rattle.drift_list.proofs.unpack.sixty_four_at.Tie as tie
-use Rattle.drift_list.proofs.unpack.sixty_four_at.Reads as reads
-use Rattle.drift_list.proofs.unpack.sixty_four_at.Lts as lts
-use Rattle.wire.proofs.thirty_two_at.Reads as thirty-two-at-reads
 
 -- the places that stand before a place, by name
 abbrev start-of-else1 : tie.Else1 → tie.Start

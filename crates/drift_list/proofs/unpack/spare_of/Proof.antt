@@ -3,9 +3,6 @@ use Rattle.drift_list.proofs.Laws.Words.{spare-word}
 use borrow.Author.Needs.{needs}
 use Rattle.drift_list.proofs.unpack.spare_of.Statement.{statement}
 use Rattle.drift_list.proofs.unpack.spare_of.Tie as tie
-use Rattle.drift_list.proofs.unpack.spare_of.Reads as reads
-use Rattle.drift_list.proofs.unpack.spare_of.Lts as lts
-use Rattle.wire.proofs.byte_at.Reads as byte-at-reads
 
 byte-at-requires : tie.Need-byte-at-requires
 byte-at-requires c κs = search needs

@@ -6,9 +6,6 @@ use Rattle.nebosvar.specs.Drift.{fixOut}
 use borrow.Author.Needs.{needs}
 use Rattle.nebosvar.proofs.drift.fix_out.Statement.{statement}
 use Rattle.nebosvar.proofs.drift.fix_out.Tie as tie
-use Rattle.nebosvar.proofs.drift.fix_out.Reads as reads
-use Rattle.nebosvar.proofs.drift.fix_out.Lts as lts
-use Rattle.drift_list.proofs.state_number.Reads as state-number-reads
 
 enum-known-a : tie.Need-enum-known-a
 enum-known-a c = search needs

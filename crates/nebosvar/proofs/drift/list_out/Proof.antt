@@ -4,8 +4,6 @@ use Rattle.nebosvar.specs.Drift.{listOut}
 use borrow.Author.Needs.{needs}
 use Rattle.nebosvar.proofs.drift.list_out.Statement.{statement}
 use Rattle.nebosvar.proofs.drift.list_out.Tie as tie
-use Rattle.nebosvar.proofs.drift.list_out.Reads as reads
-use Rattle.nebosvar.proofs.drift.list_out.Lts as lts
 
 enum-known-a : tie.Need-enum-known-a
 enum-known-a c = search needs

@@ -4,8 +4,6 @@ use Rattle.nebosvar.specs.Drift.{writtenOut}
 use borrow.Author.Needs.{needs}
 use Rattle.nebosvar.proofs.drift.written_out.Statement.{statement}
 use Rattle.nebosvar.proofs.drift.written_out.Tie as tie
-use Rattle.nebosvar.proofs.drift.written_out.Reads as reads
-use Rattle.nebosvar.proofs.drift.written_out.Lts as lts
 
 enum-known-a : tie.Need-enum-known-a
 enum-known-a c = search needs
