@@ -190,7 +190,7 @@ def install(prefix):
     """What `make install` puts there, and that the programs among it run."""
     subprocess.run(["make", "--silent", "-C", ROOT, "install", "PREFIX=%s" % prefix], check=True)
     put = {str(p.relative_to(prefix)) for p in prefix.rglob("*") if p.is_file()}
-    wanted = {"bin/receive", "bin/inspect", "lib/libnebosvar.a", "lib/pkgconfig/nebosvar.pc", "include/nebosvar.h"}
+    wanted = {"bin/receive", "bin/inspect", "bin/driftlist", "lib/libnebosvar.a", "lib/pkgconfig/nebosvar.pc", "include/nebosvar.h"}
     assert put == wanted, put ^ wanted
     printed = subprocess.run(program.under_the_kit(prefix / "bin" / "receive"), input=program.EXAMPLE.stdin, capture_output=True, check=True).stdout
     assert printed == program.PRINTED, printed

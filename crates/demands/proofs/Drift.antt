@@ -19,12 +19,11 @@ use Rattle.carousel_handout.specs.Calls.{handoutNumber, handedOut}
 use Rattle.receiver.specs.Run.{Held, walk}
 use Rattle.drift_list.specs.declared.Fix.{Fix}
 use Rattle.drift_list.specs.declared.Reading.the-variants as reading
-use Rattle.drift_list.specs.declared.FixAnswer.{FixAnswer}
 use Rattle.drift_list.specs.declared.FixAnswer.the-variants as answer
 use Rattle.drift_list.specs.Values.{fixOf}
 use Rattle.drift_list.specs.Reading.{countOf, fixAt, readRefusal}
 use Rattle.drift_list.specs.Answers.{listAnswer, fixAnswer, walkAnswer}
-use Rattle.drift_list.proofs.Answers.{found-told, nothing-read}
+use Rattle.drift_list.proofs.Answers.{found-not-refused, found-told, nothing-read}
 use Rattle.demands.specs.Demand.{Begun, NoNew, told, modules, blocks, matches, firstMatching, Came, joinedBlocks, heardModule, Call, called, tookBy}
 use Rattle.demands.proofs.Given.{begun-ruled}
 use Rattle.demands.proofs.Three.{completeness, handed-out, content-handed-out, calls-walk}
@@ -74,13 +73,6 @@ module _ (x : Held) (start : Begun x) (i : ℕ) (there : i < modules x) (ss : Li
       × (readRefusal (heardModule x i ss) ≡ 0) × (k < countOf (heardModule x i ss)) × (f ≡ fixOf (fixAt (heardModule x i ss) k))
   position-heard k f e = go (eqb (handoutOf x i y) 0) refl
     where
-      clash : {A : Type 0} → answer.Refused 30 ≡ answer.Found f → A
-      clash c = let z : _≡_ {A = ℕ} 1 0 = ap told-apart c in absurd (omega (arith, z))
-        where
-          told-apart : FixAnswer → ℕ
-          told-apart (answer.Refused n) = 1
-          told-apart (answer.Found g) = 0
-
       go : (t : Bool) → eqb (handoutOf x i (walk x ss)) 0 ≡ t → ((b : ℕ) → b < blocks x i → Came x i b ss)
           × (readRefusal (heardModule x i ss) ≡ 0) × (k < countOf (heardModule x i ss)) × (f ≡ fixOf (fixAt (heardModule x i ss) k))
       go true t =
@@ -89,7 +81,7 @@ module _ (x : Held) (start : Begun x) (i : ℕ) (there : i < modules x) (ss : Li
           (handed-out x start i there ss no .0 h, r .0, r .1, r .2)
       go false t =
           let z = refused-empty x i (walk x ss) (eqb-false (handoutOf x i (walk x ss)) 0 t) in
-          clash (sym (nothing-read .1 k .0) ∙ ap (λ (s : List ℕ). fixAnswer s k) (sym z) ∙ e)
+          absurd (found-not-refused f 30 (sym e ∙ ap (λ (s : List ℕ). fixAnswer s k) z ∙ nothing-read .1 k .0))
 
 -- LAST WEEK'S BYTES DON'T MATTER: from two starts with the same announcement and images of one length, whatever bytes and marks were in them before, the same run reads the same
 module _ (x x′ : Held) (start : Begun x) (start′ : Begun x′) (same : told x ≡ told x′) (long : length (x .image) ≡ length (x′ .image))

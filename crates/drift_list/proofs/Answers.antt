@@ -79,34 +79,38 @@ module _ (s : List ℕ) (k : ℕ) where
       go x true e = ltb-true k (countOf s) e
       go x false e = let r = walk-19 x (ltb-false k (countOf s) e) in absurd (omega (arith, r, z))
 
+-- an answer that is a record is no refusal, and no other record
+abbrev number : FixAnswer → ℕ
+number (answer.Refused n) = n
+number (answer.Found g) = 0
+
+abbrev isFound : FixAnswer → ℕ
+isFound (answer.Found f) = 1
+isFound (answer.Refused n) = 0
+
+abbrev fixIn : Fix → FixAnswer → Fix
+fixIn g (answer.Found f) = f
+fixIn g (answer.Refused n) = g
+
+pub found-not-refused : (f : Fix) (n : ℕ) → answer.Found f ≡ answer.Refused n → ⊥
+found-not-refused f n e = let z : _≡_ {A = ℕ} 1 0 = ap isFound e in omega (arith, z)
+
+pub found-same : (f g : Fix) → answer.Found f ≡ answer.Found g → f ≡ g
+found-same f g e = ap (fixIn f) e
+
 -- a record that was found is one of an accepted list
 pub found-told : (s : List ℕ) (k : ℕ) (f : Fix) → fixAnswer s k ≡ answer.Found f → (readRefusal s ≡ 0) × (k < countOf s) × (f ≡ fixOf (fixAt s k))
 unfolding fixAnswer
 found-told s k f e = go (eqb (readRefusal s) 0) (ltb k (countOf s)) refl refl e
   where
-    sort : FixAnswer → ℕ
-    sort (answer.Refused n) = 1
-    sort (answer.Found g) = 0
-
-    fixIn : FixAnswer → Fix
-    fixIn (answer.Refused n) = fixOf (fixAt s k)
-    fixIn (answer.Found g) = g
-
-    clash : {A : Type 0} (n : ℕ) → answer.Refused n ≡ answer.Found f → A
-    clash n c = let z : _≡_ {A = ℕ} 1 0 = ap sort c in absurd (omega (arith, z))
-
     go : (t u : Bool) → eqb (readRefusal s) 0 ≡ t → ltb k (countOf s) ≡ u
         → cond t (cond u (answer.Found (fixOf (fixAt s k))) (answer.Refused 19)) (answer.Refused (readRefusal s)) ≡ answer.Found f
         → (readRefusal s ≡ 0) × (k < countOf s) × (f ≡ fixOf (fixAt s k))
-    go true true t u e = (eqb-true (readRefusal s) 0 t, ltb-true k (countOf s) u, sym (ap fixIn e))
-    go true false t u e = clash 19 e
-    go false u t v e = clash (readRefusal s) e
+    go true true t u e = (eqb-true (readRefusal s) 0 t, ltb-true k (countOf s) u, found-same f (fixOf (fixAt s k)) (sym e))
+    go true false t u e = absurd (found-not-refused f 19 (sym e))
+    go false u t v e = absurd (found-not-refused f (readRefusal s) (sym e))
 
 -- 19 exactly past the last record of an accepted list
-abbrev number : FixAnswer → ℕ
-number (answer.Refused n) = n
-number (answer.Found g) = 0
-
 not-19 : (s : List ℕ) → readRefusal s ≡ 19 → ⊥
 not-19 s e = by-length s
     (λ x. let r = exact-answers s x in let w = fault-within s (λ z. omega (arith, r, e, z)) .0 in omega (arith, r, e, w))

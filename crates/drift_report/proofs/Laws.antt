@@ -1,0 +1,5 @@
+pub mod Written
+pub mod Numbers
+pub mod Lines
+pub mod Pages
+pub mod Asked

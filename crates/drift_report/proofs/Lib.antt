@@ -1,0 +1,5 @@
+pub mod Laws
+pub mod Meaning
+pub mod Whole
+pub mod Soundings
+pub mod Unique
