@@ -1,9 +1,9 @@
 // What stands in the bits of a record.
 use crate::Fields;
 ghost use mathlib.Core.Path.{_≡_};
-ghost use Prim.Native.Nat.{_<_};
-ghost use Rattle.wire.specs.Fields.{fieldAt, bits};
-ghost use Rattle.wire.specs.Signed.{signed};
+ghost use Prim.Native.Nat.{ℕ, _*_, _^_, _<_, _≤_};
+ghost use Rattle.wire.specs.Fields.{fieldAt};
+ghost use Rattle.wire.specs.Signed.{signed as wire·signed};
 ghost use Rattle.drift_list.specs.Reading.{fieldsFrom, spareFrom};
 
 // The record that a slice begins with.
@@ -14,8 +14,8 @@ pub fn fields_of(s: &[u8]) -> Fields
     let low = sixty_four_at(s, 4);
     let buoy = ((high >> 44) % 0x10_0000) as u32;
     let state = ((high >> 42) % 4) as u8;
-    let longitude = signed28(high >> 14);
-    let latitude = signed27(low >> 19);
+    let longitude = signed(((high >> 14) % 0x1000_0000) as u32, 0x0800_0000);
+    let latitude = signed(((low >> 19) % 0x0800_0000) as u32, 0x0400_0000);
     let minute = ((low >> 5) % 0x4000) as u16;
     Fields {
         buoy: buoy,
@@ -51,24 +51,13 @@ fn sixty_four_at(s: &[u8], at: usize) -> u64
     ((wire::thirty_two_at(from, 0) as u64) << 32) | wire::thirty_two_at(from, 4) as u64
 }
 
-// What 28 bits say in two's complement; of more bits the low 28.
-fn signed28(x: u64) -> i32
-    ensures { λ r. ⌜ r ≡ signed 27 (bits 0 28 x) ⌝ }
+// What bits say in two's complement, where the sign's is `half`.
+fn signed(v: u32, half: u32) -> i32
+    requires { ⌜ (v < half * 2) × (half ≤ 134217728) ⌝ }
+    ensures { λ r. ⌜ ((h : ℕ) → half ≡ 2 ^ h → r ≡ wire·signed h v) ⌝ }
 {
-    let v = (x % 0x1000_0000) as u32;
-    if v < 0x0800_0000 {
+    if v < half {
         return v as i32;
     }
-    !((0x0FFF_FFFF - v) as i32)
-}
-
-// What 27 bits say.
-fn signed27(x: u64) -> i32
-    ensures { λ r. ⌜ r ≡ signed 26 (bits 0 27 x) ⌝ }
-{
-    let v = (x % 0x0800_0000) as u32;
-    if v < 0x0400_0000 {
-        return v as i32;
-    }
-    !((0x07FF_FFFF - v) as i32)
+    !((half * 2 - 1 - v) as i32)
 }

@@ -1,6 +1,6 @@
 -- `drift_list::pack::put_fix` meets its contract: three words are the record's twelve bytes.
 use Prim.Native.Nat.{_<_, _^_}
-use mathlib.Core.Path.{_≡_, ap, _∙_}
+use mathlib.Core.Path.{_≡_, refl, ap, _∙_}
 use native.Mathlib.Omega.{arith}
 use mir.Syntax.{w32}
 use mir.ValLaws.{toZ-ofZ}
@@ -14,36 +14,36 @@ use Rattle.drift_list.proofs.pack.put_fix.Tie as tie
 abbrev start-of-after-slice-known : tie.After-slice-known → tie.Start
 start-of-after-slice-known c = c .before
 
-abbrev start-of-after-bits27 : tie.After-bits27 → tie.Start
-start-of-after-bits27 c = start-of-after-slice-known (c .before .before .before .before)
+abbrev start-of-after-twos2 : tie.After-twos2 → tie.Start
+start-of-after-twos2 c = start-of-after-slice-known (c .before .before .before .before)
 
-abbrev after-bits27-of-after-struct-known : tie.After-struct-known → tie.After-bits27
-after-bits27-of-after-struct-known c = c .before
+abbrev after-twos2-of-after-struct-known : tie.After-struct-known → tie.After-twos2
+after-twos2-of-after-struct-known c = c .before
 
-abbrev after-bits27-of-after-put-four : tie.After-put-four → tie.After-bits27
-after-bits27-of-after-put-four c = after-bits27-of-after-struct-known (c .before .before .before .before)
+abbrev after-twos2-of-after-put-four : tie.After-put-four → tie.After-twos2
+after-twos2-of-after-put-four c = after-twos2-of-after-struct-known (c .before .before .before .before)
 
 -- the two coordinates' bits
-x-is : (c : tie.After-bits28) → c .bits28 .result ≡ twos 27 (c .before .before .before .args .f .longitude)
-x-is c = c .bits28 .ensures ∙ ap (twos 27) (toZ-ofZ w32 (c .before .before .before .args .f .longitude) (record { sfits = c .before .struct-told .given .1 .1 .0 .1 }))
+x-is : (c : tie.After-twos) → c .twos .result ≡ twos 27 (c .before .before .before .args .f .longitude)
+x-is c = c .twos .ensures 27 refl ∙ ap (twos 27) (toZ-ofZ w32 (c .before .before .before .args .f .longitude) (record { sfits = c .before .struct-told .given .1 .1 .0 .1 }))
 
-y-is : (c : tie.After-bits27) → c .bits27 .result ≡ twos 26 (start-of-after-bits27 c .args .f .latitude)
-y-is c = c .bits27 .ensures ∙ ap (twos 26) (toZ-ofZ w32 (start-of-after-bits27 c .args .f .latitude) (record { sfits = c .before .before .before .struct-told .given .1 .1 .1 .0 .1 }))
+y-is : (c : tie.After-twos2) → c .twos2 .result ≡ twos 26 (start-of-after-twos2 c .args .f .latitude)
+y-is c = c .twos2 .ensures 26 refl ∙ ap (twos 26) (toZ-ofZ w32 (start-of-after-twos2 c .args .f .latitude) (record { sfits = c .before .before .before .struct-told .given .1 .1 .1 .0 .1 }))
 
-high-fits : (c : tie.After-bits27)
-    → highOf (start-of-after-bits27 c .args .f) (start-of-after-bits27 c .pre .1) (c .before .before .bits28 .result) (c .bits27 .result) (x-is (c .before .before)) (y-is c) < 2 ^ 64
+high-fits : (c : tie.After-twos2)
+    → highOf (start-of-after-twos2 c .args .f) (start-of-after-twos2 c .pre .1) (c .before .before .twos .result) (c .twos2 .result) (x-is (c .before .before)) (y-is c) < 2 ^ 64
 high-fits c =
-    let s = start-of-after-bits27 c in
-    high-lt (s .args .f) (s .pre .1) (c .before .before .bits28 .result) (c .bits27 .result) (x-is (c .before .before)) (y-is c)
+    let s = start-of-after-twos2 c in
+    high-lt (s .args .f) (s .pre .1) (c .before .before .twos .result) (c .twos2 .result) (x-is (c .before .before)) (y-is c)
 
-bits28-requires : tie.Need-bits28-requires
-bits28-requires c κs = search needs
+twos-requires : tie.Need-twos-requires
+twos-requires c κs = search needs
 
 cast-x : tie.Need-cast-x
 cast-x c = search needs
 
-bits27-requires : tie.Need-bits27-requires
-bits27-requires c κs = search needs
+twos-requires-2 : tie.Need-twos-requires-2
+twos-requires-2 c κs = search needs
 
 cast-y : tie.Need-cast-y
 cast-y c = search needs
@@ -116,18 +116,18 @@ returns c =
     let p₃ = c .before .before in
     let p₂ = p₃ .before .before .before .before in
     let p₁ = p₂ .before .before .before .before in
-    let b = after-bits27-of-after-put-four p₁ in
-    let a = start-of-after-bits27 b in
-    record-put (a .args .f) (a .pre .1) (b .before .before .bits28 .result) (b .bits27 .result) (x-is (b .before .before)) (y-is b) (a .args .out .now) _ _ _ (a .args .at)
+    let b = after-twos2-of-after-put-four p₁ in
+    let a = start-of-after-twos2 b in
+    record-put (a .args .f) (a .pre .1) (b .before .before .twos .result) (b .twos2 .result) (x-is (b .before .before)) (y-is b) (a .args .out .now) _ _ _ (a .args .at)
     (p₁ .put-four .ensures) (p₂ .put-four2 .ensures) (p₃ .put-four3 .ensures)
 
 pub put-fix-spec : {M : Type 1} → statement M
 put-fix-spec =
     tie.close
     (tie.spec
-    bits28-requires
+    twos-requires
     cast-x
-    bits27-requires
+    twos-requires-2
     cast-y
     cast-high
     mul-high
