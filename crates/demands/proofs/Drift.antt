@@ -7,15 +7,16 @@
 use Prim.Native.Nat.{ℕ, _<_}
 use mathlib.Core.Path.{_≡_, refl, sym, ap, ap₂, _∙_}
 use mathlib.Core.Bool.{Bool, true, false}
-use mathlib.Core.List.{List, []}
+use mathlib.Core.List.{List}
 use native.Mathlib.Omega.{arith}
 use lib.Dec.{eqb}
 use lib.ListN.{length}
-use borrow.Author.Tests.{eqb-true, eqb-false, ne-eqb}
+use borrow.Author.Tests.{eqb-true, eqb-false}
 use Rattle.carousel_messages.specs.Heard.{Announced, heardOf}
 use Rattle.carousel_record.specs.Record.{moduleAt, blockCount}
 use Rattle.carousel_step.specs.Matching.{heardMatches}
 use Rattle.carousel_handout.specs.Calls.{handoutNumber, handedOut}
+use Rattle.carousel_handout.proofs.Complete.{handout-empty}
 use Rattle.receiver.specs.Run.{Held, walk}
 use Rattle.drift_list.specs.declared.Fix.{Fix}
 use Rattle.drift_list.specs.declared.Reading.the-variants as reading
@@ -38,11 +39,6 @@ handedOf x i y = handedOut (y .state) (y .image) (numberAt x i)
 abbrev pub handoutOf : (x : Held) (i : ℕ) → Held → ℕ
 handoutOf x i y = handoutNumber (y .state) (y .image) (numberAt x i)
 
--- what is handed out where the hand-out refuses: nothing
-refused-empty : (x : Held) (i : ℕ) (y : Held) → (handoutOf x i y ≡ 0 → ⊥) → handedOf x i y ≡ []
-unfolding handedOut
-refused-empty x i y n = rw (ne-eqb (handoutOf x i y) 0 n)
-
 module _ (x : Held) (start : Begun x) (i : ℕ) (there : i < modules x) (ss : List (List ℕ)) (no : NoNew x ss) where
   abbrev y : Held
   y = walk x ss
@@ -64,7 +60,7 @@ module _ (x : Held) (start : Begun x) (i : ℕ) (there : i < modules x) (ss : Li
       × ((k : ℕ) → (fixAnswer (handedOf x i y) k ≡ answer.Refused 30) × (walkAnswer (handedOf x i y) k ≡ answer.Refused 30))
   nothing-drawn b l n =
       let h : handoutOf x i y ≡ 0 → ⊥ = λ e. n (handed-out x start i there ss no .0 e b l) in
-      let e = refused-empty x i y h in
+      let e = handout-empty _ _ _ h in
       (h, ap listAnswer e ∙ nothing-read .0, λ k. (ap (λ (s : List ℕ). fixAnswer s k) e ∙ nothing-read .1 k .0, ap (λ (s : List ℕ). walkAnswer s k) e ∙ nothing-read .1 k .1))
 
   -- A POSITION THAT IS DRAWN WAS HEARD: every block of the list came since the announcement, and the position stands in their data
@@ -80,7 +76,7 @@ module _ (x : Held) (start : Begun x) (i : ℕ) (there : i < modules x) (ss : Li
           let r = found-told (heardModule x i ss) k f (sym (drawn h .1 k) ∙ e) in
           (handed-out x start i there ss no .0 h, r .0, r .1, r .2)
       go false t =
-          let z = refused-empty x i (walk x ss) (eqb-false (handoutOf x i (walk x ss)) 0 t) in
+          let z = handout-empty _ _ _ (eqb-false (handoutOf x i (walk x ss)) 0 t) in
           absurd (found-not-refused f 30 (sym e ∙ ap (λ (s : List ℕ). fixAnswer s k) z ∙ nothing-read .1 k .0))
 
 -- LAST WEEK'S BYTES DON'T MATTER: from two starts with the same announcement and images of one length, whatever bytes and marks were in them before, the same run reads the same
@@ -114,8 +110,8 @@ module _ (x x′ : Held) (start : Begun x) (start′ : Begun x′) (same : told 
       go false t =
           let n = eqb-false (handoutOf x i (walk x ss)) 0 t in
           let b = blocks-alike in
-          refused-empty x i (walk x ss) n
-          ∙ sym (refused-empty x′ i (walk x′ ss) (λ h′. n (handed-out x start i there ss no .1 (λ k l. came-back k (handed-out x′ start′ i there′ ss no′ .0 h′ k (omega (arith, b, l)))))))
+          handout-empty _ _ _ n
+          ∙ sym (handout-empty _ _ _ (λ h′. n (handed-out x start i there ss no .1 (λ k l. came-back k (handed-out x′ start′ i there′ ss no′ .0 h′ k (omega (arith, b, l)))))))
 
 -- OVER CALLS OF `run`, and of the entries in place: the same, of the sections that they took
 module _ (x : Held) (start : Begun x) (i : ℕ) (there : i < modules x) (ks : List Call) (no : NoNew x (tookBy ks)) where

@@ -3,3 +3,4 @@ pub mod Meaning
 pub mod Whole
 pub mod Soundings
 pub mod Unique
+pub mod Lacks
