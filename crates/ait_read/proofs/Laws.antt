@@ -7,4 +7,5 @@ pub mod Spans
 pub mod Exact
 pub mod Numbers
 pub mod Located
+pub mod Told
 pub mod Sole

@@ -3,6 +3,7 @@ use crate::Located;
 use section::Checked;
 use section::Refusal;
 use section::Rules;
+use section::Spot;
 use wire::Place;
 ghost use mathlib.Core.Path.{_≡_};
 ghost use Rattle.ait_read.specs.Acceptance.{tableJudged};
@@ -19,7 +20,10 @@ pub fn judge(s: &[u8]) -> Checked
             let e = s.len() - 4;
             let number = ait_body::body_refusal(&s[8..e]);
             if number != 0 {
-                return Checked::Refused(Refusal { number: number });
+                return Checked::Refused(Refusal {
+                    number,
+                    place: Spot::Nowhere,
+                });
             }
             Checked::Accepted(h)
         }
@@ -35,7 +39,10 @@ pub fn locate(s: &[u8], p: Place) -> Located
         Checked::Refused(r) => Located::Refused(r),
         Checked::Accepted(_) => match p {
             Place::At { start, size } => Located::At { start, size },
-            Place::Nothing => Located::Refused(Refusal { number: 19 }),
+            Place::Nothing => Located::Refused(Refusal {
+                number: 19,
+                place: Spot::Nowhere,
+            }),
         },
     }
 }

@@ -11,6 +11,7 @@ use carousel_record::is_ruled;
 use carousel_record::place_of;
 use lacks::lack_of;
 use section::Refusal;
+use section::Spot;
 ghost use mathlib.Core.Path.{_≡_};
 ghost use Prim.Native.Nat.{_+_, _≤_};
 ghost use lib.ListN.{length, take, drop};
@@ -93,11 +94,17 @@ pub fn missing(c: Carousel, number: u16) -> Report
     ensures { λ r. ⌜ (r ≡ reportOf c number) × (numberOfReport r ≡ missingNumber c number) ⌝ }
 {
     if !is_ruled(c) {
-        return Report::Refused(Refusal { number: 1 });
+        return Report::Refused(Refusal {
+            number: 1,
+            place: Spot::Nowhere,
+        });
     }
     let i = place_of(c, number);
     if c.count as usize <= i {
-        return Report::Refused(Refusal { number: 13 });
+        return Report::Refused(Refusal {
+            number: 13,
+            place: Spot::Nowhere,
+        });
     }
     let lack = lack_of(c, i);
     if lack.count == 0 {

@@ -3,3 +3,4 @@ pub mod Exact
 pub mod Soundings
 pub mod Unique
 pub mod Good
+pub mod Told

@@ -9,6 +9,7 @@ use crate::modules::modules_end;
 use crate::modules::modules_start;
 use section::Header;
 use section::Refusal;
+use section::Spot;
 use wire::byte_at;
 use wire::eight_at;
 use wire::sixteen_at;
@@ -27,7 +28,10 @@ pub fn judge_message(b: &[u8], h: Header) -> Judged
     let table = table_of(h.table);
     let number = message_refusal(b, table, h);
     if number != 0 {
-        return Judged::Refused(Refusal { number: number });
+        return Judged::Refused(Refusal {
+            number,
+            place: Spot::Nowhere,
+        });
     }
     match table {
         CarouselTable::Announcements => Judged::Announced(announcement_of(b)),

@@ -5,6 +5,7 @@ pub mod Matching
 pub mod Simulation
 pub mod Steps
 pub mod Exact
+pub mod Told
 pub mod Longest
 pub mod Soundings
 pub mod Unique

@@ -9,6 +9,7 @@ use carousel_record::is_marked;
 use carousel_record::place_of;
 use carousel_record::with_mark;
 use section::Refusal;
+use section::Spot;
 ghost use mathlib.Core.Path.{_≡_};
 ghost use Prim.Native.Nat.{_+_, _<_, _≤_};
 ghost use mathlib.Core.Bool.{true};
@@ -37,7 +38,10 @@ pub fn refuse(c: Carousel, number: u8) -> Stepped
     ensures { λ r. ⌜ r ≡ returning c (refusing (refused number)) ⌝ }
 {
     Stepped {
-        answer: Answer::Refused(Refusal { number: number }),
+        answer: Answer::Refused(Refusal {
+            number,
+            place: Spot::Nowhere,
+        }),
         state: c,
     }
 }

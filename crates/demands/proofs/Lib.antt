@@ -12,3 +12,4 @@ pub mod One
 pub mod Bearings
 pub mod Relays
 pub mod Drift
+pub mod Places

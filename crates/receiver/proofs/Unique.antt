@@ -16,6 +16,8 @@ use Rattle.receiver.proofs.carousel_fate.Kinds as carousel-fate-kinds
 use Rattle.receiver.proofs.carousel_fate.Reads as carousel-fate-reads
 use Rattle.receiver.proofs.fate_number.Kinds as fate-number-kinds
 use Rattle.receiver.proofs.fate_number.Reads as fate-number-reads
+use Rattle.receiver.proofs.fate_place.Kinds as fate-place-kinds
+use Rattle.receiver.proofs.fate_place.Reads as fate-place-reads
 use Rattle.receiver.proofs.kind_number.Kinds as kind-number-kinds
 use Rattle.receiver.proofs.kind_number.Reads as kind-number-reads
 use Rattle.receiver.proofs.stop_number.Kinds as stop-number-kinds
@@ -35,6 +37,9 @@ carousel-fate κs a x y s t p q = p ∙ sym q
 
 fate-number : OneAnswer 0 fate-number-kinds.ps fate-number-kinds.r fate-number-reads.Post
 fate-number κs a x y s t p q = p ∙ sym q
+
+fate-place : OneAnswer 0 fate-place-kinds.ps fate-place-kinds.r fate-place-reads.Post
+fate-place κs a x y s t p q = p ∙ sym q
 
 kind-number : OneAnswer 0 kind-number-kinds.ps kind-number-kinds.r kind-number-reads.Post
 kind-number κs a x y s t p q = p ∙ sym q

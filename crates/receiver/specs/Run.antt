@@ -6,6 +6,8 @@ use lib.Dec.{eqb, ltb}
 use lib.ListN.{length, take, drop}
 use Rattle.wire.specs.Fields.{byteAt}
 use Rattle.wire.specs.Tests.{firstMet}
+use Rattle.section.specs.declared.Spot.{Spot}
+use Rattle.section.specs.declared.Spot.the-variants.{Nowhere}
 use Rattle.section.specs.Header.{lengthOf, applicationTable}
 use Rattle.ait_read.specs.declared.ReadAnswer.{ReadAnswer}
 use Rattle.ait_read.specs.declared.ReadAnswer.the-variants as reading
@@ -74,7 +76,16 @@ numberOfFate fate.Same = 0
 numberOfFate fate.Stored = 0
 numberOfFate fate.Repeated = 0
 
--- and by the paper's numbered cases, in their order, of the application section or of the carousel's step
+-- and its place: 02, §9
+abbrev pub placeOfFate : Fate → Spot
+placeOfFate (fate.Refused r) = r .place
+placeOfFate fate.Table = Nowhere
+placeOfFate fate.New = Nowhere
+placeOfFate fate.Same = Nowhere
+placeOfFate fate.Stored = Nowhere
+placeOfFate fate.Repeated = Nowhere
+
+-- the number by the paper's numbered cases, in their order, of the application section or of the carousel's step
 abbrev pub givenNumber : Carousel → (s image : List ℕ) → ℕ
 givenNumber c s image = cond (eqb (byteAt s 0) applicationTable) (readNumber s) (firstMet (stepTests c s image))
 

@@ -8,12 +8,14 @@ use ait_read::ReadAnswer;
 use carousel_record::Carousel;
 use carousel_step::Answer;
 use section::Refusal;
+use section::Spot;
 ghost use mathlib.Core.Path.{_≡_};
 ghost use mathlib.Core.Bool.{true};
 ghost use Prim.Native.Nat.{_≤_};
 ghost use lib.ListN.{length};
 ghost use Rattle.carousel_record.specs.Record.{ruledOf};
-ghost use Rattle.receiver.specs.Run.{stoppedBy, wholeAt, stopAt, givenOf, imageGiven, tookOf, imageTook, numberTook, tookNumber, ranOf, imageRan, tableFate, carouselFate, numberOfFate};
+ghost use Rattle.receiver.specs.Run.{stoppedBy, wholeAt, stopAt, givenOf, imageGiven, tookOf, imageTook, numberTook, tookNumber, ranOf, imageRan, tableFate, carouselFate};
+ghost use Rattle.receiver.specs.Run.{numberOfFate, placeOfFate};
 ghost use Rattle.receiver.specs.Kinds.{kindNumber, stopNumber};
 
 // The byte that fills a stretch after its last section.
@@ -127,6 +129,20 @@ pub fn fate_number(f: Fate) -> u8
         Fate::Stored => 0,
         Fate::Repeated => 0,
         Fate::Refused(r) => r.number,
+    }
+}
+
+// Where it broke; nowhere if it was accepted.
+pub fn fate_place(f: Fate) -> Spot
+    ensures { λ r. ⌜ r ≡ placeOfFate f ⌝ }
+{
+    match f {
+        Fate::Table => Spot::Nowhere,
+        Fate::New => Spot::Nowhere,
+        Fate::Same => Spot::Nowhere,
+        Fate::Stored => Spot::Nowhere,
+        Fate::Repeated => Spot::Nowhere,
+        Fate::Refused(r) => r.place,
     }
 }
 

@@ -1,3 +1,4 @@
 pub mod Crc
 pub mod Refusals
 pub mod Exact
+pub mod Places

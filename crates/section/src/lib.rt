@@ -6,7 +6,8 @@ mod register;
 
 ghost use mathlib.Core.Path.{_≡_};
 ghost use Rattle.section.specs.Header.{isTable, limitOf, headerOf};
-ghost use Rattle.section.specs.Refusals.{refusalOf};
+ghost use mathlib.Core.Bool.{not, cond};
+ghost use Rattle.section.specs.Refusals.{refusalOf, misframed, spotOf};
 ghost use Rattle.section.specs.Answer.{numberOfChecked, checkedOf};
 pub use register::crc;
 
@@ -21,15 +22,32 @@ pub const APPLICATION_LIMIT: usize = 1021;
 
 pub const CAROUSEL_LIMIT: usize = 4093;
 
+// Where in a section its length and syntax indicator stand, its current_next, and its numbers.
+const LENGTH_AT: usize = 1;
+
+const CURRENT_AT: usize = 5;
+
+const NUMBERS_AT: usize = 6;
+
+// The bytes of the CRC, its last.
+const CRC_SIZE: usize = 4;
+
 // By whose rules a section is judged: the application's, or the carousel's.
 pub enum Rules {
     Application,
     Carousel,
 }
 
-// A refusal, by its number in the paper. Callers hand it on as it is.
+// Where a section broke: a byte, counted from its first.
+pub enum Spot {
+    Nowhere,
+    Byte(usize),
+}
+
+// A refusal: its number in the paper and, for 2 to 6, its place. Callers hand it on as it is.
 pub struct Refusal {
     pub number: u8,
+    pub place: Spot,
 }
 
 // The fields of an accepted section's header.
@@ -52,7 +70,8 @@ pub fn check(s: &[u8], rules: Rules) -> Checked
 {
     let number = refusal_number(s, rules);
     if number != 0 {
-        return Checked::Refused(Refusal { number: number });
+        let place = spot_of(s, rules, number);
+        return Checked::Refused(Refusal { number, place });
     }
     Checked::Accepted(header_of(s))
 }
@@ -71,13 +90,7 @@ fn refusal_number(s: &[u8], rules: Rules) -> u8
     if !has_table(rules, s[0]) {
         return 3;
     }
-    if length < 9 {
-        return 4;
-    }
-    if limit(rules) < length {
-        return 4;
-    }
-    if wire::sixteen_at(s, 1) >> 15 == 0 {
+    if !is_framed(s, rules) {
         return 4;
     }
     if s[7] < s[6] {
@@ -90,6 +103,48 @@ fn refusal_number(s: &[u8], rules: Rules) -> u8
         return 6;
     }
     0
+}
+
+// Whether L is within these rules' limits, and the syntax indicator is 1.
+fn is_framed(s: &[u8], rules: Rules) -> bool
+    ensures { λ r. ⌜ not r ≡ misframed rules (now (s .entry)) ⌝ }
+{
+    let length = wire::twelve_at(s, 1);
+    if length < 9 {
+        return false;
+    }
+    if limit(rules) < length {
+        return false;
+    }
+    if wire::sixteen_at(s, 1) >> 15 == 0 {
+        return false;
+    }
+    true
+}
+
+// Where a section broke that is refused with this number.
+fn spot_of(s: &[u8], rules: Rules, number: u8) -> Spot
+    requires { ⌜ number ≡ refusalOf rules (now s) ⌝ }
+    ensures { λ r. ⌜ r ≡ spotOf rules (now (s .entry)) number ⌝ }
+{
+    match number {
+        2 => Spot::Byte(s.len()),
+        3 => Spot::Byte(0),
+        4 => Spot::Byte(header_spot(s, rules)),
+        5 => Spot::Byte(s.len() - CRC_SIZE),
+        6 => Spot::Byte(CURRENT_AT),
+        _ => Spot::Nowhere,
+    }
+}
+
+// Where the header broke: at its numbers only if all before them is right.
+fn header_spot(s: &[u8], rules: Rules) -> usize
+    ensures { λ r. ⌜ r ≡ cond (misframed rules (now (s .entry))) 1 6 ⌝ }
+{
+    if is_framed(s, rules) {
+        return NUMBERS_AT;
+    }
+    LENGTH_AT
 }
 
 // Whether these rules take a table of this number.

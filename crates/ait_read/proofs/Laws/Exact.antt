@@ -1,22 +1,19 @@
 -- WHEN A SECTION IS ACCEPTED, AND WHEN EACH NUMBER ANSWERS IT: exactly the stated case.
-use Prim.Native.Nat.{ℕ, _+_, _<_}
+use Prim.Native.Nat.{ℕ, _<_}
 use mathlib.Core.Path.{_≡_, refl, sym, ap, _∙_}
 use mathlib.Core.Logic.{_↔_}
 use mathlib.Core.Bool.{Bool, true, false, cond}
-use mathlib.Core.List.{List, [], _∷_, _++_}
-use native.Mathlib.Omega.{arith}
+use mathlib.Core.List.{List}
 use lib.Dec.{eqb, lit<}
-use borrow.Author.Tests.{eq-eqb, ne-eqb, eqb-true, eqb-false}
-use Rattle.wire.specs.Tests.{Tests, firstMet, holds, RisingFrom}
+use borrow.Author.Tests.{eqb-true, eqb-false}
+use Rattle.wire.specs.Tests.{firstMet, holds, RisingFrom}
 use Rattle.wire.proofs.Laws.Tests.{lowest-met, met-append}
 use Rattle.section.specs.declared.Rules.the-variants.{Application}
 use Rattle.section.specs.declared.Refusal.{Refusal}
-use Rattle.section.specs.declared.Header.{Header}
-use Rattle.section.specs.declared.Checked.{Checked}
 use Rattle.section.specs.declared.Checked.the-variants.{Refused, Accepted}
 use Rattle.section.specs.Header.{headerOf, bodyOf}
 use Rattle.section.specs.Refusals.{sectionTests, refusalOf}
-use Rattle.section.specs.Answer.{numberOfChecked, refused, checkedOf, onChecked}
+use Rattle.section.specs.Answer.{numberOfChecked}
 use Rattle.section.proofs.Laws.Exact as section
 use Rattle.ait_body.specs.Body.{bodyTests, bodyRefusal}
 use Rattle.ait_body.proofs.Laws.Exact as body
@@ -52,7 +49,7 @@ module _ (s : List ℕ) where
 
       go : (t : Bool) → eqb (refusalOf Application s) 0 ≡ t → numberOfChecked (tableJudged s) ≡ cond t (bodyRefusal (bodyOf s)) (refusalOf Application s)
       go true e = inner (eqb-true _ _ e) (eqb (bodyRefusal (bodyOf s)) 0) refl
-      go false e = ap numberOfChecked (sym (judged-refused s (refused (refusalOf Application s)) (section.refused-with Application s (eqb-false _ _ e))))
+      go false e = ap numberOfChecked (sym (judged-refused s _ (section.refused-with Application s (eqb-false _ _ e))))
 
   -- where none applies, the section is accepted
   pub none-applies : firstMet (applicationTests s) ≡ 0 → tableJudged s ≡ Accepted (headerOf s)

@@ -23,6 +23,7 @@ use Rattle.ait_read.specs.declared.Located.{Located}
 use Rattle.ait_read.specs.declared.Located.the-variants as located
 use Rattle.ait_read.specs.declared.ReadAnswer.the-variants as read
 use Rattle.ait_read.specs.declared.Resolved.{Resolved}
+use Rattle.ait_read.specs.declared.Resolved.the-variants as resolved
 use Rattle.ait_read.specs.Acceptance.{applicationTests, tableJudged}
 use Rattle.ait_read.specs.Places.{applicationAt, descriptorAt, repeatedAt, extensionAt}
 use Rattle.ait_read.specs.Labels.{firstTo, hitAmong, resolvedIn, labelAt}
@@ -81,19 +82,20 @@ module _ {A : Type 0} (number : A → ℕ) (bad : Refusal → A) (good : ℕ →
       go (located.Refused r) = b r
       go (located.At a n) = g a n
 
--- a look-up refuses nothing
-hit-none : (h : Hit) (x : Resolved) (some : ℕ → Resolved) → numberOfResolved x ≡ 0 → ((j : ℕ) → numberOfResolved (some j) ≡ 0) → numberOfResolved (onHit h x some) ≡ 0
-hit-none (Item j) x some e f = f j
-hit-none Missing x some e f = e
+-- what a look-up answers: what holds of its three ways to answer holds of it
+module _ (P : Resolved → Type 0) (own : (j : ℕ) → P (resolved.Own j)) (common : (n j : ℕ) → P (resolved.Common n j)) (none : P resolved.Unresolved) where
+  hit-has : (h : Hit) (x : Resolved) (some : ℕ → Resolved) → P x → ((j : ℕ) → P (some j)) → P (onHit h x some)
+  hit-has (Item j) x some p f = f j
+  hit-has Missing x some p f = p
 
-among-none : (l n : ℕ) (cs : List (List ℕ)) → numberOfResolved (hitAmong l n cs) ≡ 0
-unfolding hitAmong
-among-none l n [] = refl
-among-none l n (c ∷ cs) = hit-none (firstTo (Labelled l) c) _ _ (among-none l (n + 1) cs) (λ j. refl)
+  among-has : (l n : ℕ) (cs : List (List ℕ)) → P (hitAmong l n cs)
+  unfolding hitAmong
+  among-has l n [] = none
+  among-has l n (c ∷ cs) = hit-has (firstTo (Labelled l) c) _ _ (among-has l (n + 1) cs) (λ j. common n j)
 
-resolved-none : (l : ℕ) (own : List ℕ) (cs : List (List ℕ)) → numberOfResolved (resolvedIn l own cs) ≡ 0
-unfolding resolvedIn
-resolved-none l own cs = hit-none (firstTo (Labelled l) own) _ _ (among-none l 0 cs) (λ j. refl)
+  pub resolved-has : (l : ℕ) (first : List ℕ) (cs : List (List ℕ)) → P (resolvedIn l first cs)
+  unfolding resolvedIn
+  resolved-has l first cs = hit-has (firstTo (Labelled l) first) _ _ (among-has l 0 cs) own
 
 -- THE CALLS BY PLACE
 module _ (s : List ℕ) where
@@ -115,4 +117,4 @@ module _ (s : List ℕ) where
 
   pub resolve-number : (i k : ℕ) → numberOfResolved (resolveAnswer s i k) ≡ placeNumber s (labelAt i k s)
   unfolding resolveAnswer
-  resolve-number i k = by-place numberOfResolved _ _ (λ r. refl) (λ a n. resolved-none _ _ _) s (labelAt i k s)
+  resolve-number i k = by-place numberOfResolved _ _ (λ r. refl) (λ a n. resolved-has (λ x. numberOfResolved x ≡ 0) (λ j. refl) (λ n j. refl) refl _ _ _) s (labelAt i k s)

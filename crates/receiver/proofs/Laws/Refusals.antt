@@ -1,12 +1,10 @@
--- A refusal's number is one of the paper's and not 0, and a refusal changes nothing: of the step, of a table and of whatever section is taken.
+-- A refusal's number is one of the paper's and not 0, its place is that number's, and a refusal changes nothing: of the step, of a table and of whatever section is taken.
 use Prim.Native.Nat.{ℕ, _≤_}
 use mathlib.Core.Path.{_≡_, refl, sym, ap, _∙_}
 use mathlib.Core.Bool.{Bool, true, false, cond}
 use mathlib.Core.List.{List, [], _∷_, _++_}
 use native.Mathlib.Omega.{arith}
 use lib.Dec.{eqb, lit≤}
-use lib.ListN.{length}
-use borrow.Author.Tests.{eqb-false}
 use Rattle.wire.specs.Fields.{byteAt}
 use Rattle.wire.specs.Tests.{Tests, firstMet}
 use Rattle.section.specs.declared.Refusal.{Refusal}
@@ -16,31 +14,26 @@ use Rattle.section.specs.declared.Rules.the-variants.{Carousel as Carousels}
 use Rattle.section.specs.declared.Header.{Header}
 use Rattle.section.specs.Header.{applicationTable, headerOf, bodyOf}
 use Rattle.section.specs.Refusals.{sectionTests}
-use Rattle.section.specs.declared.Checked.{Checked}
-use Rattle.section.specs.declared.Checked.the-variants as checked
-use Rattle.section.specs.Answer.{refused, checkedOf, onChecked}
-use Rattle.section.proofs.Laws.Exact.{refused-has}
-use Rattle.ait_body.specs.Body.{bodyTests, bodyRefusal}
+use Rattle.section.specs.Answer.{Told}
+use Rattle.ait_body.specs.Body.{bodyTests}
 use Rattle.ait_read.specs.declared.ReadAnswer.{ReadAnswer}
 use Rattle.ait_read.specs.declared.ReadAnswer.the-variants as reading
-use Rattle.ait_read.specs.Acceptance.{applicationTests, tableJudged}
-use Rattle.ait_read.specs.Answers.{readTable, readAnswer, readNumber, numberOfRead}
+use Rattle.ait_read.specs.Acceptance.{applicationTests}
+use Rattle.ait_read.specs.Answers.{readAnswer, readNumber, numberOfRead}
 use Rattle.ait_read.proofs.Laws.Numbers.{read-number}
+use Rattle.ait_read.proofs.Laws.Told.{read-told}
 use Rattle.carousel_messages.specs.declared.CarouselTable.{CarouselTable}
 use Rattle.carousel_messages.specs.declared.CarouselTable.the-variants.{Announcements, Blocks}
 use Rattle.carousel_messages.specs.Refusals.{messageTests}
-use Rattle.carousel_messages.specs.declared.Judged.{Judged}
-use Rattle.carousel_messages.specs.declared.Judged.the-variants as judged
-use Rattle.carousel_messages.specs.Judged.{readOf, judgedOf, numberOfJudged, carouselTableIn, carouselTests}
-use Rattle.carousel_messages.proofs.Exact.{taken-exactly}
-use Rattle.carousel_messages.specs.Heard.{Announced, Arrived, Heard, refusal, announced, arrived, heardIn, heardOf}
+use Rattle.carousel_messages.specs.Judged.{carouselTableIn, carouselTests}
+use Rattle.carousel_messages.specs.Heard.{Heard, refusal, announced, arrived, heardOf}
 use Rattle.carousel_record.specs.declared.Carousel.{Carousel}
 use Rattle.carousel_step.specs.declared.Answer.{Answer}
 use Rattle.carousel_step.specs.declared.Answer.the-variants as answer
-use Rattle.carousel_record.specs.Record.{Record, recordOf, placeOf, received, ruledOf}
-use Rattle.carousel_step.specs.Step.{blockRefusal, bytesDiffer, sameAnnounced, StepOutcome, refusing, new, same, repeated, stored, matched, onArrived}
-use Rattle.carousel_step.specs.Step.{onAnnounced, onHeard, outcomeOf, answerOf, heardTests, stepTests, numberOfAnswer, steppedOf, imageOf}
+use Rattle.carousel_record.specs.Record.{Record, recordOf, ruledOf}
+use Rattle.carousel_step.specs.Step.{heardTests, stepTests, numberOfAnswer, steppedOf, imageOf}
 use Rattle.carousel_step.proofs.Exact.{step-number}
+use Rattle.carousel_step.proofs.Told.{step-told}
 use Rattle.carousel_step.proofs.Steps.{refusal-changes-nothing}
 use Rattle.receiver.specs.declared.Fate.the-variants as fate
 use Rattle.receiver.specs.declared.Given.{Given}
@@ -102,92 +95,26 @@ take-known c s image = rw (given-number c s image) (go (eqb (byteAt s 0) applica
     go true = rw (← read-number s) (table-known s)
     go false = let k : firstMet (stepTests c s image) ≤ 17 = rw (← step-number c s image) (step-known c s image) in omega arith
 
--- and none is 0, which is no refusal: not the judgement's, and not the step's
-read-no-refusal : (t : CarouselTable) (b : List ℕ) (r : Refusal) → readOf t b ≡ judged.Refused r → ⊥
-unfolding readOf
-read-no-refusal Announcements b r e = let z : _≡_ {A = ℕ} 0 1 = cc in omega arith
-read-no-refusal Blocks b r e = let z : _≡_ {A = ℕ} 0 1 = cc in omega arith
-
-judged-some : (s : List ℕ) (r : Refusal) → judgedOf s ≡ judged.Refused r → r .number ≡ 0 → ⊥
-judged-some s r e z = read-no-refusal (carouselTableIn s) (bodyOf s) r (sym (taken-exactly s .0 (ap numberOfJudged e ∙ z)) ∙ e)
-
-heard-some : (s : List ℕ) (r : Refusal) → heardOf s ≡ refusal r → r .number ≡ 0 → ⊥
-unfolding heardOf heardIn
-heard-some s r e z = go (judgedOf s) refl e
-  where
-    go : (j : Judged) → judgedOf s ≡ j → heardIn s j ≡ refusal r → ⊥
-    go (judged.Refused n) f e = let q : n ≡ r = cc in judged-some s n f (ap (λ (x : Refusal). x .number) q ∙ z)
-    go (judged.Announced a) f e = let w : _≡_ {A = ℕ} 0 1 = cc in omega arith
-    go (judged.Carried b) f e = let w : _≡_ {A = ℕ} 0 1 = cc in omega arith
-
-arrived-some : (c : Record) (image : List ℕ) (d : Arrived) (r : Refusal) → onArrived c image d ≡ refusing r → r .number ≡ 0 → ⊥
-unfolding onArrived matched
-arrived-some c image d r e z = go (eqb (blockRefusal (c .announced) (length image) d) 0) refl
-    (received c (placeOf (c .announced) (d .number)) (d .block)) (bytesDiffer c image (placeOf (c .announced) (d .number)) d) _ _ e
-  where
-    go : (t : Bool) → eqb (blockRefusal (c .announced) (length image) d) 0 ≡ t → (u w : Bool) (k at : ℕ)
-        → cond t (cond u (cond w (refusing (refused 17)) repeated) (stored k at (d .bytes))) (refusing (refused (blockRefusal (c .announced) (length image) d))) ≡ refusing r → ⊥
-    go true f true true k at e = let q : refused 17 ≡ r = cc in let n = ap (λ (x : Refusal). x .number) q in omega arith
-    go true f true false k at e = let w : _≡_ {A = ℕ} 0 1 = cc in omega arith
-    go true f false w k at e = let v : _≡_ {A = ℕ} 0 1 = cc in omega arith
-    go false f u w k at e = let q : refused (blockRefusal (c .announced) (length image) d) ≡ r = cc in eqb-false _ _ f (ap (λ (x : Refusal). x .number) q ∙ z)
-
-pub step-some : (c : Carousel) (s image : List ℕ) (r : Refusal) → steppedOf c s image .answer ≡ answer.Refused r → r .number ≡ 0 → ⊥
-unfolding steppedOf outcomeOf onHeard onAnnounced
-step-some c s image r e z = go (ruledOf c) (heardOf s) refl e
-  where
-    by : (o : StepOutcome) → answerOf o ≡ answer.Refused r → o ≡ refusing r
-    by (refusing n) e = let q : n ≡ r = cc in ap refusing q
-    by (new a) e = let w : _≡_ {A = ℕ} 0 1 = cc in absurd (omega arith)
-    by same e = let w : _≡_ {A = ℕ} 0 1 = cc in absurd (omega arith)
-    by repeated e = let w : _≡_ {A = ℕ} 0 1 = cc in absurd (omega arith)
-    by (stored k at bytes) e = let w : _≡_ {A = ℕ} 0 1 = cc in absurd (omega arith)
-
-    told : (t : Bool) (a : Announced) → cond t same (new a) ≡ refusing r → ⊥
-    told true a e = let w : _≡_ {A = ℕ} 0 1 = cc in omega arith
-    told false a e = let w : _≡_ {A = ℕ} 0 1 = cc in omega arith
-
-    go : (t : Bool) (h : Heard) → heardOf s ≡ h → answerOf (cond t (onHeard (recordOf c) image h) (refusing (refused 1))) ≡ answer.Refused r → ⊥
-    go false h f e = let q : refused 1 ≡ r = cc in let n = ap (λ (x : Refusal). x .number) q in omega arith
-    go true (refusal n) f e = let q : n ≡ r = cc in heard-some s n f (ap (λ (x : Refusal). x .number) q ∙ z)
-    go true (announced a) f e = told (sameAnnounced (recordOf c .announced) a) a (by (cond (sameAnnounced (recordOf c .announced) a) same (new a)) e)
-    go true (arrived d) f e = arrived-some (recordOf c) image d r (by (onArrived (recordOf c) image d) e) z
-
 refused-by : (a : Answer) (r : Refusal) → carouselFate a ≡ fate.Refused r → a ≡ answer.Refused r
 unfolding carouselFate
 refused-by a r e = fate-tells a (answer.Refused r) e
-
--- of a table
-pub table-some : (s : List ℕ) (r : Refusal) → readAnswer s ≡ reading.Refused r → r .number ≡ 0 → ⊥
-unfolding readAnswer tableJudged
-table-some s r e z = go (checkedOf Application s) refl e
-  where
-    same : (n : Refusal) → reading.Refused n ≡ reading.Refused r → n .number ≡ 0
-    same n e = let q : n ≡ r = cc in ap (λ (x : Refusal). x .number) q ∙ z
-
-    body : (t : Bool) (n : ℕ) (h : Header) → eqb n 0 ≡ t
-        → onChecked (cond t (checked.Accepted h) (checked.Refused (refused n))) (λ x. reading.Refused x) (λ x. reading.Accepted (readTable x s)) ≡ reading.Refused r → ⊥
-    body true n h f e = let w : _≡_ {A = ℕ} 0 1 = cc in omega arith
-    body false n h f e = eqb-false n 0 f (same (refused n) e)
-
-    go : (k : Checked) → checkedOf Application s ≡ k
-        → onChecked (onChecked k (λ x. checked.Refused x) (λ h. cond (eqb (bodyRefusal (bodyOf s)) 0) (checked.Accepted h) (checked.Refused (refused (bodyRefusal (bodyOf s))))))
-        (λ x. reading.Refused x) (λ x. reading.Accepted (readTable x s)) ≡ reading.Refused r → ⊥
-    go (checked.Refused n) f e = let b = refused-has Application s n f in let q = same n e in let m = ap (λ (x : Refusal). x .number) (b .0) in omega (arith, b .1)
-    go (checked.Accepted h) f e = body (eqb (bodyRefusal (bodyOf s)) 0) (bodyRefusal (bodyOf s)) h refl e
 
 read-refused : (a : ReadAnswer) (r : Refusal) → readFate a ≡ fate.Refused r → a ≡ reading.Refused r
 unfolding readFate
 read-refused (reading.Refused n) r e = let q : n ≡ r = cc in ap reading.Refused q
 read-refused (reading.Accepted t) r e = let w : _≡_ {A = ℕ} 0 1 = cc in absurd (omega arith)
 
--- and so of whatever section is taken
-pub take-some : (c : Carousel) (s image : List ℕ) (r : Refusal) → givenOf c s image .fate ≡ fate.Refused r → r .number ≡ 0 → ⊥
-take-some c s image r e z = go (eqb (byteAt s 0) applicationTable) refl
+-- by which rules a section is judged that is taken
+abbrev pub rulesOf : List ℕ → Rules
+rulesOf s = cond (eqb (byteAt s 0) applicationTable) Application Carousels
+
+-- AND A REFUSAL IS ITS NUMBER, NOT 0, AND ITS PLACE: of whatever section is taken as of a table and of the step
+pub take-told : (c : Carousel) (s image : List ℕ) (r : Refusal) → givenOf c s image .fate ≡ fate.Refused r → Told (rulesOf s) s r
+take-told c s image r e = go (eqb (byteAt s 0) applicationTable) refl
   where
-    go : (t : Bool) → eqb (byteAt s 0) applicationTable ≡ t → ⊥
-    go true f = table-some s r (read-refused (readAnswer s) r (sym (fate-table c s image f) ∙ e)) z
-    go false f = step-some c s image r (refused-by (steppedOf c s image .answer) r (sym (fate-other c s image f) ∙ e)) z
+    go : (t : Bool) → eqb (byteAt s 0) applicationTable ≡ t → Told (cond t Application Carousels) s r
+    go true f = read-told s r (read-refused (readAnswer s) r (sym (fate-table c s image f) ∙ e))
+    go false f = step-told s r c image (refused-by (steppedOf c s image .answer) r (sym (fate-other c s image f) ∙ e))
 
 module _ (c : Carousel) (s image : List ℕ) where
   -- a refusal changes neither record nor image, of any record and image: the step's, and the receiver's

@@ -1,8 +1,8 @@
 -- What an answer of `check` says, and when it is given: exactly the stated case.
-use Prim.Native.Nat.{ℕ, _+_, _≤_, _<_, _-_}
+use Prim.Native.Nat.{ℕ, _≤_, _<_, _-_}
 use mathlib.Core.Path.{_≡_, refl, sym, ap, _∙_}
 use mathlib.Core.Logic.{_↔_}
-use mathlib.Core.Bool.{Bool, true, false, not, cond, _||_, or-false}
+use mathlib.Core.Bool.{Bool, true, false, cond, or-false}
 use mathlib.Core.List.{List}
 use native.Mathlib.Omega.{arith}
 use lib.Dec.{ltb, eqb, lit<, lit≤}
@@ -11,14 +11,15 @@ use borrow.Author.Tests.{ltb-false, eqb-true, eqb-false, eq-eqb, ne-eqb, not-fal
 use Rattle.wire.specs.Tests.{holds, RisingFrom}
 use Rattle.wire.proofs.Laws.Tests.{neither, lowest-met, none-met, met-within}
 use Rattle.wire.proofs.Laws.Fields.{bits-lt}
-use Rattle.section.specs.Header.{syntaxOf, lengthOf, currentOf, sectionOf, lastOf, limitOf, headerOf, bodyOf}
-use Rattle.section.specs.Refusals.{meets2, meets3, meets4, meets5, meets6, sectionTests, refusalOf, GoodSection}
-use Rattle.section.specs.Answer.{numberOfChecked, refused, checkedOf}
+use Rattle.section.specs.Header.{syntaxOf, currentOf, sectionOf, lastOf, headerOf, bodyOf}
+use Rattle.section.specs.Refusals.{meets2, meets3, misframed, meets4, meets5, meets6, sectionTests, refusalOf, spotOf, GoodSection}
+use Rattle.section.specs.Answer.{numberOfChecked, refusedBy, checkedOf}
 use Rattle.section.specs.declared.Rules.{Rules}
+use Rattle.section.specs.declared.Spot.{Spot}
 use Rattle.section.specs.declared.Refusal.{Refusal}
 use Rattle.section.specs.declared.Header.{Header}
 use Rattle.section.specs.declared.Checked.the-variants.{Refused, Accepted}
-use Rattle.section.proofs.Laws.Refusals.{past2, past3, past4, past5, past6, is0}
+use Rattle.section.proofs.Laws.Refusals.{past2, sized-has, past3, frame-right, framed-has, past4, past5, past6, is0}
 
 module _ (rules : Rules) (s : List ℕ) where
   pub rising : RisingFrom 0 (sectionTests rules s)
@@ -35,7 +36,7 @@ module _ (rules : Rules) (s : List ℕ) where
   unfolding checkedOf
   number-is = go (eqb (refusalOf rules s) 0) refl
     where
-      go : (b : Bool) → eqb (refusalOf rules s) 0 ≡ b → numberOfChecked (cond b (Accepted (headerOf s)) (Refused (refused (refusalOf rules s)))) ≡ refusalOf rules s
+      go : (b : Bool) → eqb (refusalOf rules s) 0 ≡ b → numberOfChecked (cond b (Accepted (headerOf s)) (Refused (refusedBy rules s (refusalOf rules s)))) ≡ refusalOf rules s
       go true e = sym (eqb-true _ _ e)
       go false e = refl
 
@@ -57,37 +58,39 @@ module _ (rules : Rules) (s : List ℕ) where
   unfolding meets2 meets3 meets4 meets5 meets6
   good-exactly = (there, back)
     where
-      bit-one : (x : ℕ) → x < 2 → eqb x 0 ≡ false → x ≡ 1
-      bit-one x h e = let n = eqb-false x 0 e in omega (arith, n)
+      bit-one : (x : ℕ) → x < 2 → (x ≡ 0 → ⊥) → x ≡ 1
+      bit-one x h n = omega (arith, n)
 
       there : refusalOf rules s ≡ 0 → GoodSection rules s
       there e =
           let p = passed e in
-          let l2 = neither (ltb (length s) 3) (not (eqb (length s) (3 + lengthOf s))) (p .0) in
-          let l4 = neither (ltb (lengthOf s) 9 || ltb (limitOf rules) (lengthOf s) || eqb (syntaxOf s) 0) (ltb (lastOf s) (sectionOf s)) (p .2) in
-          let m4 = neither (ltb (lengthOf s) 9 || ltb (limitOf rules) (lengthOf s)) (eqb (syntaxOf s) 0) (l4 .0) in
-          let n4 = neither (ltb (lengthOf s) 9) (ltb (limitOf rules) (lengthOf s)) (m4 .0) in
+          let l2 = sized-has s (p .0) in
+          let l4 = neither (misframed rules s) (ltb (lastOf s) (sectionOf s)) (p .2) in
+          let f4 = framed-has rules s (l4 .0) in
           record {
-            headed = ltb-false _ _ (l2 .0);
-            exact = eqb-true _ _ (not-false _ (l2 .1));
+            headed = l2 .0;
+            exact = l2 .1;
             table = not-false _ (p .1);
-            least = ltb-false _ _ (n4 .0);
-            most = ltb-false _ _ (n4 .1);
-            syntax = bit-one (syntaxOf s) (bits-lt 15 1 _) (m4 .1);
+            least = f4 .0;
+            most = f4 .1;
+            syntax = bit-one (syntaxOf s) (bits-lt 15 1 _) (f4 .2);
             numbers = ltb-false _ _ (l4 .1);
             crc = eqb-true _ _ (not-false _ (p .3));
-            current = bit-one (currentOf s) (bits-lt 0 1 _) (p .4);
+            current = bit-one (currentOf s) (bits-lt 0 1 _) (eqb-false _ _ (p .4));
           }
 
       back : GoodSection rules s → refusalOf rules s ≡ 0
       back g = sym (is0 rules s (past2 s (g .headed) (g .exact)) (past3 rules s (g .table))
-          (past4 rules s (g .least) (g .most) (λ e. omega (arith, g .syntax)) (g .numbers)) (past5 s (g .crc))
+          (past4 rules s (frame-right rules s (g .least) (g .most) (λ e. omega (arith, g .syntax))) (g .numbers)) (past5 s (g .crc))
           (past6 s (λ e. omega (arith, g .current))))
 
   -- what the code answers from the number, and what a caller reads off the answer
-  pub refused-with : (refusalOf rules s ≡ 0 → ⊥) → checkedOf rules s ≡ Refused (refused (refusalOf rules s))
+  pub refused-with : (refusalOf rules s ≡ 0 → ⊥) → checkedOf rules s ≡ Refused (refusedBy rules s (refusalOf rules s))
   unfolding checkedOf
   refused-with n = rw (ne-eqb _ _ n)
+
+  pub refused-as : (n : ℕ) (p : Spot) → n ≡ refusalOf rules s → p ≡ spotOf rules s n → (n ≡ 0 → ⊥) → Refused (record { number = n; place = p }) ≡ checkedOf rules s
+  refused-as n p e f z = rw (f, e) (sym (refused-with (λ y. z (e ∙ y))))
 
   pub accepted-with : refusalOf rules s ≡ 0 → checkedOf rules s ≡ Accepted (headerOf s)
   unfolding checkedOf
@@ -102,7 +105,7 @@ module _ (rules : Rules) (s : List ℕ) where
       (cc, z, g, omega (arith, g .exact, g .least))
 
   -- a refusal is the table's, one of 2 to 6
-  pub refused-has : (r : Refusal) → checkedOf rules s ≡ Refused r → (r ≡ refused (refusalOf rules s)) × (2 ≤ refusalOf rules s) × (refusalOf rules s ≤ 6)
+  pub refused-has : (r : Refusal) → checkedOf rules s ≡ Refused r → (r ≡ refusedBy rules s (refusalOf rules s)) × (2 ≤ refusalOf rules s) × (refusalOf rules s ≤ 6)
   unfolding refusalOf
   refused-has r e =
       let n : refusalOf rules s ≡ 0 → ⊥ = λ z. (let a = accepted-with z in let f : _≡_ {A = ℕ} 0 1 = cc in omega arith) in

@@ -1,14 +1,16 @@
 -- Each test of the paper's table from facts on numbers, and the answer from the tests: what the code's chain of tests cites, in its order.
 use Prim.Native.Nat.{ℕ, _+_, _≤_, _<_}
-use mathlib.Core.Path.{_≡_, refl, sym}
-use mathlib.Core.Bool.{Bool, true, false}
+use mathlib.Core.Path.{_≡_}
+use mathlib.Core.Bool.{true, false, not, _||_, or-true}
 use mathlib.Core.List.{List}
 use lib.ListN.{length}
-use borrow.Author.Tests.{lt-ltb, le-ltb, eq-eqb, ne-eqb}
+use lib.Dec.{ltb, eqb}
+use borrow.Author.Tests.{lt-ltb, le-ltb, ltb-false, eq-eqb, ne-eqb, eqb-true, eqb-false, not-false}
 use Rattle.wire.specs.Tests.{firstMet}
+use Rattle.wire.proofs.Laws.Tests.{neither}
 use Rattle.section.specs.Crc.{crcOf}
 use Rattle.section.specs.Header.{tableOf, syntaxOf, lengthOf, currentOf, sectionOf, lastOf, isTable, limitOf}
-use Rattle.section.specs.Refusals.{meets2, meets3, meets4, meets5, meets6, refusalOf}
+use Rattle.section.specs.Refusals.{meets2, meets3, misframed, meets4, meets5, meets6, refusalOf}
 use Rattle.section.specs.declared.Rules.{Rules}
 
 module _ (s : List ℕ) where
@@ -23,6 +25,12 @@ module _ (s : List ℕ) where
   pub past2 : 3 ≤ length s → length s ≡ 3 + lengthOf s → meets2 s ≡ false
   unfolding meets2
   past2 h e = simp (le-ltb _ _ h, eq-eqb _ _ e)
+
+  pub sized-has : meets2 s ≡ false → (3 ≤ length s) × (length s ≡ 3 + lengthOf s)
+  unfolding meets2
+  sized-has e =
+      let n = neither (ltb (length s) 3) (not (eqb (length s) (3 + lengthOf s))) e in
+      (ltb-false _ _ (n .0), eqb-true _ _ (not-false _ (n .1)))
 
   pub bad5 : (crcOf s ≡ 0 → ⊥) → meets5 s ≡ true
   unfolding meets5
@@ -49,28 +57,37 @@ module _ (rules : Rules) (s : List ℕ) where
   unfolding meets3
   past3 e = rw e
 
-  pub low4 : lengthOf s < 9 → meets4 rules s ≡ true
+  -- 4's cases but the last: of the length, and of the syntax indicator
+  pub frame-short : lengthOf s < 9 → misframed rules s ≡ true
+  frame-short h = rw (lt-ltb _ _ h)
+
+  pub frame-long : limitOf rules < lengthOf s → misframed rules s ≡ true
+  frame-long h = rw (lt-ltb _ _ h, or-true (ltb (lengthOf s) 9))
+
+  pub frame-syntax : syntaxOf s ≡ 0 → misframed rules s ≡ true
+  frame-syntax e = rw (eq-eqb _ _ e) (or-true (ltb (lengthOf s) 9 || ltb (limitOf rules) (lengthOf s)))
+
+  pub frame-right : 9 ≤ lengthOf s → lengthOf s ≤ limitOf rules → (syntaxOf s ≡ 0 → ⊥) → misframed rules s ≡ false
+  frame-right h k n = simp (le-ltb _ _ h, le-ltb _ _ k, ne-eqb _ _ n)
+
+  pub framed-has : misframed rules s ≡ false → (9 ≤ lengthOf s) × (lengthOf s ≤ limitOf rules) × (syntaxOf s ≡ 0 → ⊥)
+  framed-has e =
+      let m = neither (ltb (lengthOf s) 9 || ltb (limitOf rules) (lengthOf s)) (eqb (syntaxOf s) 0) e in
+      let n = neither (ltb (lengthOf s) 9) (ltb (limitOf rules) (lengthOf s)) (m .0) in
+      (ltb-false _ _ (n .0), ltb-false _ _ (n .1), eqb-false _ _ (m .1))
+
+  pub frame4 : misframed rules s ≡ true → meets4 rules s ≡ true
   unfolding meets4
-  low4 h = simp (lt-ltb _ _ h)
+  frame4 e = rw e
 
-  module _ (h : 9 ≤ lengthOf s) where
-    pub long4 : limitOf rules < lengthOf s → meets4 rules s ≡ true
+  module _ (h : misframed rules s ≡ false) where
+    pub above4 : lastOf s < sectionOf s → meets4 rules s ≡ true
     unfolding meets4
-    long4 k = simp (le-ltb _ _ h, lt-ltb _ _ k)
+    above4 o = rw (h, lt-ltb _ _ o)
 
-    module _ (k : lengthOf s ≤ limitOf rules) where
-      pub syntax4 : syntaxOf s ≡ 0 → meets4 rules s ≡ true
-      unfolding meets4
-      syntax4 e = simp (le-ltb _ _ h, le-ltb _ _ k, eq-eqb _ _ e)
-
-      module _ (n : syntaxOf s ≡ 0 → ⊥) where
-        pub above4 : lastOf s < sectionOf s → meets4 rules s ≡ true
-        unfolding meets4
-        above4 o = simp (le-ltb _ _ h, le-ltb _ _ k, ne-eqb _ _ n, lt-ltb _ _ o)
-
-        pub past4 : sectionOf s ≤ lastOf s → meets4 rules s ≡ false
-        unfolding meets4
-        past4 o = simp (le-ltb _ _ h, le-ltb _ _ k, ne-eqb _ _ n, le-ltb _ _ o)
+    pub past4 : sectionOf s ≤ lastOf s → meets4 rules s ≡ false
+    unfolding meets4
+    past4 o = rw (h, le-ltb _ _ o)
 
   pub is2 : meets2 s ≡ true → 2 ≡ refusalOf rules s
   unfolding refusalOf firstMet
