@@ -1,4 +1,3 @@
-pub mod Written
 pub mod Numbers
 pub mod Lines
 pub mod Pages

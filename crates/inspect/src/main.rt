@@ -26,6 +26,7 @@ use carousel_record::Carousel;
 use receiver::Fate;
 use receiver::Stop;
 use receiver::What;
+use section::Spot;
 
 // What `io::large_buffer` gives.
 pub type Buffer = [u8; 65_536];
@@ -98,7 +99,7 @@ fn put_section(
         wire::byte_at(s, 0) as usize,
         receiver::fate_number(fate) as usize,
         KINDS + receiver::kind_number(fate) as usize,
-        NIL,
+        place_field(receiver::fate_place(fate)),
         NIL,
         NIL,
         NIL,
@@ -108,4 +109,12 @@ fn put_section(
         return put_table(out, end, s);
     }
     end
+}
+
+// The byte where a section broke, if it did.
+fn place_field(place: Spot) -> usize {
+    match place {
+        Spot::Nowhere => EMPTY,
+        Spot::Byte(p) => p,
+    }
 }

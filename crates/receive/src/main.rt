@@ -16,7 +16,7 @@ fn main() {
 
 // Zeros for the text. The `ensures` gives only the length, which lending the array needs.
 fn room() -> [u8; report::ROOM]
-    ensures { λ r. ⌜ 393248 ≡ length r ⌝ }
+    ensures { λ r. ⌜ 393254 ≡ length r ⌝ }
 {
     [0; report::ROOM]
 }

@@ -3,19 +3,20 @@
 use receiver::Fate;
 use receiver::Stop;
 use receiver::What;
+use section::Spot;
 ghost use mathlib.Core.Path.{_≡_};
 ghost use lib.ListN.{length};
 ghost use lib.Seq.{sets};
 ghost use Rattle.text.specs.Text.{reached};
 ghost use Rattle.carousel_record.specs.Changes.{emptyRecord};
 ghost use Rattle.receiver.specs.Run.{imageRan};
-ghost use Rattle.report.specs.Report.{budget, printed, lineOf, lastLine};
+ghost use Rattle.report.specs.Report.{budget, printed, placeField, lineOf, lastLine};
 
 // The sections that the program takes at most.
 const BUDGET: usize = 65_536;
 
 // Bytes enough for the text of any stretch of 65,536: proofs/Whole.antt.
-pub const ROOM: usize = 393_248;
+pub const ROOM: usize = 393_254;
 
 // Runs an empty record over a stretch and puts the text at the start of `out`; answers the bytes
 // put. Where `out` is shorter than the text, the rest of it is left out.
@@ -25,7 +26,7 @@ pub fn write_report(stretch: &[u8], image: &mut [u8], out: &mut [u8]) -> usize
         × (now (image .exit) ≡ imageRan emptyRecord (now (stretch .entry)) (now (image .entry)) budget) ⌝ }
 {
     let mut c = carousel_record::empty();
-    let mut at = text::put(out, 0, b"index,answer,kind\n");
+    let mut at = text::put(out, 0, b"index,answer,kind,place\n");
     let mut index: usize = 0;
     let mut passed: usize = 0;
     loop {
@@ -58,7 +59,21 @@ fn put_line(out: &mut [u8], at: usize, index: usize, fate: Fate) -> usize
     end = text::put(out, end, b",");
     let kinds = b"none table new same stored repeated";
     end = text::put_word(out, end, kinds, kind as usize);
+    end = put_place(out, end, receiver::fate_place(fate));
     text::put(out, end, b"\n")
+}
+
+// The last field, its comma before it: the byte where a section broke, or nothing.
+fn put_place(out: &mut [u8], at: usize, place: Spot) -> usize
+    ensures { λ r. ⌜ (now (out .exit) ≡ sets (now (out .entry)) at (placeField place)) × (r ≡ reached at (length (placeField place)) (length (now (out .entry)))) ⌝ }
+{
+    match place {
+        Spot::Nowhere => text::put(out, at, b","),
+        Spot::Byte(p) => {
+            let end = text::put(out, at, b",");
+            text::put_decimal(out, end, p as u64)
+        }
+    }
 }
 
 fn put_stop(out: &mut [u8], at: usize, stop: Stop) -> usize

@@ -1,3 +1,4 @@
 pub mod Puts
 pub mod Digits
 pub mod Words
+pub mod Written

@@ -2,7 +2,7 @@
 use mathlib.Core.Path.{ap, sym}
 use Rattle.text.specs.Text.{codes, decimal}
 use Rattle.drift_report.specs.Page.{lackText}
-use Rattle.drift_report.proofs.Laws.Written.{first, then, said, nothing}
+use Rattle.text.proofs.Laws.Written.{first, then, said, nothing}
 use borrow.Author.Needs.{needs}
 use Rattle.drift_report.proofs.put_lack.Statement.{statement}
 use Rattle.drift_report.proofs.put_lack.Tie as tie

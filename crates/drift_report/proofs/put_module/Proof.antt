@@ -4,7 +4,7 @@ use mathlib.Core.Path.{_≡_, ap, _∙_}
 use native.Mathlib.Omega.{arith}
 use lib.ListN.{take, drop}
 use Rattle.drift_report.specs.Lines.{listText}
-use Rattle.drift_report.proofs.Laws.Written.{first, said}
+use Rattle.text.proofs.Laws.Written.{first, said}
 use Rattle.drift_report.proofs.Laws.Pages.{place-number, module-refused, module-listed}
 use borrow.Author.Needs.{needs}
 use Rattle.drift_report.proofs.put_module.Statement.{statement}

@@ -3,7 +3,7 @@ use mathlib.Core.Path.{ap}
 use Rattle.text.specs.Text.{codes, decimal}
 use Rattle.carousel_handout.specs.Calls.{reportOf}
 use Rattle.drift_report.specs.Page.{lackText}
-use Rattle.drift_report.proofs.Laws.Written.{first, then, then-as, said}
+use Rattle.text.proofs.Laws.Written.{first, then, then-as, said}
 use Rattle.drift_report.proofs.Laws.Pages.{refused-other, refused-twenty}
 use borrow.Author.Needs.{needs}
 use Rattle.drift_report.proofs.put_refused.Statement.{statement}

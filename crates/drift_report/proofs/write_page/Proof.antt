@@ -1,5 +1,5 @@
 -- `drift_report::write_page` meets its contract: what the run left, printed.
-use Rattle.drift_report.proofs.Laws.Written.{first, said}
+use Rattle.text.proofs.Laws.Written.{first, said}
 use Rattle.drift_report.proofs.Laws.Pages.{image-is, page-is}
 use borrow.Author.Needs.{needs}
 use Rattle.drift_report.proofs.write_page.Statement.{statement}

@@ -10,7 +10,7 @@ filled : (n a : ℕ) → n ≡ length (replicate n a)
 filled n a = sym (length-replicate n a)
 
 returns : tie.Need-returns
-returns c = filled 393248 0
+returns c = filled 393254 0
 
 pub room-spec : {M : Type 1} → statement M
 room-spec = tie.close (tie.spec returns)

@@ -1,11 +1,10 @@
--- `put_line` meets its contract: six pieces, one after another.
+-- `put_line` meets its contract: seven pieces, one after another.
 use Prim.Native.Nat.{ℕ}
 use mathlib.Core.Path.{ap, _∙_}
-use mathlib.Core.List.{_++_}
 use Rattle.text.specs.Text.{codes, wordAt, decimal}
-use Rattle.receiver.specs.Run.{numberOfFate}
-use Rattle.report.specs.Report.{kindName}
-use Rattle.text.proofs.Laws.Puts.{puts-then, puts-same}
+use Rattle.receiver.specs.Run.{numberOfFate, placeOfFate}
+use Rattle.report.specs.Report.{kindName, placeField}
+use Rattle.text.proofs.Laws.Written.{first, then, then-as}
 use Rattle.report.proofs.Laws.Names.{kind-word}
 use borrow.Author.Needs.{needs}
 use Rattle.report.proofs.put_line.Statement.{statement}
@@ -50,11 +49,17 @@ slice-aggregate-put-3 c = search needs
 put-requires-3 : tie.Need-put-requires-3
 put-requires-3 c κs = search needs
 
-same-length : tie.Need-same-length
-same-length c = search needs
+fate-place-requires : tie.Need-fate-place-requires
+fate-place-requires c κs = search needs
+
+put-place-requires : tie.Need-put-place-requires
+put-place-requires c κs = search needs
 
 -- from each call back to the one before it
-abbrev at-word : tie.After-put3 → tie.After-put-word
+abbrev at-place : tie.After-put3 → tie.After-put-place
+at-place c = let b = c .before .before .before in b .before .before
+
+abbrev at-word : tie.After-put-place → tie.After-put-word
 at-word c = let b = c .before .before .before in b .before .before
 
 abbrev at-comma2 : tie.After-put-word → tie.After-put2
@@ -66,33 +71,35 @@ at-number c = let b = c .before .before .before in b .before .before
 abbrev at-index : tie.After-put → tie.After-put-decimal
 at-index c = let b = c .before .before .before in b .before .before
 
+abbrev at-kind : tie.After-put3 → tie.After-kind-number
+at-kind c = let n = at-number (at-comma2 (at-word (at-place c))) in at-index (n .before .before .before .before) .before .before
+
+abbrev start-of : tie.After-put3 → tie.Start
+start-of c = at-kind c .before .before .before
+
 returns : tie.Need-returns
 returns c =
     let line-feed = c .before .before in
-    let word = at-word line-feed in
+    let place = at-place line-feed in
+    let word = at-word place in
     let comma2 = at-comma2 word in
     let number = at-number comma2 in
     let comma = number .before .before .before .before in
     let index = at-index comma in
-    let kind = index .before .before in
-    let a = kind .before .before .before .args in
-    let then = puts-then (a .out .now) (a .at) in
-    let i = index .put-decimal in
-    let j = comma .put in
-    let n = number .put-decimal2 in
-    let m = comma2 .put2 in
-    let w = word .put-word in
-    let number-text = decimal (numberOfFate (a .fate)) in
-    let t = decimal (a .index) ++ codes "," in
-    let u = t ++ number-text ++ codes "," in
-    let numbered = puts-same (j .last .0) (j .result) _ number-text (n .last .0) (n .result) (ap decimal (kind .before .fate-number .ensures)) (n .ensures) in
+    let kind = at-kind line-feed in
+    let a = start-of line-feed .args in
     let said = ap (λ (k : ℕ). wordAt k (codes "none table new same stored repeated")) (kind .kind-number .ensures) ∙ kind-word (a .fate) in
-    let named = puts-same (m .last .0) (m .result) _ (kindName (a .fate)) (w .last .0) (w .result) said (w .ensures) in
-    let p = then (decimal (a .index)) (codes ",") (i .last .0) (j .last .0) (i .result) (j .result) (i .ensures) (j .ensures) in
-    let q = then t number-text (j .last .0) (n .last .0) (j .result) (n .result) p numbered in
-    let r = then (t ++ number-text) (codes ",") (n .last .0) (m .last .0) (n .result) (m .result) q (m .ensures) in
-    let s = then u (kindName (a .fate)) (m .last .0) (w .last .0) (m .result) (w .result) r named in
-    then (u ++ kindName (a .fate)) (codes "\n") (w .last .0) _ (w .result) _ s (line-feed .put3 .ensures)
+    let o = first (decimal (a .index)) (index .put-decimal .ensures) in
+    let p = then o (codes ",") (comma .put .ensures) in
+    let q = then-as p _ (decimal (numberOfFate (a .fate))) (ap decimal (kind .before .fate-number .ensures)) (number .put-decimal2 .ensures) in
+    let r = then q (codes ",") (comma2 .put2 .ensures) in
+    let s = then-as r _ (kindName (a .fate)) said (word .put-word .ensures) in
+    let t = then-as s _ (placeField (placeOfFate (a .fate))) (ap placeField (place .before .fate-place .ensures)) (place .put-place .ensures) in
+    let told = line-feed .put3 .ensures in
+    then t (codes "\n") (told .0, told .1) .puts
+
+same-length : tie.Need-same-length
+same-length c = search needs
 
 pub put-line-spec : {M : Type 1} → statement M
 put-line-spec =
@@ -109,6 +116,8 @@ put-line-spec =
     put-requires-2
     cast-put-word
     put-word-requires
+    fate-place-requires
+    put-place-requires
     slice-aggregate-put-3
     put-requires-3
     same-length

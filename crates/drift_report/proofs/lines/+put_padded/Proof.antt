@@ -5,7 +5,7 @@ use Prim.Native.Nat.{_-_, _/_, _%_}
 use mathlib.Core.Path.{sym}
 use Rattle.text.specs.Text.{decimal}
 use Rattle.drift_report.specs.Lines.{padded}
-use Rattle.drift_report.proofs.Laws.Written.{first, then, said, nothing}
+use Rattle.text.proofs.Laws.Written.{first, then, said, nothing}
 use Rattle.drift_report.proofs.Laws.Numbers.{padded-none, padded-more}
 use Prim.Native.Nat.{ℕ, _<_}
 use borrow.Fn.Kinds.{In}

@@ -2,7 +2,7 @@
 use Prim.Native.Nat.{_/_, _%_}
 use Rattle.text.specs.Text.{codes}
 use Rattle.drift_report.specs.Lines.{padded}
-use Rattle.drift_report.proofs.Laws.Written.{first, then}
+use Rattle.text.proofs.Laws.Written.{first, then}
 use borrow.Author.Needs.{needs}
 use Rattle.drift_report.proofs.lines.put_angle.Statement.{statement}
 use Rattle.drift_report.proofs.lines.put_angle.Tie as tie

@@ -4,7 +4,7 @@ use mir.Syntax.{w32}
 use mir.ValLaws.{toZ-ofZ}
 use Rattle.text.specs.Text.{codes}
 use Rattle.drift_report.specs.Lines.{signedDecimal}
-use Rattle.drift_report.proofs.Laws.Written.{first-as, then, then-as}
+use Rattle.text.proofs.Laws.Written.{first-as, then, then-as}
 use borrow.Author.Needs.{needs}
 use Rattle.drift_report.proofs.lines.put_coordinates.Statement.{statement}
 use Rattle.drift_report.proofs.lines.put_coordinates.Tie as tie

@@ -2,7 +2,7 @@
 use mathlib.Core.List.{_++_}
 use Rattle.text.specs.Text.{codes, decimal}
 use Rattle.drift_report.specs.Lines.{stateName, signedDecimal, position, weekTime, fixLine}
-use Rattle.drift_report.proofs.Laws.Written.{first, then, then-four}
+use Rattle.text.proofs.Laws.Written.{first, then, then-four}
 use borrow.Author.Needs.{needs}
 use Rattle.drift_report.proofs.lines.put_fix.Statement.{statement}
 use Rattle.drift_report.proofs.lines.put_fix.Tie as tie

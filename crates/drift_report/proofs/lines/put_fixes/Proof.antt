@@ -12,7 +12,7 @@ use Rattle.drift_list.specs.Reading.{countOf, fixAt}
 use Rattle.text.proofs.Laws.Puts.{puts-same, Writing, writing-on, writing-done}
 use Rattle.drift_list.proofs.Walk.{walk-found}
 use Rattle.drift_report.specs.Lines.{fixLine, fixLines}
-use Rattle.drift_report.proofs.Laws.Written.{starts}
+use Rattle.text.proofs.Laws.Written.{starts}
 use Rattle.drift_list.proofs.Answers.{found-not-refused, found-same}
 use Rattle.drift_report.proofs.Laws.Lines.{lines-all, lines-done, lines-on}
 use Rattle.drift_report.proofs.lines.put_fixes.Statement.{statement}

@@ -8,7 +8,7 @@ use Rattle.drift_list.specs.Values.{fixOf}
 use Rattle.drift_list.specs.Reading.{fixAt}
 use Rattle.drift_list.specs.Answers.{listAnswer}
 use Rattle.drift_report.specs.Lines.{listHeader, fixLines}
-use Rattle.drift_report.proofs.Laws.Written.{first, then, said}
+use Rattle.text.proofs.Laws.Written.{first, then, said}
 use Rattle.drift_report.proofs.Laws.Pages.{issue-told, list-refused, list-read}
 use borrow.Author.Needs.{needs}
 use Rattle.drift_report.proofs.lines.put_list.Statement.{statement}

@@ -3,7 +3,7 @@ use Prim.Native.Nat.{ℕ}
 use mathlib.Core.Path.{ap, _∙_}
 use Rattle.text.specs.Text.{codes, wordAt, decimal}
 use Rattle.drift_report.specs.Lines.{stateName}
-use Rattle.drift_report.proofs.Laws.Written.{first, then, then-as}
+use Rattle.text.proofs.Laws.Written.{first, then, then-as}
 use Rattle.drift_report.proofs.Laws.Lines.{state-word}
 use borrow.Author.Needs.{needs}
 use Rattle.drift_report.proofs.lines.put_named.Statement.{statement}

@@ -5,7 +5,7 @@ use mir.Syntax.{w32}
 use mir.ValLaws.{toZ-ofZ}
 use Rattle.text.specs.Text.{codes}
 use Rattle.drift_report.specs.Lines.{angle, sideOf, position}
-use Rattle.drift_report.proofs.Laws.Written.{first-as, then, then-as, said, nothing}
+use Rattle.text.proofs.Laws.Written.{first-as, then, then-as, said, nothing}
 use Rattle.drift_report.proofs.Laws.Numbers.{kept-abs}
 use Rattle.drift_report.proofs.Laws.Lines.{position-none, position-some}
 use borrow.Author.Needs.{needs}

@@ -1,6 +1,6 @@
 -- `drift_report::lines::put_side` meets its contract.
 use Rattle.wire.proofs.Laws.Signed.{below-told, above-told}
-use Rattle.drift_report.proofs.Laws.Written.{first, said}
+use Rattle.text.proofs.Laws.Written.{first, said}
 use Rattle.drift_report.proofs.Laws.Numbers.{below-side, above-side}
 use borrow.Author.Needs.{needs}
 use Rattle.drift_report.proofs.lines.put_side.Statement.{statement}

@@ -3,7 +3,7 @@ use mathlib.Core.Path.{_∙_, ap}
 use lib.IntN.{natAbs}
 use Rattle.text.specs.Text.{codes, decimal}
 use Rattle.wire.proofs.Laws.Signed.{below-told, above-told}
-use Rattle.drift_report.proofs.Laws.Written.{first, then-as, said}
+use Rattle.text.proofs.Laws.Written.{first, then-as, said}
 use Rattle.drift_report.proofs.Laws.Numbers.{kept-abs, below-decimal, above-decimal}
 use borrow.Author.Needs.{needs}
 use Rattle.drift_report.proofs.lines.put_signed.Statement.{statement}

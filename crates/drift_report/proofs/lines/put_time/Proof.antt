@@ -2,7 +2,7 @@
 use Prim.Native.Nat.{_/_, _%_}
 use Rattle.text.specs.Text.{codes, decimal}
 use Rattle.drift_report.specs.Lines.{padded}
-use Rattle.drift_report.proofs.Laws.Written.{first, then}
+use Rattle.text.proofs.Laws.Written.{first, then}
 use borrow.Author.Needs.{needs}
 use Rattle.drift_report.proofs.lines.put_time.Statement.{statement}
 use Rattle.drift_report.proofs.lines.put_time.Tie as tie
