@@ -1,5 +1,6 @@
-/* The paper's program over the archive: reads up to 65,536 bytes of sections from standard input, says what became of each and
- * why it stopped, and then, for each module number given as an argument, whether it is complete.
+/* The paper's program over the archive: reads up to 65,536 bytes of sections from standard input, says what became of
+ * each, with the place where it broke, and why it stopped, and then, for each module number given as an argument,
+ * whether it is complete.
  *
  *     gcc -Iinclude examples/receive.c target/staticlib/libnebosvar.a -o receive && ./receive 1 2 < sections */
 #include <stdio.h>
@@ -40,9 +41,12 @@ int main(int argc, char **argv)
     size_t length = read_all(), at = 0, index = 0;
     nebosvar_taken next;
 
-    puts("index,answer,kind");
+    puts("index,answer,kind,place");
     while ((next = nebosvar_take(&record, stretch + at, length - at, image, sizeof image, 1)).stop == NEBOSVAR_TAKEN) {
-        printf("%zu,%u,%s\n", index++, next.refusal, kinds[next.kind]);
+        printf("%zu,%u,%s,", index++, next.refusal, kinds[next.kind]);
+        if (next.refused_at != NEBOSVAR_NOWHERE)
+            printf("%zu", next.refused_at);
+        putchar('\n');
         at += next.length;
     }
     printf("stop,%s\n", stops[next.stop]);

@@ -53,6 +53,12 @@ enum {
     NEBOSVAR_LIST_ROOM = 37                  /* a short buffer */
 };
 
+/* Where a section broke, `refused_at` below: a byte, counted from the section's first as 0. Refusals 2 to 6 have it:
+ * 2 the length that was lent, which is one past the last byte, so never index with it; 3 zero; 4 one, or six where only
+ * the section numbers are wrong; 5 the first CRC byte; 6 five. For every other refusal, and where there is none, it is
+ * NEBOSVAR_NOWHERE: that is no place, since no bytes that can be lent are so many. */
+#define NEBOSVAR_NOWHERE SIZE_MAX
+
 /* What became of a section. */
 enum {
     NEBOSVAR_KIND_NONE = 0, /* it was refused; also where none was taken: at a stop */
@@ -101,15 +107,17 @@ typedef struct {
 
 /* Exactly one of refusal and kind is 0; so too below, where a section was taken. */
 typedef struct {
+    size_t refused_at; /* of refusals 2 to 6; NEBOSVAR_NOWHERE for all else */
     uint8_t refusal;
     uint8_t kind;
 } nebosvar_fate;
 
 typedef struct {
-    size_t length;   /* of the section that was taken; 0 at a stop */
+    size_t length;     /* of the section that was taken; 0 at a stop */
+    size_t refused_at; /* in the section, from its first byte, not the stretch's; NEBOSVAR_NOWHERE at a stop */
     uint8_t stop;
-    uint8_t refusal; /* of the section; 0 at a stop */
-    uint8_t kind;    /* of the section; NEBOSVAR_KIND_NONE at a stop */
+    uint8_t refusal;   /* of the section; 0 at a stop */
+    uint8_t kind;      /* of the section; NEBOSVAR_KIND_NONE at a stop */
 } nebosvar_taken;
 
 typedef struct {
@@ -118,10 +126,11 @@ typedef struct {
     uint8_t stop;
 } nebosvar_passage;
 
-/* A part of the bytes that were lent; at and length are 0 on a refusal. */
+/* A part of the bytes that were lent. On a refusal at and length are 0, and refused_at is where the section broke. */
 typedef struct {
     size_t at;
     size_t length;
+    size_t refused_at; /* of a section; always NEBOSVAR_NOWHERE in nebosvar_handout's answer */
     uint8_t refusal;
 } nebosvar_part;
 
@@ -150,7 +159,7 @@ nebosvar_part nebosvar_handout(const nebosvar_record *record, const uint8_t *ima
 nebosvar_lack nebosvar_missing(const nebosvar_record *record, uint16_t number);
 
 /* The application section (table 0x74). Things are asked for by place, from 0; each call judges the section first
- * (2 to 7, 18), and a place that is not there is 19. On a refusal all other fields are 0. */
+ * (2 to 7, 18), and a place that is not there is 19. On a refusal all other fields but refused_at are 0. */
 
 /* As an application's place it stands for the common descriptors in nebosvar_descriptor, nebosvar_item and
  * nebosvar_extension. Where an application itself is asked for (nebosvar_application, nebosvar_label) it is 19. */
@@ -203,6 +212,7 @@ enum { /* where the descriptor that a label names was found */
 typedef struct {
     size_t common;       /* descriptors */
     size_t applications;
+    size_t refused_at;   /* where the section broke */
     uint16_t test;
     uint16_t application_type;
     uint8_t version;
@@ -213,6 +223,7 @@ typedef struct {
 
 typedef struct {
     size_t descriptors;
+    size_t refused_at; /* where the section broke */
     uint32_t organisation;
     uint16_t number;
     uint8_t class_number; /* the number's class */
@@ -226,6 +237,7 @@ typedef struct {
     size_t labels;
     size_t at; /* in the section */
     size_t length;
+    size_t refused_at; /* where the section broke */
     uint16_t protocol;
     uint16_t network;
     uint16_t transport;
@@ -244,6 +256,7 @@ typedef struct {
     size_t at; /* in the section */
     size_t length;
     size_t extensions;
+    size_t refused_at; /* where the section broke */
     uint32_t organisation;
     uint16_t number;
     uint8_t class_number; /* the number's class */
@@ -258,8 +271,9 @@ typedef struct {
 } nebosvar_item_found;
 
 typedef struct {
-    size_t common; /* which common loop: 0 is the section's own */
-    size_t place;  /* of the descriptor there */
+    size_t common;     /* which common loop: 0 is the section's own */
+    size_t place;      /* of the descriptor there */
+    size_t refused_at; /* where the section broke */
     uint8_t found;
     uint8_t refusal;
 } nebosvar_label_found;

@@ -149,9 +149,18 @@ def refusals():
     words = dict(re.findall(r"^\| (\d+) \| ([^|]+) \|", (ROOT / "docs" / "NUMBERS.md").read_text(), re.M))
     for there, here in WORDS.items():
         words = {n: w.replace(there, here) for n, w in words.items()}
-    names = re.findall(r"pub const (\w+): Refusal = Refusal\((\d+)\);", (RUST / "refusal.rs").read_text())
+    names = refusal_names((RUST / "refusal.rs").read_text())
     assert [n for _, n in names] == list(words), (names, list(words))
     return [("ACCEPTED", 0)] + [(name, int(n)) for name, n in names], {name: words[n] for name, n in names}
+
+
+def refusal_names(text):
+    """Of the Rust crate, in its order: a constant is a refusal without a place, a function one with its place; 2 to 6 are these (02, §9)."""
+    plain = r"pub const (\w+): Refusal = Refusal::plain\((\d+)\);"
+    placed = r"pub const fn (\w+)\(place: usize\) -> Refusal \{\s*Refusal::at\((\d+), place\)\s*\}"
+    found = re.findall(plain + "|" + placed, text)
+    assert [n for _, _, _, n in found if n] == list("23456"), found
+    return [((constant or function).upper(), n or k) for constant, n, function, k in found]
 
 
 def short_words():
@@ -171,7 +180,8 @@ def source_constants():
     taken = re.search(r"What::Taken.*\bstop: (\d+)", body(box, "what_out"), re.S)[1]
     found = re.findall(r"Resolved::(\w+)[^=]*=> LabelOut \{[^}]*found: (\d+)", body(numbers, "label"))
     assert found[0] == ("Refused", "0")
-    common = re.search(r"const COMMON: usize = (\w+);", SOURCES[1].read_text())[1]
+    places = re.findall(r"const (COMMON|NOWHERE): usize = (\w+);", SOURCES[1].read_text())
+    assert [name for name, _ in places] == ["COMMON", "NOWHERE"], places
     return [
         refusals()[0],
         variants("KIND", matched(receiver, "kind_number")),
@@ -183,7 +193,7 @@ def source_constants():
         variants("ITEM", item_kinds(numbers)),
         variants("FOUND", found[1:]),
         variants("STATE", matched(DRIFT, "state_number")),
-        [("COMMON", int(common, 16))],
+        *([(name, int(value, 16))] for name, value in places),
     ]
 
 
@@ -290,6 +300,10 @@ def others(raw):
         ("uint8_t *image, size_t room, size_t budget);\n\n/* Where", "uint8_t *image, size_t room, size_t budget, ...);\n\n/* Where"),
         ("NEBOSVAR_COMMON SIZE_MAX", "NEBOSVAR_COMMON 0xFFFFFFFF"),
         ("NEBOSVAR_COMMON SIZE_MAX\n", "NEBOSVAR_COMMON SIZE_MAX\n#define NEBOSVAR_FAR 7\n"),
+        ("NEBOSVAR_NOWHERE SIZE_MAX", "NEBOSVAR_NOWHERE 0"),
+        ("#define NEBOSVAR_NOWHERE SIZE_MAX\n", ""),
+        ("    size_t refused_at; /* of refusals 2 to 6;", "    uint32_t refused_at; /* of refusals 2 to 6;"),
+        ("    size_t refused_at; /* of a section; always NEBOSVAR_NOWHERE in nebosvar_handout's answer */\n", ""),
         ("/* Which 0x02", "extern int nebosvar_more;\n/* Which 0x02"),
         ("nebosvar_part nebosvar_extension", "nebosvar_lack nebosvar_extension"),
         ("/* no such place */", "/* module not complete */"),
@@ -334,6 +348,12 @@ def rust():
     for name, parameters, answer in re.findall(r"pub fn (nebosvar_\w+)\((.*?)\) -> (\w+);", text, re.S):
         calls[name] = [(n, rust_type(t)) for n, t in re.findall(r"(\w+): ([^,\n]+?)(?=,|$)", parameters)], rust_type(answer)
     return {"structs": structs, "calls": calls}
+
+
+def rust_places():
+    """The numbers that stand for no place, by C's names."""
+    ends = {"usize::MAX": 2**64 - 1}
+    return {name: ends.get(value, value) for name, value in re.findall(r"^pub const (\w+): usize = (.+);$", (RUST / "ffi.rs").read_text(), re.M)}
 
 
 def rust_constants():

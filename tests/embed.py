@@ -45,6 +45,7 @@ def compare_rust(numbers):
     for told, enums in ((taken, ("KIND", "STOP", "CLASS", "CONTROL", "DESCRIPTOR", "ITEM", "FOUND", "STATE")), (given, ("ITEM", "STATE"))):
         named = {n: k for n, k in numbers.items() if n.split("_")[0] in enums and n != "KIND_NONE"}
         assert set(told) == set(named.items()), set(told) ^ set(named.items())
+    assert boundary.rust_places() == {n: numbers[n] for n in ("COMMON", "NOWHERE")}, boundary.rust_places()
     words, printed = boundary.short_words(), boundary.rust_words()
     assert len(words) == 28 and words == printed, set(words.items()) ^ set(printed.items())
     print("embed.py: the Rust crate has the same structs and calls, the same number for each of %d cases, and the same words for %d refusals" % (len(set(taken)), len(words)))
@@ -89,7 +90,7 @@ def check_modules(command):
 def words_of(line):
     """The words that tell what kind of line it is."""
     words = line.split(",")
-    more = {"descriptor": words[4:5], "label": words[-2:-1], "application": words[4:7:2], "section": words[-1:]}
+    more = {"descriptor": words[4:5], "label": words[-2:-1], "application": words[4:7:2], "section": words[6:7]}
     where = ["remote-carousel" if words[6] == "1" else "local"] if words[4:5] == ["carousel"] else []
     return [words[0], *more.get(words[0], []), *where]
 

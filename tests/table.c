@@ -41,6 +41,24 @@ static void must(int holds, const char *what)
     exit(1);
 }
 
+/* A call's refusal and its place are these. */
+static int refused_so(uint8_t refusal, size_t at, uint8_t wanted, size_t place)
+{
+    return refusal == wanted && at == place;
+}
+
+/* It is refused with 19, which has no place in the section itself. */
+static int not_there(uint8_t refusal, size_t at)
+{
+    return refused_so(refusal, at, NEBOSVAR_NO_PLACE, NEBOSVAR_NOWHERE);
+}
+
+/* Nothing is refused, and at no place. */
+static int accepted(uint8_t refusal, size_t at)
+{
+    return refused_so(refusal, at, NEBOSVAR_ACCEPTED, NEBOSVAR_NOWHERE);
+}
+
 /* The line's name, the descriptor's loop and its place there. */
 static void begin(const char *name, size_t application, size_t descriptor)
 {
@@ -60,7 +78,7 @@ static void say_label(size_t application, size_t k, uint8_t label)
         return;
     }
     x = nebosvar_label(section, length, application, k);
-    must(x.refusal == 0 && x.common == 0, "a label of an application is found or not, in the section's own loop");
+    must(accepted(x.refusal, x.refused_at) && x.common == 0, "a label of an application is found or not, in the section's own loop");
     printf(",%s,", found[x.found]);
     if (x.found != NEBOSVAR_FOUND_UNRESOLVED)
         printf("%zu", x.place);
@@ -71,7 +89,7 @@ static void say_extensions(size_t application, size_t descriptor, size_t base, s
 {
     for (size_t m = 0; m < count; m++) {
         nebosvar_part x = nebosvar_extension(section, length, application, descriptor, base, m);
-        must(x.refusal == 0, "each extension that is counted is found");
+        must(accepted(x.refusal, x.refused_at), "each extension that is counted is found");
         begin("extension", application, descriptor);
         printf(",%zu,%zu,%zu,%zu\n", base, m, x.at, x.length);
     }
@@ -89,7 +107,7 @@ static int class_of(uint16_t number)
 static void say_item(size_t application, size_t descriptor, uint8_t kind, size_t k)
 {
     nebosvar_item_found x = nebosvar_item(section, length, application, descriptor, kind, k);
-    must(x.refusal == 0 && x.kind == kind, "each item that is counted is found, and is of the kind that was asked for");
+    must(accepted(x.refusal, x.refused_at) && x.kind == kind, "each item that is counted is found, and is of the kind that was asked for");
     must(x.class_number == (kind == NEBOSVAR_ITEM_IDENTIFIER ? class_of(x.number) : 0), "an identifier's number is classed");
     switch (kind) {
     case NEBOSVAR_ITEM_PROFILE:
@@ -150,66 +168,92 @@ static void say_contents(nebosvar_descriptor_head d)
 /* The items of a kind, and that there are no more. */
 static void say_items(size_t application, size_t descriptor, uint8_t kind, size_t count)
 {
+    nebosvar_item_found past = nebosvar_item(section, length, application, descriptor, kind, count);
     for (size_t k = 0; k < count; k++)
         say_item(application, descriptor, kind, k);
-    must(nebosvar_item(section, length, application, descriptor, kind, count).refusal == NEBOSVAR_NO_PLACE, "no item after the last");
+    must(not_there(past.refusal, past.refused_at), "no item after the last");
 }
 
 /* A loop's descriptors, each with its items: those that it counts by its own kind, and the labels. */
 static void say_loop(size_t application, size_t count)
 {
+    nebosvar_descriptor_head past = nebosvar_descriptor(section, length, application, count);
     for (size_t j = 0; j < count; j++) {
         nebosvar_descriptor_head d = nebosvar_descriptor(section, length, application, j);
-        must(d.refusal == 0, "each descriptor that is counted is found");
+        must(accepted(d.refusal, d.refused_at), "each descriptor that is counted is found");
         begin("descriptor", application, j);
         printf(",%u", d.tag);
         say_contents(d);
         say_items(application, j, d.kind, d.count);
         say_items(application, j, NEBOSVAR_ITEM_LABEL, d.labels);
     }
-    must(nebosvar_descriptor(section, length, application, count).refusal == NEBOSVAR_NO_PLACE, "no descriptor after the last");
+    must(not_there(past.refusal, past.refused_at), "no descriptor after the last");
+}
+
+/* A place where no application is: neither it nor a label of it is found. */
+static void no_application(size_t application)
+{
+    nebosvar_application_head a = nebosvar_application(section, length, application);
+    nebosvar_label_found l = nebosvar_label(section, length, application, 0);
+    must(not_there(a.refusal, a.refused_at), "no application after the last, nor is the common loop one");
+    must(not_there(l.refusal, l.refused_at), "no application that has labels after the last, nor is the common loop one");
 }
 
 static void say_table(nebosvar_table_head t)
 {
+    must(accepted(t.refusal, t.refused_at), "a table is accepted as the section was");
     printf("table,%u,%u,%u,%u,%u,%zu,%zu\n", t.test, t.application_type, t.version, t.section, t.last, t.common, t.applications);
     say_loop(NEBOSVAR_COMMON, t.common);
     for (size_t i = 0; i < t.applications; i++) {
         nebosvar_application_head a = nebosvar_application(section, length, i);
-        must(a.refusal == 0, "each application that is counted is found");
+        must(accepted(a.refusal, a.refused_at), "each application that is counted is found");
         printf("application,%zu,%u,%u,%s,%u,%s,%zu\n", i, a.organisation, a.number, classes[a.class_number], a.code, controls[a.control], a.descriptors);
         must(a.control == a.code || a.control == NEBOSVAR_CONTROL_RESERVED, "a class bears its code");
         say_loop(i, a.descriptors);
     }
-    must(nebosvar_application(section, length, t.applications).refusal == NEBOSVAR_NO_PLACE, "no application after the last");
-    must(nebosvar_application(section, length, NEBOSVAR_COMMON).refusal == NEBOSVAR_NO_PLACE, "the common loop is no application");
-    must(nebosvar_label(section, length, NEBOSVAR_COMMON, 0).refusal == NEBOSVAR_NO_PLACE, "the common loop is no application that has labels");
+    no_application(t.applications);
+    no_application(NEBOSVAR_COMMON);
 }
 
-/* Whatever is asked of a refused table, its own refusal goes before 19. */
-static void refused(uint8_t refusal)
+/* Whatever is asked of a refused table, its own refusal goes before 19, with the same place. */
+static void refused(uint8_t refusal, size_t at)
 {
-    must(nebosvar_application(section, length, 0).refusal == refusal, "a refused table has no application");
-    must(nebosvar_descriptor(section, length, NEBOSVAR_COMMON, 0).refusal == refusal, "a refused table has no descriptor");
-    must(nebosvar_item(section, length, NEBOSVAR_COMMON, 0, 0, 0).refusal == refusal, "a refused table has no item, of any kind");
-    must(nebosvar_extension(section, length, NEBOSVAR_COMMON, 0, 0, 0).refusal == refusal, "a refused table has no extension");
-    must(nebosvar_label(section, length, NEBOSVAR_COMMON, 0).refusal == refusal, "a refused table has no label");
+    nebosvar_table_head t = nebosvar_table(section, length);
+    nebosvar_application_head a = nebosvar_application(section, length, 0);
+    nebosvar_descriptor_head d = nebosvar_descriptor(section, length, NEBOSVAR_COMMON, 0);
+    nebosvar_item_found i = nebosvar_item(section, length, NEBOSVAR_COMMON, 0, 0, 0);
+    nebosvar_part e = nebosvar_extension(section, length, NEBOSVAR_COMMON, 0, 0, 0);
+    nebosvar_label_found l = nebosvar_label(section, length, NEBOSVAR_COMMON, 0);
+    must(refused_so(t.refusal, t.refused_at, refusal, at), "a table is refused as the section was");
+    must(refused_so(a.refusal, a.refused_at, refusal, at), "a refused table has no application");
+    must(refused_so(d.refusal, d.refused_at, refusal, at), "a refused table has no descriptor");
+    must(refused_so(i.refusal, i.refused_at, refusal, at), "a refused table has no item, of any kind");
+    must(refused_so(e.refusal, e.refused_at, refusal, at), "a refused table has no extension");
+    must(refused_so(l.refusal, l.refused_at, refusal, at), "a refused table has no label");
+}
+
+/* Lent a byte less, it is refused where that ends. A run never lends so, and no line shows it. */
+static void cut(void)
+{
+    length--;
+    refused(NEBOSVAR_BAD_SIZE, length);
 }
 
 static void say_section(size_t index, size_t at, nebosvar_taken next)
 {
-    nebosvar_table_head t;
     section = stretch + at;
     length = next.length;
-    printf("section,%zu,%zu,%zu,%u,%u,%s\n", index, at, length, section[0], next.refusal, kinds[next.kind]);
+    printf("section,%zu,%zu,%zu,%u,%u,%s,", index, at, length, section[0], next.refusal, kinds[next.kind]);
+    if (next.refused_at != NEBOSVAR_NOWHERE)
+        printf("%zu", next.refused_at);
+    putchar('\n');
     if (section[0] != 0x74)
         return;
-    t = nebosvar_table(section, length);
-    must(t.refusal == next.refusal, "a table is refused as the section was");
-    if (t.refusal == 0)
-        say_table(t);
+    if (next.refusal == 0)
+        say_table(nebosvar_table(section, length));
     else
-        refused(t.refusal);
+        refused(next.refusal, next.refused_at);
+    cut();
 }
 
 static uint32_t crc(const uint8_t *bytes, size_t count)
@@ -225,6 +269,7 @@ static void say_module(const nebosvar_record *record, size_t place)
     nebosvar_module m = record->modules[place];
     nebosvar_part part = nebosvar_handout(record, image, sizeof image, m.number);
     nebosvar_lack lack = nebosvar_missing(record, m.number);
+    must(part.refused_at == NEBOSVAR_NOWHERE, "a hand-out breaks at no byte of a section");
     printf("module,%zu,%u,%u,%u,%u,%u,%zu,", place, m.number, m.size, m.version, m.start, part.refusal, lack.count);
     if (lack.count > 0)
         printf("%zu", lack.lowest);
@@ -253,7 +298,8 @@ int main(void)
         say_section(index++, at, next);
         at += next.length;
     }
-    must(next.kind == NEBOSVAR_KIND_NONE && next.refusal == 0 && next.length == 0, "a stop has no kind, refusal and length");
+    must(next.kind == NEBOSVAR_KIND_NONE && next.length == 0, "a stop has no kind and length");
+    must(accepted(next.refusal, next.refused_at), "a stop has no refusal and place");
     printf("stop,%s\n", stops[next.stop]);
     if (record.count > 0)
         printf("record,%u,%u,%u\n", record.download, record.block_size, record.count);

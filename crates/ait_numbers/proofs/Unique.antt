@@ -13,6 +13,8 @@ use Rattle.ait_numbers.proofs.extension.Kinds as extension-kinds
 use Rattle.ait_numbers.proofs.extension.Reads as extension-reads
 use Rattle.ait_numbers.proofs.label.Kinds as label-kinds
 use Rattle.ait_numbers.proofs.label.Reads as label-reads
+use Rattle.ait_numbers.proofs.spot_number.Kinds as spot-number-kinds
+use Rattle.ait_numbers.proofs.spot_number.Reads as spot-number-reads
 
 table : OneAnswer 1 table-kinds.ps table-kinds.r table-reads.Post
 table κs a x y s t p q = p ∙ sym q
@@ -31,3 +33,6 @@ extension κs a x y s t p q = p ∙ sym q
 
 label : OneAnswer 1 label-kinds.ps label-kinds.r label-reads.Post
 label κs a x y s t p q = p ∙ sym q
+
+spot-number : OneAnswer 0 spot-number-kinds.ps spot-number-kinds.r spot-number-reads.Post
+spot-number κs a x y s t p q = p ∙ sym q

@@ -35,7 +35,7 @@ use Rattle.ait_numbers.specs.declared.LabelOut.{LabelOut}
 use Rattle.ait_numbers.specs.declared.kinds.Asked.{Asked}
 use Rattle.ait_numbers.specs.declared.kinds.Asked.the-variants.{Items, Nothing}
 use Rattle.ait_numbers.specs.Classes.{classNumber, controlNumber}
-use Rattle.ait_numbers.specs.Shapes.{noDescriptor, placedBy, noItem}
+use Rattle.ait_numbers.specs.Shapes.{nowhere, spotNumber, noDescriptor, placedBy, noItem}
 use Rattle.ait_numbers.specs.Tag00.{applicationDescriptorOut, profileOut, labelItemOut}
 use Rattle.ait_numbers.specs.Tag01.{namesOut, nameOut}
 use Rattle.ait_numbers.specs.Tag02.{localOut, remoteOut, basesOut, selectorOut, baseOut}
@@ -44,7 +44,7 @@ use Rattle.ait_numbers.specs.Tag15.{pathOut}
 
 -- the header, and how much there is
 abbrev pub tableOut : ReadAnswer → TableOut
-tableOut (reading.Refused r) = record { common = 0; applications = 0; test = 0; «application_type» = 0; version = 0; section = 0; last = 0; refusal = r .number }
+tableOut (reading.Refused r) = record { common = 0; applications = 0; test = 0; «application_type» = 0; version = 0; section = 0; last = 0; «refused_at» = spotNumber (r .place); refusal = r .number }
 tableOut (reading.Accepted t) =
     record {
       common = t .common;
@@ -54,11 +54,12 @@ tableOut (reading.Accepted t) =
       version = t .version;
       section = t .section;
       last = t .last;
+      «refused_at» = nowhere;
       refusal = 0;
     }
 
 abbrev pub applicationOut : ApplicationAnswer → ApplicationOut
-applicationOut (application.Refused r) = record { descriptors = 0; organisation = 0; number = 0; «class_number» = 0; code = 0; control = 0; refusal = r .number }
+applicationOut (application.Refused r) = record { descriptors = 0; organisation = 0; number = 0; «class_number» = 0; code = 0; control = 0; «refused_at» = spotNumber (r .place); refusal = r .number }
 applicationOut (application.Found x) =
     record {
       descriptors = x .descriptors;
@@ -67,6 +68,7 @@ applicationOut (application.Found x) =
       «class_number» = classNumber (x .class);
       code = x .code;
       control = controlNumber (x .control);
+      «refused_at» = nowhere;
       refusal = 0;
     }
 
@@ -91,7 +93,7 @@ describedOut (described.Path p) = pathOut p
 describedOut (described.Raw x) = rawOut x
 
 abbrev pub descriptorOut : DescriptorAnswer → DescriptorOut
-descriptorOut (descriptor.Refused r) = noDescriptor (r .number)
+descriptorOut (descriptor.Refused r) = noDescriptor r
 descriptorOut (descriptor.Found d) = describedOut d
 
 abbrev pub foundOut : Item → ItemOut
@@ -102,7 +104,7 @@ foundOut (item.Base b) = baseOut b
 foundOut (item.Identifier i) = identifierOut i
 
 abbrev pub itemOut : ItemAnswer → ItemOut
-itemOut (items.Refused r) = noItem (r .number)
+itemOut (items.Refused r) = noItem r
 itemOut (items.Found x) = foundOut x
 
 -- an item is asked for by its kind, which is its descriptor's: profiles (of a 0x00) 1, names 2, bases 5, identifiers 7. A 0x00 has labels too, 10.
@@ -129,12 +131,12 @@ abbrev pub itemAsked : List ℕ → Scope → (j kind k : ℕ) → ItemAnswer
 itemAsked s o j kind k = answerAsked s o j k (askedBy kind)
 
 abbrev pub extensionOut : ExtensionAnswer → PartOut
-extensionOut (extension.Refused r) = record { at = 0; length = 0; refusal = r .number }
-extensionOut (extension.Found x) = record { at = x .start; length = x .size; refusal = 0 }
+extensionOut (extension.Refused r) = record { at = 0; length = 0; «refused_at» = spotNumber (r .place); refusal = r .number }
+extensionOut (extension.Found x) = record { at = x .start; length = x .size; «refused_at» = nowhere; refusal = 0 }
 
 -- found: own 1, common 2 (in the common loop with that number), unresolved 3
 abbrev pub labelOut : Resolved → LabelOut
-labelOut (resolved.Refused r) = record { common = 0; place = 0; found = 0; refusal = r .number }
-labelOut (resolved.Own j) = record { common = 0; place = j; found = 1; refusal = 0 }
-labelOut (resolved.Common n j) = record { common = n; place = j; found = 2; refusal = 0 }
-labelOut resolved.Unresolved = record { common = 0; place = 0; found = 3; refusal = 0 }
+labelOut (resolved.Refused r) = record { common = 0; place = 0; found = 0; «refused_at» = spotNumber (r .place); refusal = r .number }
+labelOut (resolved.Own j) = record { common = 0; place = j; found = 1; «refused_at» = nowhere; refusal = 0 }
+labelOut (resolved.Common n j) = record { common = n; place = j; found = 2; «refused_at» = nowhere; refusal = 0 }
+labelOut resolved.Unresolved = record { common = 0; place = 0; found = 3; «refused_at» = nowhere; refusal = 0 }

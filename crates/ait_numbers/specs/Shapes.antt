@@ -1,11 +1,22 @@
 -- Descriptors and items as structs of numbers, whatever their kind. What a kind does not have is 0.
 use Prim.Native.Nat.{ℕ}
+use Rattle.section.specs.declared.Spot.{Spot}
+use Rattle.section.specs.declared.Spot.the-variants as spot
+use Rattle.section.specs.declared.Refusal.{Refusal}
 use Rattle.ait_descriptors.specs.declared.Span.{Span}
 use Rattle.ait_numbers.specs.declared.DescriptorOut.{DescriptorOut}
 use Rattle.ait_numbers.specs.declared.ItemOut.{ItemOut}
 
-abbrev pub noDescriptor : (refusal : ℕ) → DescriptorOut
-noDescriptor refusal =
+-- A refusal's place as a number. All ones stands for none: no section that can be lent is so long, so it is nobody's place.
+abbrev pub nowhere : ℕ
+nowhere = 0xFFFFFFFFFFFFFFFF
+
+unfoldable pub spotNumber : Spot → ℕ
+spotNumber spot.Nowhere = nowhere
+spotNumber (spot.Byte p) = p
+
+abbrev pub noDescriptor : Refusal → DescriptorOut
+noDescriptor r =
     record {
       count = 0;
       labels = 0;
@@ -22,7 +33,8 @@ noDescriptor refusal =
       bound = 0;
       visibility = 0;
       priority = 0;
-      refusal = refusal;
+      «refused_at» = spotNumber (r .place);
+      refusal = r .number;
     }
 
 -- a descriptor of so many items
@@ -44,6 +56,7 @@ countedBy kind tag protocol label count =
       bound = 0;
       visibility = 0;
       priority = 0;
+      «refused_at» = nowhere;
       refusal = 0;
     }
 
@@ -66,11 +79,12 @@ placedBy kind tag protocol label part =
       bound = 0;
       visibility = 0;
       priority = 0;
+      «refused_at» = nowhere;
       refusal = 0;
     }
 
-abbrev pub noItem : (refusal : ℕ) → ItemOut
-noItem refusal =
+abbrev pub noItem : Refusal → ItemOut
+noItem r =
     record {
       at = 0;
       length = 0;
@@ -87,5 +101,6 @@ noItem refusal =
       first = 0;
       second = 0;
       third = 0;
-      refusal = refusal;
+      «refused_at» = spotNumber (r .place);
+      refusal = r .number;
     }

@@ -4,6 +4,7 @@ use Rattle.ait_descriptors.specs.declared.tag00.ApplicationDescriptor.{Applicat
 use Rattle.ait_descriptors.specs.declared.tag00.Profile.{Profile}
 use Rattle.ait_numbers.specs.declared.DescriptorOut.{DescriptorOut}
 use Rattle.ait_numbers.specs.declared.ItemOut.{ItemOut}
+use Rattle.ait_numbers.specs.Shapes.{nowhere}
 
 abbrev pub applicationDescriptorOut : ApplicationDescriptor → DescriptorOut
 applicationDescriptorOut x =
@@ -23,6 +24,7 @@ applicationDescriptorOut x =
       bound = x .bound;
       visibility = x .visibility;
       priority = x .priority;
+      «refused_at» = nowhere;
       refusal = 0;
     }
 
@@ -44,6 +46,7 @@ profileOut p =
       first = 0;
       second = 0;
       third = 0;
+      «refused_at» = nowhere;
       refusal = 0;
     }
 
@@ -65,5 +68,6 @@ labelItemOut l =
       first = 0;
       second = 0;
       third = 0;
+      «refused_at» = nowhere;
       refusal = 0;
     }

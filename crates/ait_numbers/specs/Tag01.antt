@@ -3,7 +3,7 @@ use Prim.Native.Nat.{ℕ}
 use Rattle.ait_descriptors.specs.declared.tag01.Name.{Name}
 use Rattle.ait_numbers.specs.declared.DescriptorOut.{DescriptorOut}
 use Rattle.ait_numbers.specs.declared.ItemOut.{ItemOut}
-use Rattle.ait_numbers.specs.Shapes.{countedBy}
+use Rattle.ait_numbers.specs.Shapes.{nowhere, countedBy}
 
 abbrev pub namesOut : ℕ → DescriptorOut
 namesOut names = countedBy 2 0x01 0 0 names
@@ -26,5 +26,6 @@ nameOut n =
       first = n .first;
       second = n .second;
       third = n .third;
+      «refused_at» = nowhere;
       refusal = 0;
     }

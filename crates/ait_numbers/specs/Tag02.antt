@@ -6,7 +6,7 @@ use Rattle.ait_descriptors.specs.declared.tag02.Selector.{Selector}
 use Rattle.ait_descriptors.specs.declared.tag02.Base.{Base}
 use Rattle.ait_numbers.specs.declared.DescriptorOut.{DescriptorOut}
 use Rattle.ait_numbers.specs.declared.ItemOut.{ItemOut}
-use Rattle.ait_numbers.specs.Shapes.{countedBy, placedBy}
+use Rattle.ait_numbers.specs.Shapes.{nowhere, countedBy, placedBy}
 
 abbrev pub localOut : Local → DescriptorOut
 localOut x =
@@ -26,6 +26,7 @@ localOut x =
       bound = 0;
       visibility = 0;
       priority = 0;
+      «refused_at» = nowhere;
       refusal = 0;
     }
 
@@ -47,6 +48,7 @@ remoteOut x =
       bound = 0;
       visibility = 0;
       priority = 0;
+      «refused_at» = nowhere;
       refusal = 0;
     }
 
@@ -74,5 +76,6 @@ baseOut b =
       first = 0;
       second = 0;
       third = 0;
+      «refused_at» = nowhere;
       refusal = 0;
     }

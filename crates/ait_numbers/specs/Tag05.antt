@@ -5,7 +5,7 @@ use Rattle.ait_read.specs.Records.{classOf}
 use Rattle.ait_numbers.specs.declared.DescriptorOut.{DescriptorOut}
 use Rattle.ait_numbers.specs.declared.ItemOut.{ItemOut}
 use Rattle.ait_numbers.specs.Classes.{classNumber}
-use Rattle.ait_numbers.specs.Shapes.{countedBy}
+use Rattle.ait_numbers.specs.Shapes.{nowhere, countedBy}
 
 abbrev pub identifiersOut : ℕ → DescriptorOut
 identifiersOut identifiers = countedBy 7 0x05 0 0 identifiers
@@ -28,5 +28,6 @@ identifierOut i =
       first = 0;
       second = 0;
       third = 0;
+      «refused_at» = nowhere;
       refusal = 0;
     }

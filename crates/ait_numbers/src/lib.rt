@@ -28,17 +28,23 @@ use ait_read::ReadAnswer;
 use ait_read::Resolved;
 use ait_read::Scope;
 use section::Refusal;
+use section::Spot;
 ghost use mathlib.Core.Path.{_≡_};
 ghost use Rattle.ait_read.specs.Answers.{readAnswer, applicationAnswer, descriptorAnswer, extensionAnswer, resolveAnswer};
+ghost use Rattle.ait_numbers.specs.Shapes.{spotNumber};
 ghost use Rattle.ait_numbers.specs.Reading.{tableOut, applicationOut, descriptorOut, itemAsked, itemOut, extensionOut, labelOut, scopeOf, noPlace};
 
 // Stands for the common loop where an application's place is asked for.
 const COMMON: usize = 0xFFFF_FFFF_FFFF_FFFF;
 
+// Stands for no place beside a refusal, or none: no section is so long.
+pub const NOWHERE: usize = 0xFFFF_FFFF_FFFF_FFFF;
+
 #[repr(C)]
 pub struct TableOut {
     pub common: usize,
     pub applications: usize,
+    pub refused_at: usize,
     pub test: u16,
     pub application_type: u16,
     pub version: u8,
@@ -50,6 +56,7 @@ pub struct TableOut {
 #[repr(C)]
 pub struct ApplicationOut {
     pub descriptors: usize,
+    pub refused_at: usize,
     pub organisation: u32,
     pub number: u16,
     pub class_number: u8,
@@ -65,6 +72,7 @@ pub struct DescriptorOut {
     pub labels: usize,
     pub at: usize,
     pub length: usize,
+    pub refused_at: usize,
     pub protocol: u16,
     pub network: u16,
     pub transport: u16,
@@ -85,6 +93,7 @@ pub struct ItemOut {
     pub at: usize,
     pub length: usize,
     pub extensions: usize,
+    pub refused_at: usize,
     pub organisation: u32,
     pub number: u16,
     pub class_number: u8,
@@ -105,6 +114,7 @@ pub struct ItemOut {
 pub struct PartOut {
     pub at: usize,
     pub length: usize,
+    pub refused_at: usize,
     pub refusal: u8,
 }
 
@@ -112,6 +122,7 @@ pub struct PartOut {
 pub struct LabelOut {
     pub common: usize,
     pub place: usize,
+    pub refused_at: usize,
     pub found: u8,
     pub refusal: u8,
 }
@@ -129,6 +140,7 @@ pub fn table(s: &[u8]) -> TableOut
             version: 0,
             section: 0,
             last: 0,
+            refused_at: place_told(r),
             refusal: r.number,
         },
         ReadAnswer::Accepted(t) => TableOut {
@@ -139,6 +151,7 @@ pub fn table(s: &[u8]) -> TableOut
             version: t.version,
             section: t.section,
             last: t.last,
+            refused_at: NOWHERE,
             refusal: 0,
         },
     }
@@ -156,6 +169,7 @@ pub fn application(s: &[u8], i: usize) -> ApplicationOut
             class_number: 0,
             code: 0,
             control: 0,
+            refused_at: place_told(r),
             refusal: r.number,
         },
         ApplicationAnswer::Found(x) => {
@@ -168,6 +182,7 @@ pub fn application(s: &[u8], i: usize) -> ApplicationOut
                 class_number: class_number(class),
                 code: x.code,
                 control: control_number(control),
+                refused_at: NOWHERE,
                 refusal: 0,
             }
         }
@@ -179,7 +194,7 @@ pub fn descriptor(s: &[u8], i: usize, j: usize) -> DescriptorOut
     ensures { λ r. ⌜ r ≡ descriptorOut (descriptorAnswer (now (s .entry)) (scopeOf i) j) ⌝ }
 {
     match ait_read::descriptor_at(s, scope_of(i), j) {
-        DescriptorAnswer::Refused(r) => no_descriptor(r.number),
+        DescriptorAnswer::Refused(r) => no_descriptor(r),
         DescriptorAnswer::Found(d) => described_out(d),
     }
 }
@@ -189,7 +204,7 @@ pub fn item(s: &[u8], i: usize, j: usize, kind: u8, k: usize) -> ItemOut
     ensures { λ r. ⌜ r ≡ itemOut (itemAsked (now (s .entry)) (scopeOf i) j kind k) ⌝ }
 {
     match item_asked(s, scope_of(i), j, kind, k) {
-        ItemAnswer::Refused(r) => no_item(r.number),
+        ItemAnswer::Refused(r) => no_item(r),
         ItemAnswer::Found(x) => found_out(x),
     }
 }
@@ -202,11 +217,13 @@ pub fn extension(s: &[u8], i: usize, j: usize, k: usize, m: usize) -> PartOut
         ExtensionAnswer::Refused(r) => PartOut {
             at: 0,
             length: 0,
+            refused_at: place_told(r),
             refusal: r.number,
         },
         ExtensionAnswer::Found(x) => PartOut {
             at: x.start,
             length: x.size,
+            refused_at: NOWHERE,
             refusal: 0,
         },
     }
@@ -221,26 +238,48 @@ pub fn label(s: &[u8], i: usize, k: usize) -> LabelOut
             common: 0,
             place: 0,
             found: 0,
+            refused_at: place_told(r),
             refusal: r.number,
         },
         Resolved::Own(j) => LabelOut {
             common: 0,
             place: j,
             found: 1,
+            refused_at: NOWHERE,
             refusal: 0,
         },
         Resolved::Common(n, j) => LabelOut {
             common: n,
             place: j,
             found: 2,
+            refused_at: NOWHERE,
             refusal: 0,
         },
         Resolved::Unresolved => LabelOut {
             common: 0,
             place: 0,
             found: 3,
+            refused_at: NOWHERE,
             refusal: 0,
         },
+    }
+}
+
+// Where a section broke, as a number, of its refusal.
+fn place_told(refusal: Refusal) -> usize
+    ensures { λ r. ⌜ r ≡ spotNumber (refusal .place) ⌝ }
+{
+    let place = refusal.place;
+    spot_number(place)
+}
+
+// And of the place itself.
+pub fn spot_number(place: Spot) -> usize
+    ensures { λ r. ⌜ r ≡ spotNumber place ⌝ }
+{
+    match place {
+        Spot::Nowhere => NOWHERE,
+        Spot::Byte(p) => p,
     }
 }
 
@@ -268,6 +307,9 @@ fn no_place(s: &[u8]) -> ItemAnswer
 {
     match ait_read::read(s) {
         ReadAnswer::Refused(r) => ItemAnswer::Refused(r),
-        ReadAnswer::Accepted(_) => ItemAnswer::Refused(Refusal { number: 19 }),
+        ReadAnswer::Accepted(_) => ItemAnswer::Refused(Refusal {
+            number: 19,
+            place: Spot::Nowhere,
+        }),
     }
 }

@@ -1,7 +1,10 @@
 // Descriptors and items as numbers, whatever their kind. What a kind does not have is 0.
 use crate::DescriptorOut;
 use crate::ItemOut;
+use crate::NOWHERE;
+use crate::place_told;
 use ait_descriptors::Span;
+use section::Refusal;
 ghost use mathlib.Core.Path.{_≡_};
 ghost use Rattle.ait_numbers.specs.Shapes.{noDescriptor, countedBy, placedBy, noItem};
 
@@ -21,6 +24,7 @@ pub const BLANK_DESCRIPTOR: DescriptorOut = DescriptorOut {
     bound: 0,
     visibility: 0,
     priority: 0,
+    refused_at: NOWHERE,
     refusal: 0,
 };
 
@@ -40,14 +44,16 @@ pub const BLANK_ITEM: ItemOut = ItemOut {
     first: 0,
     second: 0,
     third: 0,
+    refused_at: NOWHERE,
     refusal: 0,
 };
 
-pub fn no_descriptor(refusal: u8) -> DescriptorOut
+pub fn no_descriptor(refusal: Refusal) -> DescriptorOut
     ensures { λ r. ⌜ r ≡ noDescriptor refusal ⌝ }
 {
     DescriptorOut {
-        refusal,
+        refused_at: place_told(refusal),
+        refusal: refusal.number,
         ..BLANK_DESCRIPTOR
     }
 }
@@ -81,11 +87,12 @@ pub fn placed(kind: u8, tag: u8, protocol: u16, label: u8, part: Span) -> Descri
     }
 }
 
-pub fn no_item(refusal: u8) -> ItemOut
+pub fn no_item(refusal: Refusal) -> ItemOut
     ensures { λ r. ⌜ r ≡ noItem refusal ⌝ }
 {
     ItemOut {
-        refusal,
+        refused_at: place_told(refusal),
+        refusal: refusal.number,
         ..BLANK_ITEM
     }
 }

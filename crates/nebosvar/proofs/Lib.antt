@@ -1,3 +1,4 @@
 pub mod Unique
 pub mod Numbers
+pub mod Places
 pub mod Lists

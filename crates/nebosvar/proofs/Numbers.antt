@@ -19,10 +19,10 @@ use Rattle.carousel_handout.specs.declared.Handed.{Handed}
 use Rattle.carousel_handout.specs.declared.Report.{Report}
 use Rattle.carousel_handout.specs.declared.Report.the-variants as report
 use Rattle.carousel_record.specs.Record.{ruledOf}
-use Rattle.carousel_step.specs.Step as carousel
 use Rattle.carousel_step.specs.Step.{steppedOf, imageOf, stepTests}
 use Rattle.carousel_handout.specs.Calls.{handoutNumber, handoutPlace, missingNumber, reportOf, numberOfReport}
 use Rattle.carousel_step.proofs.Exact.{step-number}
+use Rattle.carousel_step.proofs.Told.{step-told}
 use Rattle.carousel_handout.proofs.Laws.Calls.{report-number}
 use Rattle.ait_read.specs.declared.Scope.{Scope}
 use Rattle.ait_read.specs.declared.ReadAnswer.{ReadAnswer}
@@ -61,6 +61,7 @@ use Rattle.ait_read.specs.Answers.{
   numberOfExtension,
   numberOfResolved,
 }
+use Rattle.ait_read.proofs.Laws.Told.{read-told}
 use Rattle.ait_read.proofs.Laws.Numbers.{read-number, application-number, descriptor-number, item-number, extension-number, resolve-number}
 use Rattle.receiver.specs.declared.Fate.{Fate}
 use Rattle.receiver.specs.declared.Fate.the-variants as fate
@@ -71,11 +72,12 @@ use Rattle.receiver.specs.declared.What.the-variants as what
 use Rattle.receiver.specs.Run.{stopAt, wholeAt, givenOf, stoppedBy, numberOfFate, numberTook, carouselFate, tookOf, tookNumber}
 use Rattle.receiver.proofs.Laws.Takes.{carousel-fate, took-number}
 use Rattle.receiver.proofs.Laws.Fates.{fate-tells}
-use Rattle.receiver.proofs.Laws.Refusals.{step-refused, step-some, table-some, take-some}
+use Rattle.receiver.proofs.Laws.Refusals.{step-refused, take-told}
 use Rattle.receiver.specs.Kinds.{kindNumber, stopNumber}
 use Rattle.nebosvar.specs.Box.{stepOut, whatOut, takeOut, partOut, lackOut}
 use Rattle.ait_numbers.specs.declared.kinds.Asked.{Asked}
 use Rattle.ait_numbers.specs.declared.kinds.Asked.the-variants as asked
+use Rattle.ait_numbers.specs.Shapes.{nowhere}
 use Rattle.ait_numbers.specs.Reading.{tableOut, applicationOut, describedOut, descriptorOut, noPlace, askedBy, answerAsked, itemAsked, foundOut, itemOut, extensionOut, labelOut}
 
 -- exactly one of refusal and kind is 0, where no refusal is
@@ -99,7 +101,7 @@ module _ (c : Carousel) (s image : List ℕ) where
   -- "exactly one of refusal and kind is 0"
   pub step-one-of-two : OneOfTwo (stepOut c s image .answer .refusal) (stepOut c s image .answer .kind)
   unfolding stepOut carouselFate
-  step-one-of-two = one-of-two (carouselFate (steppedOf c s image .answer)) (λ r e z. step-some c s image r (fate-tells (steppedOf c s image .answer) (answer.Refused r) e) z)
+  step-one-of-two = one-of-two (carouselFate (steppedOf c s image .answer)) (λ r e. step-told s r c image (fate-tells (steppedOf c s image .answer) (answer.Refused r) e) .some)
 
   -- "and changes neither record nor image"
   pub step-changes-nothing : (stepOut c s image .answer .refusal ≡ 0 → ⊥) → (stepOut c s image .state ≡ c) × (imageOf c s image ≡ image)
@@ -152,7 +154,7 @@ take-one-of-two c s image budget = apart (tookOf c s image budget .what) (go (ru
         })) (stoppedBy c stop.State) .what)
     go false u = tt
     go true true = tt
-    go true false = take-some c (take (wholeAt s) s) image
+    go true false = λ r e. take-told c (take (wholeAt s) s) image r e .some
 
 pub handout-refusal : (c : Carousel) (image : List ℕ) (number : ℕ) → partOut c image number .refusal ≡ handoutNumber c image number
 unfolding handoutPlace
@@ -171,6 +173,28 @@ missing-refusal c number = told (reportOf c number) ∙ report-number c number
     told report.Whole = refl
     told (report.Lacking l) = refl
 
+-- what is found is no refusal, and is nowhere broken
+abbrev pub Unbroken : (refusal refused-at : ℕ) → Type 0
+Unbroken refusal refused-at = (refusal ≡ 0) × (refused-at ≡ nowhere)
+
+pub described-unbroken : (d : Described) → Unbroken (describedOut d .refusal) (describedOut d .«refused_at»)
+described-unbroken (described.Application x) = (refl, refl)
+described-unbroken (described.Names n) = (refl, refl)
+described-unbroken (described.Local x) = (refl, refl)
+described-unbroken (described.Remote x) = (refl, refl)
+described-unbroken (described.Bases x) = (refl, refl)
+described-unbroken (described.Selector x) = (refl, refl)
+described-unbroken (described.Identifiers n) = (refl, refl)
+described-unbroken (described.Path p) = (refl, refl)
+described-unbroken (described.Raw x) = (refl, refl)
+
+pub found-unbroken : (x : Item) → Unbroken (foundOut x .refusal) (foundOut x .«refused_at»)
+found-unbroken (item.Profile p) = (refl, refl)
+found-unbroken (item.Label l) = (refl, refl)
+found-unbroken (item.Name n) = (refl, refl)
+found-unbroken (item.Base b) = (refl, refl)
+found-unbroken (item.Identifier i) = (refl, refl)
+
 -- the application section
 module _ (s : List ℕ) where
   pub table-refusal : tableOut (readAnswer s) .refusal ≡ readNumber s
@@ -187,34 +211,16 @@ module _ (s : List ℕ) where
       told (application.Refused r) = refl
       told (application.Found x) = refl
 
-  described-is-none : (d : Described) → describedOut d .refusal ≡ 0
-  described-is-none (described.Application x) = refl
-  described-is-none (described.Names n) = refl
-  described-is-none (described.Local x) = refl
-  described-is-none (described.Remote x) = refl
-  described-is-none (described.Bases x) = refl
-  described-is-none (described.Selector x) = refl
-  described-is-none (described.Identifiers n) = refl
-  described-is-none (described.Path p) = refl
-  described-is-none (described.Raw x) = refl
-
   pub descriptor-refusal : (o : Scope) (j : ℕ) → descriptorOut (descriptorAnswer s o j) .refusal ≡ placeNumber s (descriptorAt o j s)
   descriptor-refusal o j = told (descriptorAnswer s o j) ∙ descriptor-number s o j
     where
       told : (r : DescriptorAnswer) → descriptorOut r .refusal ≡ numberOfDescriptor r
       told (descriptor.Refused r) = refl
-      told (descriptor.Found d) = described-is-none d
-
-  found-is-none : (x : Item) → foundOut x .refusal ≡ 0
-  found-is-none (item.Profile p) = refl
-  found-is-none (item.Label l) = refl
-  found-is-none (item.Name n) = refl
-  found-is-none (item.Base b) = refl
-  found-is-none (item.Identifier i) = refl
+      told (descriptor.Found d) = described-unbroken d .0
 
   item-told : (r : ItemAnswer) → itemOut r .refusal ≡ numberOfItem r
   item-told (items.Refused r) = refl
-  item-told (items.Found x) = found-is-none x
+  item-told (items.Found x) = found-unbroken x .0
 
   -- where an item lies that is asked for; of a kind that is none of the five, nowhere
   abbrev pub askedAt : Scope → (j k : ℕ) → Asked → Place
@@ -226,7 +232,7 @@ module _ (s : List ℕ) where
   none-asked = go (readAnswer s) refl ∙ sym (met-append 0 (applicationTests s) ((19, true) ∷ []) (rising s))
     where
       go : (a : ReadAnswer) → readAnswer s ≡ a → numberOfItem (noPlace a) ≡ cond (eqb (readNumber s) 0) 19 (readNumber s)
-      go (reading.Refused r) e = let n = sym (ap numberOfRead e) ∙ read-number s in rw (ne-eqb (readNumber s) 0 (λ z. table-some s r e (n ∙ z))) n
+      go (reading.Refused r) e = let n = sym (ap numberOfRead e) ∙ read-number s in rw (ne-eqb (readNumber s) 0 (λ z. read-told s r e .some (n ∙ z))) n
       go (reading.Accepted t) e = rw (eq-eqb (readNumber s) 0 (sym (read-number s) ∙ ap numberOfRead e))
 
   pub item-refusal : (o : Scope) (j kind k : ℕ) → itemOut (itemAsked s o j kind k) .refusal ≡ placeNumber s (askedAt o j k (askedBy kind))

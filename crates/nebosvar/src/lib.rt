@@ -11,8 +11,10 @@ use ait_numbers::ApplicationOut;
 use ait_numbers::DescriptorOut;
 use ait_numbers::ItemOut;
 use ait_numbers::LabelOut;
+use ait_numbers::NOWHERE;
 use ait_numbers::PartOut;
 use ait_numbers::TableOut;
+use ait_numbers::spot_number;
 use carousel_handout::Report;
 use carousel_record::Carousel;
 use drift::fix_out;
@@ -33,9 +35,10 @@ ghost use Rattle.ait_numbers.specs.Reading.{tableOut, applicationOut, descripto
 ghost use Rattle.nebosvar.specs.Box.{fateOut, stepOut, whatOut, takeOut, runOut, partOut, lackOut};
 ghost use Rattle.nebosvar.specs.Drift.{listOut, fixOut, writtenOut};
 
-// What became of a section: its refusal, 0 for none, and its kind.
+// What became of a section: its refusal, 0 for none, where it broke, and its kind.
 #[repr(C)]
 pub struct FateOut {
+    pub refused_at: usize,
     pub refusal: u8,
     pub kind: u8,
 }
@@ -44,6 +47,7 @@ pub struct FateOut {
 #[repr(C)]
 pub struct TakenOut {
     pub length: usize,
+    pub refused_at: usize,
     pub stop: u8,
     pub refusal: u8,
     pub kind: u8,
@@ -335,6 +339,7 @@ fn handout(c: Carousel, image: &[u8], number: u16) -> PartOut
     PartOut {
         at: h.start,
         length: h.size,
+        refused_at: NOWHERE,
         refusal: h.number,
     }
 }
@@ -365,6 +370,7 @@ fn fate_out(f: Fate) -> FateOut
     ensures { λ r. ⌜ r ≡ fateOut f ⌝ }
 {
     FateOut {
+        refused_at: spot_number(receiver::fate_place(f)),
         refusal: receiver::fate_number(f),
         kind: receiver::kind_number(f),
     }
@@ -376,6 +382,7 @@ fn what_out(w: What) -> TakenOut
     match w {
         What::Stopped(stop) => TakenOut {
             length: 0,
+            refused_at: NOWHERE,
             stop: receiver::stop_number(stop),
             refusal: 0,
             kind: 0,
@@ -385,6 +392,7 @@ fn what_out(w: What) -> TakenOut
             let out = fate_out(fate);
             TakenOut {
                 length: x.length,
+                refused_at: out.refused_at,
                 stop: 0,
                 refusal: out.refusal,
                 kind: out.kind,

@@ -20,9 +20,9 @@ pub enum Kind {
 }
 
 impl Kind {
-    /// A section's refusal and kind.
-    pub(crate) fn check(refusal: u8, kind: u8) -> Result<Kind, Refusal> {
-        Refusal::check(refusal)?;
+    /// A section's refusal, its place, and the section's kind.
+    pub(crate) fn check(refusal: u8, place: usize, kind: u8) -> Result<Kind, Refusal> {
+        Refusal::check(refusal, place)?;
         match kind {
             1 => Ok(Kind::Table),
             2 => Ok(Kind::New),
@@ -69,7 +69,7 @@ pub enum Taken {
     Section {
         /// Its bytes: the next one begins there.
         length: usize,
-        /// What became of it.
+        /// What became of it. A refusal's place is counted from its own first byte.
         fate: Result<Kind, Refusal>,
     },
     /// None was taken.

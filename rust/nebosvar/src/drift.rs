@@ -111,7 +111,7 @@ impl<'a> DriftList<'a> {
     pub fn read(bytes: &'a [u8]) -> Result<DriftList<'a>, Refusal> {
         // SAFETY: the slice lends as many bytes as its length says; no precondition.
         let list = unsafe { ffi::nebosvar_list_read(bytes.as_ptr(), bytes.len()) };
-        Refusal::check(list.refusal)?;
+        Refusal::check(list.refusal, ffi::NOWHERE)?;
         Ok(DriftList {
             bytes,
             issue: list.issue,
@@ -313,7 +313,7 @@ pub fn write_numbers(
             out.len(),
         )
     };
-    Refusal::check(written.refusal)?;
+    Refusal::check(written.refusal, ffi::NOWHERE)?;
     Ok(written.size)
 }
 
@@ -360,7 +360,7 @@ pub fn walk_at(list: &[u8], k: usize) -> Result<Fix, Refusal> {
 
 /// A record that was found, or the refusal.
 fn fix(found: ffi::Found) -> Result<Fix, Refusal> {
-    Refusal::check(found.refusal)?;
+    Refusal::check(found.refusal, ffi::NOWHERE)?;
     Ok(Fix {
         buoy: found.buoy,
         state: State::of(found.state),

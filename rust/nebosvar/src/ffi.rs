@@ -7,8 +7,12 @@ use std::mem::{offset_of, size_of};
 /// `NEBOSVAR_COMMON`.
 pub const COMMON: usize = usize::MAX;
 
+/// `NEBOSVAR_NOWHERE`.
+pub const NOWHERE: usize = usize::MAX;
+
 #[repr(C)]
 pub struct Fate {
+    pub refused_at: usize,
     pub refusal: u8,
     pub kind: u8,
 }
@@ -16,6 +20,7 @@ pub struct Fate {
 #[repr(C)]
 pub struct Taken {
     pub length: usize,
+    pub refused_at: usize,
     pub stop: u8,
     pub refusal: u8,
     pub kind: u8,
@@ -32,6 +37,7 @@ pub struct Passage {
 pub struct Part {
     pub at: usize,
     pub length: usize,
+    pub refused_at: usize,
     pub refusal: u8,
 }
 
@@ -46,6 +52,7 @@ pub struct Lack {
 pub struct TableHead {
     pub common: usize,
     pub applications: usize,
+    pub refused_at: usize,
     pub test: u16,
     pub application_type: u16,
     pub version: u8,
@@ -57,6 +64,7 @@ pub struct TableHead {
 #[repr(C)]
 pub struct ApplicationHead {
     pub descriptors: usize,
+    pub refused_at: usize,
     pub organisation: u32,
     pub number: u16,
     pub class_number: u8,
@@ -71,6 +79,7 @@ pub struct DescriptorHead {
     pub labels: usize,
     pub at: usize,
     pub length: usize,
+    pub refused_at: usize,
     pub protocol: u16,
     pub network: u16,
     pub transport: u16,
@@ -90,6 +99,7 @@ pub struct ItemFound {
     pub at: usize,
     pub length: usize,
     pub extensions: usize,
+    pub refused_at: usize,
     pub organisation: u32,
     pub number: u16,
     pub class_number: u8,
@@ -107,6 +117,7 @@ pub struct ItemFound {
 pub struct LabelFound {
     pub common: usize,
     pub place: usize,
+    pub refused_at: usize,
     pub found: u8,
     pub refusal: u8,
 }
@@ -226,16 +237,16 @@ const _: () = {
     assert!(offset_of!(Record, count) == 6);
     assert!(offset_of!(Record, modules) == 8);
     assert!(offset_of!(Record, marks) == 264);
-    assert!(size_of::<Fate>() == 2);
-    assert!(size_of::<Taken>() == 16);
+    assert!(size_of::<Fate>() == 16);
+    assert!(size_of::<Taken>() == 24);
     assert!(size_of::<Passage>() == 24);
-    assert!(size_of::<Part>() == 24);
+    assert!(size_of::<Part>() == 32);
     assert!(size_of::<Lack>() == 24);
-    assert!(size_of::<TableHead>() == 24);
-    assert!(size_of::<ApplicationHead>() == 24);
-    assert!(size_of::<DescriptorHead>() == 48);
-    assert!(size_of::<ItemFound>() == 48);
-    assert!(size_of::<LabelFound>() == 24);
+    assert!(size_of::<TableHead>() == 32);
+    assert!(size_of::<ApplicationHead>() == 32);
+    assert!(size_of::<DescriptorHead>() == 56);
+    assert!(size_of::<ItemFound>() == 56);
+    assert!(size_of::<LabelFound>() == 32);
     assert!(size_of::<List>() == 6);
     assert!(size_of::<Found>() == 16);
     assert!(size_of::<Written>() == 16);

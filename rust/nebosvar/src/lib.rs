@@ -8,7 +8,8 @@
 //!
 //! * Any bytes, any record, any image: each call ends, with the one answer stated for them. There is
 //!   nothing to check first.
-//! * A refusal changes neither the record nor the image nor the bytes to be written.
+//! * A refusal changes neither the record nor the image nor the bytes to be written. That of a section whose header or
+//!   CRC is wrong says at which byte it broke ([`Refusal::place`]).
 //! * No call allocates, blocks, keeps a reference, or uses anything but what it is lent.
 //!
 //! The proofs leave it to the caller that a length is its pointer's, and that what is lent, as record, section

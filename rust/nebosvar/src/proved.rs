@@ -22,16 +22,21 @@ pub fn range(at: usize, length: usize) -> Range<usize> {
 mod tests {
     use super::range;
     use crate::drift::State;
+    use crate::ffi::NOWHERE;
     use crate::{Class, Control, Kind, Refusal, Stop};
+    use std::panic::{catch_unwind, UnwindSafe};
 
     #[test]
     fn what_the_header_does_not_have_is_excluded() {
-        let calls: [fn(); 13] = [
-            || assert!(Refusal::check(21).is_ok()),
-            || assert!(Refusal::check(29).is_ok()),
-            || assert!(Refusal::check(38).is_ok()),
-            || assert!(Kind::check(0, 0).is_ok()),
-            || assert!(Kind::check(0, 6).is_ok()),
+        let calls: [fn(); 16] = [
+            || assert!(Refusal::check(21, NOWHERE).is_ok()),
+            || assert!(Refusal::check(29, NOWHERE).is_ok()),
+            || assert!(Refusal::check(38, NOWHERE).is_ok()),
+            || assert!(Refusal::check(21, 0).is_ok()),
+            || assert!(Kind::check(0, 0, 1).is_ok()), // accepted, at a place
+            || assert!(Kind::check(0, NOWHERE, 0).is_ok()),
+            || assert!(Kind::check(0, NOWHERE, 6).is_ok()),
+            || assert!(Kind::check(5, NOWHERE, 0).is_ok()), // refused with 5, at none
             || assert_eq!(Stop::of(0), Stop::End),
             || assert_eq!(Stop::of(6), Stop::End),
             || assert_eq!(Class::of(0), Class::Unsigned),
@@ -42,9 +47,29 @@ mod tests {
             || assert!(range(1, usize::MAX).is_empty()),
         ];
         for call in calls {
-            let panic = std::panic::catch_unwind(call).unwrap_err();
-            let words = panic.downcast_ref::<&str>().unwrap();
-            assert!(words.contains("its proofs exclude"));
+            assert!(is_excluded(call));
         }
+    }
+
+    /// Whether it ends so.
+    fn is_excluded(call: impl FnOnce() + UnwindSafe) -> bool {
+        let ended = catch_unwind(call).err();
+        let words = ended.and_then(|panic| panic.downcast_ref::<&str>().copied());
+        words.is_some_and(|words| words.contains("its proofs exclude"))
+    }
+
+    #[test]
+    fn refusals_2_to_6_have_a_place_and_no_other_has() {
+        for number in 0..=u8::MAX {
+            let known = matches!(number, 0..=20 | 30..=37);
+            let placed = matches!(number, 2..=6);
+            let check = |place| Refusal::check(number, place).unwrap_or(());
+            assert_eq!(is_excluded(|| check(NOWHERE)), placed || !known);
+            assert_eq!(is_excluded(|| check(0)), !placed);
+            assert_eq!(is_excluded(|| check(NOWHERE - 1)), !placed);
+        }
+        assert_eq!(Refusal::check(5, 12), Err(Refusal::bad_crc(12)));
+        assert_eq!(Refusal::check(7, NOWHERE), Err(Refusal::MALFORMED));
+        assert_eq!(Refusal::check(0, NOWHERE), Ok(()));
     }
 }

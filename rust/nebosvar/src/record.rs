@@ -81,7 +81,7 @@ impl Record {
                 image.len(),
             )
         };
-        Kind::check(fate.refusal, fate.kind)
+        Kind::check(fate.refusal, fate.refused_at, fate.kind)
     }
 
     /// Takes the section at the head of a stretch, or says why there is none to take. A table 0x74
@@ -124,7 +124,7 @@ impl Record {
         match taken.stop {
             0 => Taken::Section {
                 length: taken.length,
-                fate: Kind::check(taken.refusal, taken.kind),
+                fate: Kind::check(taken.refusal, taken.refused_at, taken.kind),
             },
             stop => Taken::Stopped(Stop::of(stop)),
         }
@@ -186,7 +186,7 @@ impl Record {
     pub fn handout<'a>(&self, image: &'a [u8], number: u16) -> Result<&'a [u8], Refusal> {
         // SAFETY: the borrows lend as many bytes as their lengths say; no precondition.
         let part = unsafe { ffi::nebosvar_handout(self, image.as_ptr(), image.len(), number) };
-        Refusal::check(part.refusal)?;
+        Refusal::check(part.refusal, part.refused_at)?;
         match image.get(range(part.at, part.length)) {
             Some(bytes) => Ok(bytes),
             None => excluded(),
@@ -211,7 +211,7 @@ impl Record {
     pub fn missing(&self, number: u16) -> Result<Option<Missing>, Refusal> {
         // SAFETY: the borrow lends one record; no precondition.
         let lack = unsafe { ffi::nebosvar_missing(self, number) };
-        Refusal::check(lack.refusal)?;
+        Refusal::check(lack.refusal, ffi::NOWHERE)?;
         Ok((lack.count > 0).then_some(Missing {
             count: lack.count,
             lowest: lack.lowest,

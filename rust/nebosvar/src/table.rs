@@ -261,7 +261,7 @@ pub enum Label {
 }
 
 /// Judges an application section (table 0x74): its header, and how much there is in it. It can refuse
-/// with 2 to 7 and 18, and every call below with these too.
+/// with 2 to 7 and 18, and every call below with these too, at the same [place](Refusal::place).
 ///
 /// What is in the section is asked for by place, from 0:
 ///
@@ -296,7 +296,7 @@ pub enum Label {
 pub fn table(section: &[u8]) -> Result<Table, Refusal> {
     // SAFETY: the slice lends as many bytes as its length says; no precondition.
     let head = unsafe { ffi::nebosvar_table(section.as_ptr(), section.len()) };
-    Refusal::check(head.refusal)?;
+    Refusal::check(head.refusal, head.refused_at)?;
     Ok(Table {
         test: head.test,
         application_type: head.application_type,
@@ -312,7 +312,7 @@ pub fn table(section: &[u8]) -> Result<Table, Refusal> {
 pub fn application(section: &[u8], i: usize) -> Result<Application, Refusal> {
     // SAFETY: the slice lends as many bytes as its length says; no precondition.
     let head = unsafe { ffi::nebosvar_application(section.as_ptr(), section.len(), i) };
-    Refusal::check(head.refusal)?;
+    Refusal::check(head.refusal, head.refused_at)?;
     Ok(Application {
         organisation: head.organisation,
         number: head.number,
@@ -328,7 +328,7 @@ pub fn descriptor(section: &[u8], scope: Scope, j: usize) -> Result<Descriptor, 
     let i = scope.number();
     // SAFETY: the slice lends as many bytes as its length says; no precondition.
     let head = unsafe { ffi::nebosvar_descriptor(section.as_ptr(), section.len(), i, j) };
-    Refusal::check(head.refusal)?;
+    Refusal::check(head.refusal, head.refused_at)?;
     let part = range(head.at, head.length);
     Ok(match head.kind {
         1 => Descriptor::Application {
@@ -381,7 +381,7 @@ pub fn item(
     let i = scope.number();
     // SAFETY: the slice lends as many bytes as its length says; no precondition.
     let found = unsafe { ffi::nebosvar_item(section.as_ptr(), section.len(), i, j, kind as u8, k) };
-    Refusal::check(found.refusal)?;
+    Refusal::check(found.refusal, found.refused_at)?;
     let part = range(found.at, found.length);
     Ok(match found.kind {
         1 => Item::Profile {
@@ -420,7 +420,7 @@ pub fn extension(
     let i = scope.number();
     // SAFETY: the slice lends as many bytes as its length says; no precondition.
     let part = unsafe { ffi::nebosvar_extension(section.as_ptr(), section.len(), i, j, k, m) };
-    Refusal::check(part.refusal)?;
+    Refusal::check(part.refusal, part.refused_at)?;
     Ok(range(part.at, part.length))
 }
 
@@ -429,7 +429,7 @@ pub fn extension(
 pub fn label(section: &[u8], i: usize, k: usize) -> Result<Label, Refusal> {
     // SAFETY: the slice lends as many bytes as its length says; no precondition.
     let found = unsafe { ffi::nebosvar_label(section.as_ptr(), section.len(), i, k) };
-    Refusal::check(found.refusal)?;
+    Refusal::check(found.refusal, found.refused_at)?;
     Ok(match found.found {
         1 => Label::Own(found.place),
         2 => Label::Common {

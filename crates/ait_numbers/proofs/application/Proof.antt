@@ -10,6 +10,9 @@ application-at-requires c κs = search needs
 enum-known-r : tie.Need-enum-known-r
 enum-known-r c = search needs
 
+place-told-requires : tie.Need-place-told-requires
+place-told-requires c κs = search needs
+
 enum-known-x : tie.Need-enum-known-x
 enum-known-x c = search needs
 
@@ -20,7 +23,7 @@ control-number-requires : tie.Need-control-number-requires
 control-number-requires c κs = search needs
 
 returns : tie.Need-returns
-returns c = rw (sym (c .before .before .before .application-at .ensures .0) ∙ c .before .r .given .1) refl
+returns c = rw (sym (c .before .before .before .before .application-at .ensures .0) ∙ c .before .before .r .given .1, c .place-told .ensures)
 
 returns-2 : tie.Need-returns-2
 returns-2 c =
@@ -33,6 +36,7 @@ application-spec =
     (tie.spec
     application-at-requires
     enum-known-r
+    place-told-requires
     enum-known-x
     class-number-requires
     control-number-requires

@@ -10,6 +10,9 @@ resolve-requires c κs = search needs
 enum-known-r : tie.Need-enum-known-r
 enum-known-r c = search needs
 
+place-told-requires : tie.Need-place-told-requires
+place-told-requires c κs = search needs
+
 enum-known-j : tie.Need-enum-known-j
 enum-known-j c = search needs
 
@@ -20,7 +23,7 @@ enum-told : tie.Need-enum-told
 enum-told c = search needs
 
 returns : tie.Need-returns
-returns c = rw (sym (c .before .before .before .resolve .ensures .0) ∙ c .before .r .given .1) refl
+returns c = rw (sym (c .before .before .before .before .resolve .ensures .0) ∙ c .before .before .r .given .1, c .place-told .ensures)
 
 returns-2 : tie.Need-returns-2
 returns-2 c = rw (sym (c .before .before .before .resolve .ensures .0) ∙ c .before .j .given .1) refl
@@ -37,6 +40,7 @@ label-spec =
     (tie.spec
     resolve-requires
     enum-known-r
+    place-told-requires
     enum-known-j
     enum-known-n
     enum-told

@@ -169,6 +169,16 @@ fn refusals_of_the_hand_out() {
     broken.count = 17;
     assert_eq!(broken.handout(&[], 8), Err(Refusal::BAD_RECORD));
     assert_eq!(Record::new().handout(&[], 0), Err(Refusal::NO_MODULE));
+    // Each is of the record or the image, and has no place in a section.
+    for (record, room, number) in [
+        (&broken, 0, 8),
+        (&record, 0, 8),
+        (&record, 0, 7),
+        (&record, 1006, 7),
+    ] {
+        let refusal = record.handout(&image[..room], number).unwrap_err();
+        assert_eq!(refusal.place(), None);
+    }
 }
 
 #[test]

@@ -20,45 +20,56 @@ fn refused_always(section: &[u8], refusal: Refusal) {
     refused(&Record::new(), section, &[], refusal);
 }
 
+const PLACE: usize = 2026;
+
+/// One of every number; those that have a place, at this one.
+const ALL: [Refusal; 28] = [
+    Refusal::BAD_RECORD,
+    Refusal::bad_size(PLACE),
+    Refusal::bad_table(PLACE),
+    Refusal::bad_header(PLACE),
+    Refusal::bad_crc(PLACE),
+    Refusal::not_current(PLACE),
+    Refusal::MALFORMED,
+    Refusal::BAD_MESSAGE,
+    Refusal::BAD_BLOCK_HEADER,
+    Refusal::BEYOND_LIMITS,
+    Refusal::MODULE_TWICE,
+    Refusal::NOT_ANNOUNCED,
+    Refusal::NO_MODULE,
+    Refusal::OTHER_VERSION,
+    Refusal::SHORT_IMAGE,
+    Refusal::BAD_BLOCK,
+    Refusal::BYTES_DIFFER,
+    Refusal::NO_APPLICATION_DESCRIPTOR,
+    Refusal::NO_PLACE,
+    Refusal::INCOMPLETE,
+    Refusal::LIST_LENGTH,
+    Refusal::LIST_COORDINATE,
+    Refusal::LIST_MINUTE,
+    Refusal::LIST_BUOY,
+    Refusal::LIST_SPARE,
+    Refusal::LIST_STATE,
+    Refusal::LIST_WIDTH,
+    Refusal::LIST_ROOM,
+];
+
 #[test]
 fn numbers_and_words() {
-    let all = [
-        Refusal::BAD_RECORD,
-        Refusal::BAD_SIZE,
-        Refusal::BAD_TABLE,
-        Refusal::BAD_HEADER,
-        Refusal::BAD_CRC,
-        Refusal::NOT_CURRENT,
-        Refusal::MALFORMED,
-        Refusal::BAD_MESSAGE,
-        Refusal::BAD_BLOCK_HEADER,
-        Refusal::BEYOND_LIMITS,
-        Refusal::MODULE_TWICE,
-        Refusal::NOT_ANNOUNCED,
-        Refusal::NO_MODULE,
-        Refusal::OTHER_VERSION,
-        Refusal::SHORT_IMAGE,
-        Refusal::BAD_BLOCK,
-        Refusal::BYTES_DIFFER,
-        Refusal::NO_APPLICATION_DESCRIPTOR,
-        Refusal::NO_PLACE,
-        Refusal::INCOMPLETE,
-        Refusal::LIST_LENGTH,
-        Refusal::LIST_COORDINATE,
-        Refusal::LIST_MINUTE,
-        Refusal::LIST_BUOY,
-        Refusal::LIST_SPARE,
-        Refusal::LIST_STATE,
-        Refusal::LIST_WIDTH,
-        Refusal::LIST_ROOM,
-    ];
-    for (refusal, number) in all.iter().zip((1..=20).chain(30..)) {
+    for (refusal, number) in ALL.iter().zip((1..=20).chain(30..)) {
         assert_eq!(refusal.number(), number);
-        assert!(refusal
-            .to_string()
-            .starts_with(&format!("refusal {number}: ")));
+        let (place, at) = match number {
+            2..=6 => (Some(PLACE), " at byte 2026"),
+            _ => (None, ""),
+        };
+        assert_eq!(refusal.place(), place);
+        let words = refusal.to_string();
+        assert!(words.starts_with(&format!("refusal {number}{at}: ")));
     }
-    assert_eq!(all.len(), 28);
+    assert_eq!(
+        Refusal::bad_crc(12).to_string(),
+        "refusal 5 at byte 12: CRC"
+    );
     let error: Box<dyn std::error::Error> = Refusal::OTHER_VERSION.into();
     assert_eq!(error.to_string(), "refusal 14: version differs");
     assert_eq!(Refusal::LIST_SPARE.to_string(), "refusal 34: spare");
@@ -97,31 +108,48 @@ fn broken_records_1() {
 #[test]
 fn size_2() {
     let good = block_9();
-    refused_always(&[], Refusal::BAD_SIZE);
-    refused_always(&good[..1], Refusal::BAD_SIZE);
-    refused_always(&good[..2], Refusal::BAD_SIZE);
-    refused_always(&good[..good.len() - 1], Refusal::BAD_SIZE);
-    refused_always(&[&good[..], &[0]].concat(), Refusal::BAD_SIZE);
+    // At the length that was lent: the soundings of 02, §9, and every other.
+    refused_always(&[], Refusal::bad_size(0));
+    refused_always(&good[..2], Refusal::bad_size(2));
+    for length in 0..good.len() {
+        refused_always(&good[..length], Refusal::bad_size(length));
+    }
+    let longer = [&good[..], &[0]].concat();
+    refused_always(&longer, Refusal::bad_size(good.len() + 1));
 }
 
 #[test]
 fn table_3() {
-    refused_always(&with(&block_9(), 0, 0x3D), Refusal::BAD_TABLE);
-    refused_always(&table(&[], &[]), Refusal::BAD_TABLE);
-    refused_always(&[0x3A, 0, 0], Refusal::BAD_TABLE); // and L = 0
+    refused_always(&with(&block_9(), 0, 0x3D), Refusal::bad_table(0));
+    refused_always(&table(&[], &[]), Refusal::bad_table(0));
+    refused_always(&[0x3A, 0, 0], Refusal::bad_table(0)); // and L = 0
 }
 
 #[test]
 fn header_4() {
     let good = block_9();
-    refused_always(&[0x3B, 0xB0, 0], Refusal::BAD_HEADER); // L = 0
-    refused_always(
-        &closed(vec![0x3B, 0xB0, 8, 0, 0, 0xC1, 0]),
-        Refusal::BAD_HEADER,
-    );
-    refused_always(&with(&good, 1, good[1] & 0x7F), Refusal::BAD_HEADER);
-    refused_always(&with(&good, 6, 1), Refusal::BAD_HEADER); // above last, 0
-    refused_always(&section(0x3C, 9, 0, &[0; 4085]), Refusal::BAD_HEADER); // L = 4,094
+    let (at_1, at_6) = (Refusal::bad_header(1), Refusal::bad_header(6));
+    refused_always(&[0x3B, 0xB0, 0], at_1); // L = 0
+    let short = closed(vec![0x3B, 0xB0, 8, 0, 0, 0xC1, 0]);
+    refused_always(&short, at_1);
+    let long = section(0x3C, 9, 0, &[0; 4085]); // L = 4,094
+    refused_always(&long, at_1);
+    let no_syntax = with(&good, 1, good[1] & 0x7F);
+    refused_always(&no_syntax, at_1);
+    // Section number 3 over last 2, and 1 over 0: at 6, but only where nothing else of 4 is wrong.
+    refused_always(&with(&with(&good, 7, 2), 6, 3), at_6);
+    refused_always(&with(&good, 6, 1), at_6);
+    let longest = section(0x3C, 9, 0, &[0; 4084]); // L = 4,093
+    let least = section(0x3C, 9, 0, &[]); // L = 9
+    for only in [longest, least] {
+        refused_always(&with(&only, 6, 1), at_6);
+    }
+    for beside in [long, no_syntax] {
+        refused_always(&with(&beside, 6, 1), at_1);
+    }
+    // L = 8: byte 7 is the CRC's first, 0 here, and below the section number.
+    let above = vec![0x3B, 0xB0, 8, 0, 0, 0xC1, 1, 0, 0, 0, 0];
+    refused_always(&above, at_1);
 }
 
 #[test]
@@ -131,21 +159,25 @@ fn crc_5() {
         for at in 3..good.len() {
             let mut bad = good.clone();
             bad[at] ^= 1 << bit;
-            // Byte 6, the section number, would be above last.
+            // Byte 6, the section number, would be above last. Wherever the bit is, 5 is at the CRC.
             let refusal = if at == 6 {
-                Refusal::BAD_HEADER
+                Refusal::bad_header(6)
             } else {
-                Refusal::BAD_CRC
+                Refusal::bad_crc(good.len() - 4)
             };
             refused_always(&bad, refusal);
         }
     }
+    // L = 13.
+    let mut bad = section(0x3C, 9, 0, &[0; 4]);
+    bad[15] ^= 1;
+    refused_always(&bad, Refusal::bad_crc(12));
 }
 
 #[test]
 fn not_current_6() {
-    refused_always(&with(&block_9(), 5, 0xC0), Refusal::NOT_CURRENT);
-    refused_always(&with(&drift(), 5, 0xC0), Refusal::NOT_CURRENT);
+    refused_always(&with(&block_9(), 5, 0xC0), Refusal::not_current(5));
+    refused_always(&with(&drift(), 5, 0xC0), Refusal::not_current(5));
 }
 
 #[test]

@@ -1,7 +1,7 @@
 //! Sections one after another: `take` and `run`.
 
 use crate::{block_7, block_9, drift, heard, DOWNLOAD};
-use make::{section, table};
+use make::{closed, section, table, with};
 use nebosvar::{Kind, Passage, Record, Refusal, Stop, Taken};
 
 /// What a budget leaves, by `take`.
@@ -51,7 +51,7 @@ const FATES: [Result<Kind, Refusal>; 7] = [
     Ok(Kind::New),
     Ok(Kind::Table),
     Ok(Kind::Stored),
-    Err(Refusal::BAD_CRC),
+    Err(Refusal::bad_crc(426)), // of its 430 bytes
     Err(Refusal::OTHER_VERSION),
     Ok(Kind::Repeated),
     Ok(Kind::Stored),
@@ -188,7 +188,7 @@ fn tables_go_by_their_own_rules() {
     assert_eq!(head(&table(&[], &[])), taken(16, Ok(Kind::Table)));
     // L = 1,022 is over the table's limit, and not over the carousel's.
     let long = section(0x74, 0, 0, &[0; 1013]);
-    assert_eq!(head(&long), taken(1025, Err(Refusal::BAD_HEADER)));
+    assert_eq!(head(&long), taken(1025, Err(Refusal::bad_header(1))));
     let long = section(0x3C, 0, 0, &[0; 1013]);
     assert_eq!(head(&long), taken(1025, Err(Refusal::BAD_MESSAGE)));
     // An application without a 0x00 descriptor.
@@ -196,5 +196,33 @@ fn tables_go_by_their_own_rules() {
     let refusal = Refusal::NO_APPLICATION_DESCRIPTOR;
     assert_eq!(head(&bare), taken(25, Err(refusal)));
     // Neither a table nor of the carousel.
-    assert_eq!(head(&[0x00, 0, 0]), taken(3, Err(Refusal::BAD_TABLE)));
+    assert_eq!(head(&[0x00, 0, 0]), taken(3, Err(Refusal::bad_table(0))));
+}
+
+#[test]
+fn a_place_is_counted_from_the_section_and_not_the_stretch() {
+    let mut damaged = make::section(0x74, 0, 0, &[0; 4]); // L = 13
+    damaged[15] ^= 1;
+    let good = block_9();
+    let numbers = with(&with(&good, 7, 2), 6, 3);
+    // Refusal 2 can not come: less than a section is no section to a run.
+    let sections = [
+        (
+            closed(vec![0x3B, 0xB0, 8, 0, 0, 0xC1, 0]),
+            Refusal::bad_header(1),
+        ),
+        (numbers.clone(), Refusal::bad_header(6)),
+        (with(&numbers, 1, good[1] & 0x7F), Refusal::bad_header(1)),
+        (damaged, Refusal::bad_crc(12)),
+        (with(&good, 5, 0xC4), Refusal::not_current(5)),
+        (with(&good, 0, 0x3D), Refusal::bad_table(0)),
+        (with(&good, 8, 0), Refusal::BAD_MESSAGE),
+    ];
+    let stretch: Vec<u8> = sections
+        .iter()
+        .flat_map(|(bytes, _)| bytes.clone())
+        .collect();
+    let (fates, passage) = takes(&mut Record::new(), &stretch, &mut [], 100);
+    assert_eq!(fates, sections.map(|(_, refusal)| Err(refusal)));
+    assert_eq!((passage.passed, passage.stop), (stretch.len(), Stop::End));
 }

@@ -371,17 +371,45 @@ fn refused(section: &[u8], refusal: Refusal) {
 #[test]
 fn refusals_of_the_section() {
     let good = drift();
-    refused(&[], Refusal::BAD_SIZE);
-    refused(&good[..80], Refusal::BAD_SIZE);
-    refused(&with(&good, 0, 0x3B), Refusal::BAD_TABLE);
-    refused(&[0x74, 0xB0, 0], Refusal::BAD_HEADER);
-    refused(&with(&good, 1, 0x30), Refusal::BAD_HEADER);
-    refused(&with(&good, 6, 3), Refusal::BAD_HEADER); // above last, 2
-    refused(&make::section(0x74, 0, 0, &[0; 1013]), Refusal::BAD_HEADER); // L = 1,022
+    for length in [0, 1, 2, 3, 80] {
+        refused(&good[..length], Refusal::bad_size(length));
+    }
+    refused(&with(&good, 0, 0x3B), Refusal::bad_table(0));
+    refused(&[0x74, 0xB0, 0], Refusal::bad_header(1));
+    refused(&with(&good, 1, 0x30), Refusal::bad_header(1));
+    refused(&with(&good, 6, 3), Refusal::bad_header(6)); // above last, 2
+    let long = make::section(0x74, 0, 0, &[0; 1013]); // L = 1,022
+    refused(&long, Refusal::bad_header(1));
     let mut damaged = good.clone();
     damaged[53] ^= 4;
-    refused(&damaged, Refusal::BAD_CRC);
-    refused(&with(&good, 5, 0xC6), Refusal::NOT_CURRENT);
+    refused(&damaged, Refusal::bad_crc(77));
+    refused(&with(&good, 5, 0xC6), Refusal::not_current(5));
+}
+
+#[test]
+fn soundings_of_the_place() {
+    let good = drift();
+    refused(&good[..2], Refusal::bad_size(2));
+    refused(&[], Refusal::bad_size(0));
+    let short = closed(vec![0x74, 0xB0, 8, 0, 0, 0xC1, 0]); // L = 8
+    refused(&short, Refusal::bad_header(1));
+    let numbers = with(&good, 6, 3); // over last 2
+    refused(&numbers, Refusal::bad_header(6));
+    refused(&with(&numbers, 1, 0x30), Refusal::bad_header(1)); // and syntax indicator 0
+    let mut damaged = make::table(&[], &[]); // L = 13
+    damaged[15] ^= 1;
+    refused(&damaged, Refusal::bad_crc(12));
+    refused(&with(&good, 5, 0xC6), Refusal::not_current(5));
+    // Only the section numbers, at the least and the largest L; and not at one more.
+    for (body, place) in [(0, 6), (1012, 6), (1013, 1)] {
+        let section = make::section(0x74, 0, 0, &vec![0; body]);
+        refused(&with(&section, 6, 1), Refusal::bad_header(place));
+    }
+    // What is refused behind the frame has no place, nor has a place that is not there.
+    let refusal = table(&make::section(0x74, 0, 0, &[])).unwrap_err();
+    assert_eq!((refusal.number(), refusal.place()), (7, None));
+    let refusal = application(&good, 1).unwrap_err();
+    assert_eq!((refusal.number(), refusal.place()), (19, None));
 }
 
 #[test]
