@@ -1,8 +1,8 @@
 //! "The application section": whether it is accepted, and its counts, without building anything.
-//! Refusals 2 to 7 and 18.
+//! Refusals 2 to 7 and 18. Behind the frame a refusal has no place, and is a bare number here.
 
 use crate::reader::Reader;
-use crate::refusal;
+use crate::refusal::{self, Refusal};
 use crate::section::{self, Frame, BODY};
 
 /// The largest L of an application section (refusal 4).
@@ -56,17 +56,21 @@ pub struct Table {
     pub applications: usize,
 }
 
-/// The frame of an application section: refusals 2 to 6.
-pub fn frame(section: &[u8]) -> Result<Frame<'_>, u8> {
+/// The frame of an application section: refusals 2 to 6, with their places.
+pub fn frame(section: &[u8]) -> Result<Frame<'_>, Refusal> {
     section::frame(section, |table| table == section::APPLICATIONS, MOST_LENGTH)
 }
 
 /// Reads an application section: its header and counts, or its refusal.
 ///
 /// # Errors
-/// The paper's number, 2 to 7 or 18.
-pub fn read(section: &[u8]) -> Result<Table, u8> {
-    let frame = frame(section)?;
+/// 2 to 6 with their places, 7 or 18.
+pub fn read(section: &[u8]) -> Result<Table, Refusal> {
+    counted(&frame(section)?).map_err(Refusal::plain)
+}
+
+/// The header and counts of a framed section: refusals 7 and 18.
+fn counted(frame: &Frame<'_>) -> Result<Table, u8> {
     let mut body = Reader::new(frame.body, BODY);
     let common = descriptors(body.part12()?)?.all;
     let mut applications = body.part12()?;

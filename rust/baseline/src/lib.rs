@@ -1,6 +1,6 @@
 //! A receiver for application tables (AIT) and DSM-CC data carousels, in plain Rust.
 //!
-//! It is written from the paper `01-scope.md` ("the paper" below) and 02, §6, and serves as an
+//! It is written from the paper `01-scope.md` ("the paper" below) and 02, §6 and §9, and serves as an
 //! independent second implementation and as a baseline for speed. Nothing is allocated except by
 //! [`read_all`], whose answer is a tree of owned values, and [`drift::read`].
 //!
@@ -11,7 +11,8 @@
 //! * [`drift`] reads and writes a drift list, which is of a request of its own and not of the paper.
 //!
 //! Every refusal is a number of the paper's table "Numbers a call may answer", or of the drift list, and changes
-//! neither the record nor the image nor the buffer.
+//! neither the record nor the image nor the buffer. That of a section is a [`Refusal`], which says besides where
+//! it broke (02, §9).
 
 #![forbid(unsafe_code)]
 #![warn(missing_docs)]
@@ -30,5 +31,6 @@ pub mod table;
 pub use ait::{read, Table};
 pub use checksum::crc;
 pub use record::{Answer, Missing, Module, Record};
+pub use refusal::Refusal;
 pub use run::{Fate, Passage, Stop, Taken};
 pub use table::read_all;

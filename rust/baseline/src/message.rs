@@ -1,5 +1,5 @@
 //! "The messages": the message header, the announcement (DII) and the block (DDB), each read as far as the
-//! section alone allows. Refusals 7 to 9.
+//! section alone allows. Refusals 7 to 9, which have no place and are bare numbers here.
 
 use crate::reader::Reader;
 use crate::record::{Module, MODULES};

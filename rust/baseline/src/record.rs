@@ -3,7 +3,7 @@
 use std::ops::Range;
 
 use crate::message::{self, Announcement, Block};
-use crate::refusal;
+use crate::refusal::{self, Refusal};
 use crate::section::{self, Frame};
 
 /// The most modules a record holds.
@@ -80,8 +80,8 @@ pub enum Answer {
     Stored,
     /// A block that was marked, with equal bytes.
     Repeated,
-    /// A refusal, by the paper's number. Nothing changed.
-    Refused(u8),
+    /// A refusal, as the section check or the record gives it. Nothing changed.
+    Refused(Refusal),
 }
 
 /// The missing report of a module.
@@ -150,7 +150,7 @@ impl Record {
     /// Takes one carousel section: table 0x3B or 0x3C, any other is refusal 3.
     pub fn step(&mut self, section: &[u8], image: &mut [u8]) -> Answer {
         if !self.is_ruled() {
-            return Answer::Refused(refusal::RECORD);
+            return Answer::Refused(Refusal::plain(refusal::RECORD));
         }
         self.ruled_step(section, image)
     }
@@ -161,12 +161,17 @@ impl Record {
             .unwrap_or_else(Answer::Refused)
     }
 
-    fn try_step(&mut self, section: &[u8], image: &mut [u8]) -> Result<Answer, u8> {
+    fn try_step(&mut self, section: &[u8], image: &mut [u8]) -> Result<Answer, Refusal> {
         let frame = section::frame(section, is_carousel, MOST_LENGTH)?;
+        self.take_framed(&frame, image).map_err(Refusal::plain)
+    }
+
+    /// A section that refusals 2 to 6 do not meet: any other has no place.
+    fn take_framed(&mut self, frame: &Frame<'_>, image: &mut [u8]) -> Result<Answer, u8> {
         if frame.table == section::ANNOUNCEMENT {
-            self.announce(&frame)
+            self.announce(frame)
         } else {
-            self.store(&message::block(&frame)?, image)
+            self.store(&message::block(frame)?, image)
         }
     }
 

@@ -1,4 +1,33 @@
-//! The paper's "Numbers a call may answer", by name.
+//! The paper's "Numbers a call may answer", by name, and the refusal of a section, which says where it broke.
+
+/// The refusal of a section. A call that takes none refuses by a bare number.
+#[derive(Clone, Copy, PartialEq, Eq, Debug)]
+pub struct Refusal {
+    /// The paper's number.
+    pub number: u8,
+    /// Where the section broke, its first byte being 0: for 2 to 6, and for no other number (02, §9).
+    pub place: Option<usize>,
+}
+
+impl Refusal {
+    /// A refusal without a place.
+    #[must_use]
+    pub const fn plain(number: u8) -> Refusal {
+        Refusal {
+            number,
+            place: None,
+        }
+    }
+
+    /// A refusal at a place.
+    #[must_use]
+    pub const fn at(number: u8, place: usize) -> Refusal {
+        Refusal {
+            number,
+            place: Some(place),
+        }
+    }
+}
 
 /// Record breaks its rule.
 pub const RECORD: u8 = 1;

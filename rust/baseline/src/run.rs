@@ -2,6 +2,7 @@
 
 use crate::ait;
 use crate::record::{Answer, Record};
+use crate::refusal::Refusal;
 use crate::section;
 
 /// The byte that stands for stuffing where a section would begin.
@@ -20,8 +21,8 @@ pub enum Fate {
     Stored,
     /// A block, answered "repeated".
     Repeated,
-    /// A refusal, by the paper's number; its kind is "none".
-    Refused(u8),
+    /// A refusal; its kind is "none". Never 2, as a section taken has its 3 + L bytes.
+    Refused(Refusal),
 }
 
 impl From<Answer> for Fate {
@@ -31,7 +32,7 @@ impl From<Answer> for Fate {
             Answer::Same => Fate::Same,
             Answer::Stored => Fate::Stored,
             Answer::Repeated => Fate::Repeated,
-            Answer::Refused(number) => Fate::Refused(number),
+            Answer::Refused(refusal) => Fate::Refused(refusal),
         }
     }
 }
@@ -122,7 +123,7 @@ impl Record {
         if section.first() == Some(&section::APPLICATIONS) {
             match ait::read(section) {
                 Ok(_) => Fate::Table,
-                Err(number) => Fate::Refused(number),
+                Err(refusal) => Fate::Refused(refusal),
             }
         } else {
             self.ruled_step(section, image).into()

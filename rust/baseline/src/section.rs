@@ -1,7 +1,7 @@
-//! "The section": the frame that all tables share, and refusals 2 to 6.
+//! "The section": the frame that all tables share, and refusals 2 to 6, which alone have a place (02, §9).
 
 use crate::checksum::crc;
-use crate::refusal;
+use crate::refusal::{self, Refusal};
 
 /// An application section (AIT).
 pub const APPLICATIONS: u8 = 0x74;
@@ -13,6 +13,14 @@ pub const BLOCK: u8 = 0x3C;
 /// Where the body begins.
 pub const BODY: usize = 8;
 
+/// Where the table number stands.
+const TABLE: usize = 0;
+/// Where the syntax indicator and the upper bits of L stand.
+const SYNTAX: usize = 1;
+/// Where the version and current_next stand.
+const CURRENT: usize = 5;
+/// Where the section number stands; the last one follows.
+const NUMBER: usize = 6;
 /// Bytes before those that L counts.
 const BEFORE_LENGTH: usize = 3;
 /// The least L: header bytes 3 to 7 and the CRC.
@@ -41,37 +49,41 @@ pub fn whole_length(bytes: &[u8]) -> Option<usize> {
     Some(BEFORE_LENGTH + usize::from(u16::from_be_bytes([high & 0x0F, low])))
 }
 
-/// Takes the frame apart: refusals 2 to 6, in this order. `most` is the largest L of these tables.
+/// Takes the frame apart: refusals 2 to 6, in this order, each with its place. `most` is the largest L of these
+/// tables.
+///
+/// 2 is at the lent length, 5 at the first CRC byte; 4 is at the section numbers where they alone are wrong.
 #[inline]
-pub fn frame(section: &[u8], ours: fn(u8) -> bool, most: usize) -> Result<Frame<'_>, u8> {
+pub fn frame(section: &[u8], ours: fn(u8) -> bool, most: usize) -> Result<Frame<'_>, Refusal> {
     if whole_length(section) != Some(section.len()) {
-        return Err(refusal::SIZE);
+        return Err(Refusal::at(refusal::SIZE, section.len()));
     }
-    let table = section[0];
+    let table = section[TABLE];
     if !ours(table) {
-        return Err(refusal::TABLE);
+        return Err(Refusal::at(refusal::TABLE, TABLE));
     }
     let length = section.len() - BEFORE_LENGTH;
-    let syntax = section[1] & 0x80 != 0;
+    let syntax = section[SYNTAX] & 0x80 != 0;
     if !(LEAST_LENGTH..=most).contains(&length) || !syntax {
-        return Err(refusal::HEADER);
+        return Err(Refusal::at(refusal::HEADER, SYNTAX));
     }
-    let (number, last) = (section[6], section[7]);
+    let (number, last) = (section[NUMBER], section[NUMBER + 1]);
     if number > last {
-        return Err(refusal::HEADER);
+        return Err(Refusal::at(refusal::HEADER, NUMBER));
     }
+    let end = section.len() - CRC_BYTES;
     if crc(section) != 0 {
-        return Err(refusal::CRC);
+        return Err(Refusal::at(refusal::CRC, end));
     }
-    if section[5] & 0x01 == 0 {
-        return Err(refusal::NOT_CURRENT);
+    if section[CURRENT] & 0x01 == 0 {
+        return Err(Refusal::at(refusal::NOT_CURRENT, CURRENT));
     }
     Ok(Frame {
         table,
         extension: u16::from_be_bytes([section[3], section[4]]),
-        version: section[5] >> 1 & 0x1F,
+        version: section[CURRENT] >> 1 & 0x1F,
         number,
         last,
-        body: &section[BODY..section.len() - CRC_BYTES],
+        body: &section[BODY..end],
     })
 }

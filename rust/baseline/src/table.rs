@@ -5,8 +5,8 @@
 
 use crate::ait::{self, protocol, tag};
 use crate::reader::Reader;
-use crate::refusal;
-use crate::section::BODY;
+use crate::refusal::{self, Refusal};
+use crate::section::{Frame, BODY};
 
 /// Bytes of the section.
 #[derive(Clone, Copy, PartialEq, Eq, Debug)]
@@ -289,9 +289,13 @@ fn first_transport(descriptors: &[Descriptor], wanted: u8) -> Option<usize> {
 /// Reads an application section whole.
 ///
 /// # Errors
-/// The paper's number, 2 to 7 or 18, the same as [`crate::read`].
-pub fn read_all(section: &[u8]) -> Result<Section, u8> {
-    let frame = ait::frame(section)?;
+/// 2 to 6 with their places, 7 or 18, the same as [`crate::read`].
+pub fn read_all(section: &[u8]) -> Result<Section, Refusal> {
+    whole(&ait::frame(section)?).map_err(Refusal::plain)
+}
+
+/// The tree of a framed section: refusals 7 and 18.
+fn whole(frame: &Frame<'_>) -> Result<Section, u8> {
     let mut body = Reader::new(frame.body, BODY);
     let common = repeated(body.part12()?, descriptor)?;
     let applications = body.part12()?;

@@ -281,7 +281,7 @@ fn set_wrong(random: &mut Random, block: &mut Block, blocks: usize) {
 #[cfg(test)]
 mod tests {
     use super::*;
-    use baseline::{Answer, Record};
+    use baseline::{Answer, Record, Refusal};
 
     #[test]
     fn every_carousel_is_accepted_and_handed_out() {
@@ -342,7 +342,7 @@ mod tests {
             assert_eq!(
                 answer,
                 if stale {
-                    Answer::Refused(9)
+                    Answer::Refused(Refusal::plain(9))
                 } else {
                     Answer::Stored
                 }
@@ -377,8 +377,8 @@ mod tests {
                 wrong_block(random, &carousel),
             ];
             for section in sections {
-                if let Answer::Refused(number) = record.step(&section.bytes(), &mut image) {
-                    seen[usize::from(number)] = true;
+                if let Answer::Refused(refusal) = record.step(&section.bytes(), &mut image) {
+                    seen[usize::from(refusal.number)] = true;
                 }
             }
         }

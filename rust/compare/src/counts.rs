@@ -2,6 +2,7 @@
 
 use std::fmt::{self, Display};
 
+use baseline::Refusal;
 use nebosvar::{Kind, Stop};
 
 use crate::fence::Edge;
@@ -33,6 +34,9 @@ const REFUSALS: usize = 20;
 /// Module versions that the five bits of a section version tell whole, and the others.
 const VERSIONS: [&str; 2] = ["under 32", "of 32 and more"];
 
+/// A refusal 4 by what is wrong: the section numbers are its place only where nothing else is (02, §9).
+const HEADERS: [&str; 3] = ["section numbers alone", "they and more", "all but they"];
+
 /// How often each answer came. Both receivers gave it: it is counted after they were found to agree.
 #[derive(Clone, Default)]
 pub struct Counts {
@@ -43,6 +47,7 @@ pub struct Counts {
     refusals: [[u64; CALLS.len()]; REFUSALS],
     kinds: [u64; KINDS.len()],
     stops: [u64; STOPS.len()],
+    headers: [u64; HEADERS.len()],
     /// Blocks refused with 9 for their section version alone, and blocks that were taken, by module version.
     stale: [u64; VERSIONS.len()],
     fresh: [u64; VERSIONS.len()],
@@ -52,14 +57,14 @@ pub struct Counts {
 
 impl Counts {
     /// An answer of a call: a refusal is counted by the call and its number.
-    pub fn refusal<T>(&mut self, call: Call, answer: &Result<T, u8>) {
-        if let Err(number) = answer {
-            self.refusals[usize::from(*number) - 1][call as usize] += 1;
+    pub fn refusal<T>(&mut self, call: Call, answer: &Result<T, Refusal>) {
+        if let Err(refusal) = answer {
+            self.refusals[usize::from(refusal.number) - 1][call as usize] += 1;
         }
     }
 
     /// What became of a section.
-    pub fn fate(&mut self, call: Call, fate: &Result<Kind, u8>) {
+    pub fn fate(&mut self, call: Call, fate: &Result<Kind, Refusal>) {
         self.refusal(call, fate);
         if let Ok(kind) = fate {
             self.kinds[*kind as usize] += 1;
@@ -67,14 +72,28 @@ impl Counts {
     }
 
     /// A block that was refused with 9 or taken, by its versions.
-    pub fn versions(&mut self, section: &[u8], fate: &Result<Kind, u8>) {
+    pub fn versions(&mut self, section: &[u8], fate: &Result<Kind, Refusal>) {
         let Some(version) = versions::of_module(section) else {
             return;
         };
         let place = usize::from(version >= 32);
         match fate {
-            Err(9) => self.stale[place] += 1,
+            Err(Refusal { number: 9, .. }) => self.stale[place] += 1,
             Ok(Kind::Stored | Kind::Repeated) => self.fresh[place] += 1,
+            _ => {}
+        }
+    }
+
+    /// A section that was refused with 4, by its place and its section numbers.
+    pub fn header(&mut self, section: &[u8], fate: &Result<Kind, Refusal>) {
+        let Err(Refusal { number: 4, place }) = *fate else {
+            return;
+        };
+        let wrong = matches!(section, [_, _, _, _, _, _, number, last, ..] if number > last);
+        match (place, wrong) {
+            (Some(6), true) => self.headers[0] += 1,
+            (Some(1), true) => self.headers[1] += 1,
+            (Some(1), false) => self.headers[2] += 1,
             _ => {}
         }
     }
@@ -108,6 +127,7 @@ impl Counts {
         add(&mut self.fenced, &other.fenced);
         add(&mut self.kinds, &other.kinds);
         add(&mut self.stops, &other.stops);
+        add(&mut self.headers, &other.headers);
         add(&mut self.stale, &other.stale);
         add(&mut self.fresh, &other.fresh);
         for (counts, others) in self.refusals.iter_mut().zip(&other.refusals) {
@@ -132,6 +152,7 @@ impl Counts {
             .collect();
         all.extend(named("kind", &KINDS, &self.kinds));
         all.extend(named("stop", &STOPS, &self.stops));
+        all.extend(named("bad header,", &HEADERS, &self.headers));
         all.extend(named("stale headers, versions", &VERSIONS, &self.stale));
         all.extend(named("blocks taken, versions", &VERSIONS, &self.fresh));
         all.push(("complete hand-outs".to_string(), self.handouts));
@@ -185,7 +206,7 @@ mod tests {
     #[test]
     fn answers_are_counted_by_name() {
         let mut counts = Counts::default();
-        counts.fate(Call::Step, &Err(20));
+        counts.fate(Call::Step, &Err(Refusal::plain(20)));
         counts.fate(Call::Take, &Ok(Kind::Repeated));
         counts.stop(Stop::State);
         let mut twice = counts.clone();
@@ -195,6 +216,6 @@ mod tests {
             assert!(!rare.iter().any(|line| line.starts_with(answer)));
         }
         assert!(rare.contains(&"refusal 1: 0".to_string()));
-        assert_eq!(rare.len(), 20 + 5 + 5 + 4 + 2 - 3);
+        assert_eq!(rare.len(), 20 + 5 + 5 + 3 + 4 + 2 - 3);
     }
 }

@@ -34,9 +34,9 @@ fn damage_once(random: &mut Random, section: &mut Vec<u8>) {
         8 => section[place] = random.pick(&[0, 1, 0x7F, 0x80, 0xFF]),
         9 => cut(random, section),
         10 => lengthen(random, section),
-        11 => section[1] &= 0x7F,
+        11 => clear_syntax(random, section),
         12 => clear_current(section),
-        13 => put(section, 6, 1, 7, 0),
+        13 => wrong_numbers(section),
         14 => section[0] = random.pick(&TABLES),
         _ => spoil_message(random, section),
     }
@@ -82,6 +82,19 @@ fn lengthen(random: &mut Random, section: &mut Vec<u8>) {
     tell_own_length(section);
 }
 
+/// Now and then the section numbers are wrong too: then they are not the place of refusal 4 (02, §9).
+fn clear_syntax(random: &mut Random, section: &mut [u8]) {
+    section[1] &= 0x7F;
+    if random.one_in(4) {
+        wrong_numbers(section);
+    }
+}
+
+/// A section number above the last.
+fn wrong_numbers(section: &mut [u8]) {
+    put(section, 6, 1, 7, 0);
+}
+
 fn clear_current(section: &mut [u8]) {
     if let Some(byte) = section.get_mut(5) {
         *byte &= 0xFE;
@@ -117,12 +130,15 @@ pub fn any_body(random: &mut Random) -> Vec<u8> {
     bytes
 }
 
-/// A section with an L at the limits of refusal 4, from 0 on.
+/// A section with an L at the limits of refusal 4, from 0 on; now and then its section numbers are wrong too.
 pub fn edge_of_length(random: &mut Random) -> Vec<u8> {
     let small = random.within(0..=13);
     let large = random.pick(&[1_020, 1_021, 1_022, 1_023, 4_092, 4_093, 4_094, 4_095]);
     let length = if random.one_in(4) { large } else { small };
     let mut bytes = headed(random, length);
+    if random.one_in(4) {
+        wrong_numbers(&mut bytes);
+    }
     mend(&mut bytes);
     bytes
 }

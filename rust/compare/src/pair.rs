@@ -1,6 +1,7 @@
 //! Both receivers side by side. Every call is made of both; their answers, all fields of their records and all
-//! bytes of their images must be equal after it.
+//! bytes of their images must be equal after it. A refusal is its number and its place, if it has one.
 
+use baseline::Refusal;
 use nebosvar::{Kind, Stop};
 
 use crate::counts::{Call, Counts};
@@ -56,7 +57,7 @@ impl Image {
 }
 
 /// What became of a section.
-type Fate = Result<Kind, u8>;
+type Fate = Result<Kind, Refusal>;
 /// A section's length and fate, or why none was taken.
 pub type Taken = Result<(usize, Fate), Stop>;
 
@@ -135,7 +136,7 @@ impl Pair {
     /// Takes one section of the carousel.
     pub fn step(&mut self, section: &[u8], counts: &mut Counts) -> Same<Fate> {
         let answer = self.lent(|record, image| record.step(section, image));
-        let ours = answer.map_err(|refusal| refusal.number());
+        let ours = answer.map_err(their_refusal);
         let theirs = self.theirs.step(section, self.their_image.bytes_mut());
         same("step", &ours, &their_fate(theirs.into()))?;
         self.agree("step")?;
@@ -175,13 +176,13 @@ impl Pair {
     fn handout(&mut self, number: u16, counts: &mut Counts) -> Same {
         let ours = self.lent(|record, image| match record.handout(image, number) {
             Ok(part) => Ok((offset(part, image), part.to_vec())),
-            Err(refusal) => Err(refusal.number()),
+            Err(refusal) => Err(their_refusal(refusal)),
         });
         let image = self.their_image.bytes();
         let part = self.theirs.handout(image, number);
         let theirs = match self.theirs.handout_number(image, number) {
             0 => Ok((offset(part, image), part.to_vec())),
-            number => Err(number),
+            number => Err(Refusal::plain(number)),
         };
         same(&format!("hand-out of {number}"), &ours, &theirs)?;
         counts.refusal(Call::Handout, &ours);
@@ -196,10 +197,10 @@ impl Pair {
     fn missing(&mut self, number: u16, counts: &mut Counts) -> Same {
         let ours = match self.lent(|record, _| record.missing(number)) {
             Ok(missing) => Ok(missing.map(|missing| (missing.count, missing.lowest))),
-            Err(refusal) => Err(refusal.number()),
+            Err(refusal) => Err(their_refusal(refusal)),
         };
         let theirs = match self.theirs.missing(number) {
-            baseline::Missing::Refused(number) => Err(number),
+            baseline::Missing::Refused(number) => Err(Refusal::plain(number)),
             baseline::Missing::Whole => Ok(None),
             baseline::Missing::Lacking { count, lowest } => Ok(Some((count, lowest))),
         };
@@ -277,12 +278,18 @@ pub fn theirs(record: &nebosvar::Record) -> baseline::Record {
     }
 }
 
+/// The same refusal in their type.
+pub fn their_refusal(refusal: nebosvar::Refusal) -> Refusal {
+    Refusal {
+        number: refusal.number(),
+        place: refusal.place(),
+    }
+}
+
 fn our_taken(taken: nebosvar::Taken) -> Taken {
     match taken {
         nebosvar::Taken::Stopped(stop) => Err(stop),
-        nebosvar::Taken::Section { length, fate } => {
-            Ok((length, fate.map_err(|refusal| refusal.number())))
-        }
+        nebosvar::Taken::Section { length, fate } => Ok((length, fate.map_err(their_refusal))),
     }
 }
 
@@ -300,7 +307,7 @@ fn their_fate(fate: baseline::Fate) -> Fate {
         baseline::Fate::Same => Ok(Kind::Same),
         baseline::Fate::Stored => Ok(Kind::Stored),
         baseline::Fate::Repeated => Ok(Kind::Repeated),
-        baseline::Fate::Refused(number) => Err(number),
+        baseline::Fate::Refused(refusal) => Err(refusal),
     }
 }
 
@@ -326,5 +333,17 @@ mod tests {
         let mut record = announced_of(&Carousel::any(&mut Random::of(1, 1)));
         record.marks[127] = 9;
         assert_eq!(theirs(&ours(&record)), record);
+    }
+
+    #[test]
+    fn the_place_alone_is_a_difference() {
+        let ours = their_refusal(nebosvar::Refusal::bad_crc(12));
+        assert!(same("step", &ours, &Refusal::at(5, 12)).is_ok());
+        for theirs in [Refusal::at(5, 13), Refusal::plain(5), Refusal::at(4, 12)] {
+            assert!(same("step", &ours, &theirs).is_err());
+        }
+        let ours = their_refusal(nebosvar::Refusal::MALFORMED);
+        assert!(same("step", &ours, &Refusal::plain(7)).is_ok());
+        assert!(same("step", &ours, &Refusal::at(7, 0)).is_err());
     }
 }

@@ -5,14 +5,15 @@ use std::fmt::Debug;
 use std::ops::Range;
 
 use baseline::table::{self as tree, CodeClass, Content, NumberClass, Resolved, Selector, Span};
-use nebosvar::{Application, Class, Control, Descriptor, Item, ItemKind, Label, Refusal};
-use nebosvar::{Scope, Table};
+use baseline::Refusal;
+use nebosvar::{Application, Class, Control, Descriptor, Item, ItemKind, Label, Scope, Table};
 
 use crate::counts::{Call, Counts};
 use crate::difference::{same, Same};
+use crate::pair::their_refusal;
 
-/// "No such place."
-const NO_PLACE: u8 = 19;
+/// "No such place": it is of the question, and at no byte of the section.
+const NO_PLACE: Refusal = Refusal::plain(19);
 /// Far past every end.
 const FAR: usize = usize::MAX;
 
@@ -30,7 +31,7 @@ pub fn compare(section: &[u8], counts: &mut Counts) -> Same {
     let mut reading = Reading { section, counts };
     reading.head(&read)?;
     match read {
-        Err(number) => reading.refused(number),
+        Err(refusal) => reading.refused(refusal),
         Ok(read) => reading.whole(&read),
     }
 }
@@ -45,10 +46,10 @@ impl Reading<'_> {
     fn check<T: PartialEq + Debug>(
         &mut self,
         (call, asked): (Call, impl Debug),
-        ours: Result<T, Refusal>,
-        theirs: Result<T, u8>,
+        ours: Result<T, nebosvar::Refusal>,
+        theirs: Result<T, Refusal>,
     ) -> Same {
-        let ours = ours.map_err(Refusal::number);
+        let ours = ours.map_err(their_refusal);
         if ours != theirs {
             return same(&format!("{call:?} {asked:?}"), &ours, &theirs);
         }
@@ -57,17 +58,17 @@ impl Reading<'_> {
         Ok(())
     }
 
-    fn application(&mut self, i: usize, theirs: Result<Application, u8>) -> Same {
+    fn application(&mut self, i: usize, theirs: Result<Application, Refusal>) -> Same {
         let ours = nebosvar::application(self.section, i);
         self.check((Call::Application, i), ours, theirs)
     }
 
-    fn descriptor(&mut self, scope: Scope, j: usize, theirs: Result<Descriptor, u8>) -> Same {
+    fn descriptor(&mut self, scope: Scope, j: usize, theirs: Result<Descriptor, Refusal>) -> Same {
         let ours = nebosvar::descriptor(self.section, scope, j);
         self.check((Call::Descriptor, (scope, j)), ours, theirs)
     }
 
-    fn item(&mut self, at: (Scope, usize, ItemKind, usize), theirs: Result<Item, u8>) -> Same {
+    fn item(&mut self, at: (Scope, usize, ItemKind, usize), theirs: Result<Item, Refusal>) -> Same {
         let (scope, j, kind, k) = at;
         let ours = nebosvar::item(self.section, scope, j, kind, k);
         self.check((Call::Item, at), ours, theirs)
@@ -76,14 +77,14 @@ impl Reading<'_> {
     fn extension(
         &mut self,
         at: (Scope, usize, usize, usize),
-        theirs: Result<Range<usize>, u8>,
+        theirs: Result<Range<usize>, Refusal>,
     ) -> Same {
         let (scope, j, k, m) = at;
         let ours = nebosvar::extension(self.section, scope, j, k, m);
         self.check((Call::Extension, at), ours, theirs)
     }
 
-    fn label(&mut self, i: usize, k: usize, theirs: Result<Label, u8>) -> Same {
+    fn label(&mut self, i: usize, k: usize, theirs: Result<Label, Refusal>) -> Same {
         let ours = nebosvar::label(self.section, i, k);
         self.check((Call::Label, (i, k)), ours, theirs)
     }
@@ -92,30 +93,30 @@ impl Reading<'_> {
 /// What is asked for.
 impl Reading<'_> {
     /// The header and the counts; the independent receiver has two readings of them.
-    fn head(&mut self, read: &Result<tree::Section, u8>) -> Same {
+    fn head(&mut self, read: &Result<tree::Section, Refusal>) -> Same {
         let counted = baseline::read(self.section).map(counted);
-        let built = read.as_ref().map(built).map_err(|number| *number);
+        let built = read.as_ref().map(built).map_err(|refusal| *refusal);
         same("baseline's read_all and read", &built, &counted)?;
         let ours = nebosvar::table(self.section);
         self.check((Call::Table, ()), ours, counted)
     }
 
-    /// Whatever is asked of a refused section, its own refusal goes before 19.
-    fn refused(&mut self, number: u8) -> Same {
+    /// Whatever is asked of a refused section, its own refusal goes before 19, with the same place.
+    fn refused(&mut self, refusal: Refusal) -> Same {
         for place in [0, FAR] {
-            self.application(place, Err(number))?;
-            self.label(place, place, Err(number))?;
-            self.no_descriptor(Scope::Common, place, number)?;
-            self.no_descriptor(Scope::Application(place), place, number)?;
+            self.application(place, Err(refusal))?;
+            self.label(place, place, Err(refusal))?;
+            self.no_descriptor(Scope::Common, place, refusal)?;
+            self.no_descriptor(Scope::Application(place), place, refusal)?;
         }
         Ok(())
     }
 
-    /// Nothing of a descriptor is answered, but this number.
-    fn no_descriptor(&mut self, scope: Scope, j: usize, number: u8) -> Same {
-        self.descriptor(scope, j, Err(number))?;
-        self.item((scope, j, ItemKind::Label, 0), Err(number))?;
-        self.extension((scope, j, 0, 0), Err(number))
+    /// Nothing of a descriptor is answered, but this refusal.
+    fn no_descriptor(&mut self, scope: Scope, j: usize, refusal: Refusal) -> Same {
+        self.descriptor(scope, j, Err(refusal))?;
+        self.item((scope, j, ItemKind::Label, 0), Err(refusal))?;
+        self.extension((scope, j, 0, 0), Err(refusal))
     }
 
     fn whole(&mut self, read: &tree::Section) -> Same {

@@ -91,6 +91,7 @@ impl Walk<'_> {
         self.counts.sections += u64::from(taken.is_ok());
         if let Ok((_, fate)) = &taken {
             self.counts.versions(section, fate);
+            self.counts.header(section, fate);
         }
         let kind = taken.ok().and_then(|(_, fate)| fate.ok());
         unchanged(&self.pair, &self.before, kind)?;

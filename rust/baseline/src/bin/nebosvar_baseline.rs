@@ -32,7 +32,7 @@ fn input() -> Vec<u8> {
 fn text(stretch: &[u8]) -> String {
     let mut record = Record::empty();
     let mut image = vec![0; LIMIT];
-    let mut out = String::from("index,answer,kind\n");
+    let mut out = String::from("index,answer,kind,place\n");
     let mut passed = 0;
     for index in 0.. {
         match record.take(&stretch[passed..], &mut image, LIMIT - index) {
@@ -41,8 +41,9 @@ fn text(stretch: &[u8]) -> String {
                 break;
             }
             Taken::Section { length, fate } => {
-                let (answer, kind) = answer(fate);
-                let _ = writeln!(out, "{index},{answer},{kind}");
+                let (answer, kind, place) = answer(fate);
+                let place = place.map_or_else(String::new, |place| place.to_string());
+                let _ = writeln!(out, "{index},{answer},{kind},{place}");
                 passed += length;
             }
         }
@@ -50,14 +51,15 @@ fn text(stretch: &[u8]) -> String {
     out
 }
 
-fn answer(fate: Fate) -> (u8, &'static str) {
+/// The number, the kind, and the place where there is one.
+fn answer(fate: Fate) -> (u8, &'static str, Option<usize>) {
     match fate {
-        Fate::Table => (0, "table"),
-        Fate::New => (0, "new"),
-        Fate::Same => (0, "same"),
-        Fate::Stored => (0, "stored"),
-        Fate::Repeated => (0, "repeated"),
-        Fate::Refused(number) => (number, "none"),
+        Fate::Table => (0, "table", None),
+        Fate::New => (0, "new", None),
+        Fate::Same => (0, "same", None),
+        Fate::Stored => (0, "stored", None),
+        Fate::Repeated => (0, "repeated", None),
+        Fate::Refused(refusal) => (refusal.number, "none", refusal.place),
     }
 }
 

@@ -1,6 +1,6 @@
 //! Refusals 7 and 18 of the application section. [`read`] and [`read_all`] must always agree.
 
-use crate::made::*;
+use crate::made::{self, *};
 use baseline::{read, read_all, Table};
 
 /// The number both readings answer; 0 when accepted.
@@ -13,7 +13,7 @@ fn number(section: &[u8]) -> u8 {
         }
         (Err(one), Err(other)) => {
             assert_eq!(one, other);
-            one
+            made::number(one)
         }
         (one, other) => panic!("{one:?} {other:?}"),
     }

@@ -66,7 +66,7 @@ fn sixteen_block_number_and_length() {
             &Block::new(7, module, version, number, &data).bytes(),
             &mut bytes,
         ) {
-            Answer::Refused(number) => number,
+            Answer::Refused(refusal) => self::number(refusal),
             Answer::Stored => 0,
             answer => panic!("{answer:?}"),
         }

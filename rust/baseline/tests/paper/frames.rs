@@ -10,13 +10,13 @@ fn dii() -> Announcement {
 fn step(section: &[u8]) -> u8 {
     match Record::empty().step(section, &mut []) {
         Answer::New => 0,
-        Answer::Refused(number) => number,
+        Answer::Refused(refusal) => number(refusal),
         answer => panic!("{answer:?}"),
     }
 }
 
 fn table(section: &[u8]) -> u8 {
-    read(section).err().unwrap_or(0)
+    read(section).err().map_or(0, number)
 }
 
 #[test]

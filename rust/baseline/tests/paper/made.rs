@@ -1,6 +1,6 @@
 //! Makers of sections for these tests, over the crate `make`, and what is seen of a record.
 
-use baseline::{Answer, Record};
+use baseline::{Answer, Record, Refusal};
 pub use make::{crc as slow_crc, described, descriptor, mended, message, with_length};
 pub use make::{Announcement, Block, Section};
 
@@ -42,14 +42,26 @@ pub fn common(descriptors: &[Vec<u8>]) -> Vec<u8> {
     ait(descriptors, &[])
 }
 
+/// The answer of a step that is refused without a place.
+pub fn plain(number: u8) -> Answer {
+    Answer::Refused(Refusal::plain(number))
+}
+
+/// The number of a refusal, having seen that it has a place where it must, and nowhere else (02, §9).
+pub fn number(refusal: Refusal) -> u8 {
+    let placed = matches!(refusal.number, 2..=6);
+    assert_eq!(refusal.place.is_some(), placed, "{refusal:?}");
+    refusal.number
+}
+
 /// A step that must be refused: gives the number, having seen that nothing changed.
 pub fn refused(record: &Record, section: &[u8], image: &[u8]) -> u8 {
     let (mut after, mut bytes) = (*record, image.to_vec());
     match after.step(section, &mut bytes) {
-        Answer::Refused(number) => {
+        Answer::Refused(refusal) => {
             assert_eq!(after, *record);
             assert_eq!(bytes, image);
-            number
+            number(refusal)
         }
         answer => panic!("{answer:?}"),
     }

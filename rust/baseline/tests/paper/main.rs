@@ -1,4 +1,4 @@
-//! The paper's soundings, its refusals at and past their limits, 02, §6, and laws over random input.
+//! The paper's soundings, its refusals at and past their limits, 02, §6 and §9, and laws over random input.
 
 mod applications;
 mod blocks;
@@ -6,6 +6,7 @@ mod frames;
 mod made;
 mod messages;
 mod model;
+mod places;
 mod random;
 mod records;
 mod soundings;

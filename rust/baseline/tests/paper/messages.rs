@@ -6,7 +6,7 @@ use baseline::{Answer, Record};
 fn step(section: &[u8]) -> u8 {
     match Record::empty().step(section, &mut []) {
         Answer::New => 0,
-        Answer::Refused(number) => number,
+        Answer::Refused(refusal) => number(refusal),
         answer => panic!("{answer:?}"),
     }
 }

@@ -1,8 +1,9 @@
-//! A slow second reading of the carousel's rules, straight from the paper's table and 02, §6: every
+//! A slow second reading of the carousel's rules, straight from the paper's table and 02, §6 and §9: every
 //! number is judged by a clause of its own over a section read into loose values, and the lowest that applies
 //! is given.
 
-use baseline::{Answer, Module, Record};
+use crate::made::plain;
+use baseline::{Answer, Module, Record, Refusal};
 
 fn number(bytes: &[u8]) -> u64 {
     bytes
@@ -61,27 +62,39 @@ pub fn is_marked(record: &Record, place: usize, block: usize) -> bool {
     record.marks[mark / 32] >> (mark % 32) & 1 == 1
 }
 
+/// The tables of a rule, and its largest L.
+pub type Rule<'a> = (&'a [u8], usize);
+pub const APPLICATION: Rule = (&[0x74], 1_021);
+pub const CAROUSEL: Rule = (&[0x3B, 0x3C], 4_093);
+
+/// Refusals 2 to 6: all that is wrong with a section, each with its place, in any order. The lowest number is
+/// given, and of 4 the lower place: the section numbers count only where nothing else of 4 is wrong.
+pub fn broken(section: &[u8], (tables, most): Rule) -> Option<Refusal> {
+    let lent = section.len();
+    let byte = |at: usize| section.get(at).copied();
+    let word = number(section.get(1..3).unwrap_or_default()) as usize;
+    let (syntax, told) = (word / 0x8000, word % 0x1000);
+    let faults = [
+        (6, 5, byte(5).is_some_and(|byte| byte % 2 == 0)),
+        (5, told.saturating_sub(1), make::crc(section) != 0),
+        (4, 6, byte(6) > byte(7)),
+        (4, 1, syntax == 0 || told < 9 || told > most),
+        (3, 0, byte(0).is_some_and(|byte| !tables.contains(&byte))),
+        (2, lent, lent < 3 || lent - 3 != told),
+    ];
+    let found = faults.iter().filter(|fault| fault.2);
+    let lowest = found.map(|&(number, place, _)| (number, place)).min();
+    lowest.map(|(number, place)| Refusal::at(number, place))
+}
+
 /// The step, by value.
 pub fn step(record: &Record, section: &[u8], image: &[u8]) -> (Answer, Record, Vec<u8>) {
-    let refused = |number| (Answer::Refused(number), *record, image.to_vec());
+    let refused = |number| (plain(number), *record, image.to_vec());
     if !is_ruled(record) {
         return refused(1);
     }
-    if section.len() < 3 || section.len() as u64 != 3 + number(&section[1..3]) % 4_096 {
-        return refused(2);
-    }
-    if section[0] != 0x3B && section[0] != 0x3C {
-        return refused(3);
-    }
-    let length = section.len() - 3;
-    if !(9..=4_093).contains(&length) || section[1] < 0x80 || section[6] > section[7] {
-        return refused(4);
-    }
-    if make::crc(section) != 0 {
-        return refused(5);
-    }
-    if section[5] & 1 == 0 {
-        return refused(6);
+    if let Some(refusal) = broken(section, CAROUSEL) {
+        return (Answer::Refused(refusal), *record, image.to_vec());
     }
     let body = &section[8..section.len() - 4];
     if body.len() < 12 {
@@ -129,7 +142,7 @@ fn framed(content: &[u8]) -> Option<Vec<Module>> {
 }
 
 fn announce(record: &Record, content: &[u8], image: &[u8]) -> (Answer, Record, Vec<u8>) {
-    let refused = |number| (Answer::Refused(number), *record, image.to_vec());
+    let refused = |number| (plain(number), *record, image.to_vec());
     let Some(modules) = framed(content) else {
         return refused(7);
     };
@@ -178,7 +191,7 @@ fn store(
     content: &[u8],
     image: &[u8],
 ) -> (Answer, Record, Vec<u8>) {
-    let refused = |number| (Answer::Refused(number), *record, image.to_vec());
+    let refused = |number| (plain(number), *record, image.to_vec());
     if content.len() < 6 {
         return refused(7);
     }

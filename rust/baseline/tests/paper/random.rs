@@ -4,29 +4,29 @@ use crate::made::*;
 use crate::model;
 use baseline::{read, read_all, Answer, Fate, Missing, Passage, Record, Stop, Taken};
 
-struct Dice(u64);
+pub struct Dice(pub u64);
 
 impl Dice {
-    fn next(&mut self) -> u64 {
+    pub fn next(&mut self) -> u64 {
         self.0 ^= self.0 << 13;
         self.0 ^= self.0 >> 7;
         self.0 ^= self.0 << 17;
         self.0.wrapping_mul(0x2545_F491_4F6C_DD1D) >> 16
     }
 
-    fn below(&mut self, limit: usize) -> usize {
+    pub fn below(&mut self, limit: usize) -> usize {
         (self.next() % limit as u64) as usize
     }
 
-    fn one_in(&mut self, chances: usize) -> bool {
+    pub fn one_in(&mut self, chances: usize) -> bool {
         self.below(chances) == 0
     }
 
-    fn pick<T: Copy>(&mut self, from: &[T]) -> T {
+    pub fn pick<T: Copy>(&mut self, from: &[T]) -> T {
         from[self.below(from.len())]
     }
 
-    fn bytes(&mut self, most: usize) -> Vec<u8> {
+    pub fn bytes(&mut self, most: usize) -> Vec<u8> {
         (0..self.below(most + 1))
             .map(|_| self.next() as u8)
             .collect()
@@ -96,7 +96,7 @@ fn module_version(section: &[u8]) -> u8 {
 /// Whether a block refused with 9 would meet no 9 under another section version.
 fn is_stale_alone(record: &Record, section: &[u8]) -> bool {
     let right = 0xC1 | (module_version(section) % 32) << 1;
-    model::step(record, &make::with(section, 5, right), &[]).0 != Answer::Refused(9)
+    model::step(record, &make::with(section, 5, right), &[]).0 != plain(9)
 }
 
 /// Well-formed descriptors, mostly.
@@ -141,7 +141,7 @@ fn table(dice: &mut Dice) -> Vec<u8> {
 }
 
 /// Changes a byte or two, and mostly makes the CRC right again.
-fn spoil(dice: &mut Dice, mut section: Vec<u8>) -> Vec<u8> {
+pub fn spoil(dice: &mut Dice, mut section: Vec<u8>) -> Vec<u8> {
     for _ in 0..=dice.below(2) {
         let at = dice.below(section.len());
         section[at] = match dice.below(4) {
@@ -161,7 +161,7 @@ fn spoil(dice: &mut Dice, mut section: Vec<u8>) -> Vec<u8> {
     mended(section)
 }
 
-fn section(dice: &mut Dice) -> Vec<u8> {
+pub fn section(dice: &mut Dice) -> Vec<u8> {
     let made = match dice.below(10) {
         0..=1 => dii(dice),
         2..=7 => ddb(dice),
@@ -200,9 +200,9 @@ fn the_step_agrees_with_the_model() {
                 Answer::Same => 22,
                 Answer::Stored => 23,
                 Answer::Repeated => 24,
-                Answer::Refused(number) => usize::from(number),
+                Answer::Refused(refusal) => usize::from(number(refusal)),
             }] += 1;
-            if answer == Answer::Refused(9) && is_stale_alone(&record, &section) {
+            if answer == plain(9) && is_stale_alone(&record, &section) {
                 stale[usize::from(module_version(&section) >= 32)] += 1;
             }
             section = self::section(&mut dice);
@@ -306,7 +306,7 @@ fn both_readings_of_a_table_agree() {
             }
             (Err(one), Err(other)) => {
                 assert_eq!(one, other, "{bytes:?}");
-                seen[usize::from(one)] += 1;
+                seen[usize::from(number(one))] += 1;
             }
             (one, other) => panic!("{one:?} {other:?} {bytes:?}"),
         }

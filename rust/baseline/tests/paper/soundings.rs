@@ -2,7 +2,7 @@
 
 use crate::made::*;
 use baseline::table::{code_class, number_class, CodeClass, NumberClass};
-use baseline::{read, Answer, Missing, Record};
+use baseline::{read, Answer, Missing, Record, Refusal};
 
 fn dii(block_size: u16, modules: &[Announced]) -> Answer {
     Record::empty().step(&Announcement::new(7, block_size, modules).bytes(), &mut [])
@@ -39,8 +39,8 @@ fn size_800_has_two_blocks_and_block_2_gives_16() {
             lowest: 0
         }
     );
-    assert_eq!(block(&mut held, 2, 0), Answer::Refused(16));
-    assert_eq!(block(&mut held, 2, 400), Answer::Refused(16));
+    assert_eq!(block(&mut held, 2, 0), plain(16));
+    assert_eq!(block(&mut held, 2, 400), plain(16));
 }
 
 #[test]
@@ -53,21 +53,21 @@ fn size_65536_block_size_4066() {
             lowest: 0
         }
     );
-    assert_eq!(block(&mut held, 16, 481), Answer::Refused(16));
+    assert_eq!(block(&mut held, 16, 481), plain(16));
     assert_eq!(block(&mut held, 16, 480), Answer::Stored);
-    assert_eq!(block(&mut held, 17, 480), Answer::Refused(16));
+    assert_eq!(block(&mut held, 17, 480), plain(16));
 }
 
 #[test]
 fn block_size_1() {
     assert_eq!(dii(1, &[(1, 256, 0)]), Answer::New);
-    assert_eq!(dii(1, &[(1, 257, 0)]), Answer::Refused(10));
+    assert_eq!(dii(1, &[(1, 257, 0)]), plain(10));
 }
 
 #[test]
 fn sizes_together() {
     assert_eq!(dii(400, &[(1, 65_535, 0), (2, 1, 0)]), Answer::New);
-    assert_eq!(dii(400, &[(1, 65_536, 0), (2, 1, 0)]), Answer::Refused(10));
+    assert_eq!(dii(400, &[(1, 65_536, 0), (2, 1, 0)]), plain(10));
 }
 
 #[test]
@@ -107,7 +107,7 @@ fn seventy_two_least_applications_give_l_1021() {
     let section = ait(&[], &vec![least.clone(); 72]);
     assert_eq!(section.len(), 3 + 1_021);
     assert_eq!(read(&section).unwrap().applications, 72);
-    assert_eq!(read(&ait(&[], &vec![least; 73])), Err(4));
+    assert_eq!(read(&ait(&[], &vec![least; 73])), Err(Refusal::at(4, 1)));
 }
 
 #[test]
@@ -122,10 +122,7 @@ fn block_300_with_section_number_44() {
     let mut held = one(1_000, 400);
     let mut sheet = Block::new(7, 1, 0, 300, &[5; 400]).section();
     assert_eq!(sheet.number, 44);
-    assert_eq!(
-        held.0.step(&sheet.bytes(), &mut held.1),
-        Answer::Refused(16)
-    );
+    assert_eq!(held.0.step(&sheet.bytes(), &mut held.1), plain(16));
     (sheet.number, sheet.last) = (45, 45);
-    assert_eq!(held.0.step(&sheet.bytes(), &mut held.1), Answer::Refused(9));
+    assert_eq!(held.0.step(&sheet.bytes(), &mut held.1), plain(9));
 }

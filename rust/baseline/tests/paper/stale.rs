@@ -186,7 +186,7 @@ fn a_stale_block_completes_nothing() {
     assert_eq!(record.step(&first.bytes(), &mut image), Answer::Stored);
     for _ in 0..2 {
         let stale = record.step(&under(&last, 8), &mut image);
-        assert_eq!(stale, Answer::Refused(9));
+        assert_eq!(stale, plain(9));
         let (count, lowest) = (1, 1);
         assert_eq!(record.missing(6), Missing::Lacking { count, lowest });
         assert_eq!(record.handout_number(&image, 6), 20);

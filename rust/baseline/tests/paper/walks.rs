@@ -1,14 +1,15 @@
 //! The run, one place at a time and as a whole, and the paper's printed example.
 
 use crate::made::*;
-use baseline::{Fate, Passage, Record, Stop, Taken};
+use baseline::{Fate, Passage, Record, Refusal, Stop, Taken};
 use std::fmt::Write;
 
-fn print(stretch: &[u8]) -> String {
+/// What the program prints, by the request's words; `places` asks the program itself.
+pub fn print(stretch: &[u8]) -> String {
     let mut record = Record::empty();
     let mut image = vec![0; 65_536];
     let (mut at, mut index, mut budget) = (0, 0, 65_536);
-    let mut text = String::from("index,answer,kind\n");
+    let mut text = String::from("index,answer,kind,place\n");
     loop {
         match record.take(&stretch[at..], &mut image, budget) {
             Taken::Stopped(stop) => {
@@ -23,15 +24,18 @@ fn print(stretch: &[u8]) -> String {
                 return text;
             }
             Taken::Section { length, fate } => {
-                let (answer, kind) = match fate {
-                    Fate::Table => (0, "table"),
-                    Fate::New => (0, "new"),
-                    Fate::Same => (0, "same"),
-                    Fate::Stored => (0, "stored"),
-                    Fate::Repeated => (0, "repeated"),
-                    Fate::Refused(number) => (number, "none"),
+                let line = match fate {
+                    Fate::Table => "0,table,".to_string(),
+                    Fate::New => "0,new,".to_string(),
+                    Fate::Same => "0,same,".to_string(),
+                    Fate::Stored => "0,stored,".to_string(),
+                    Fate::Repeated => "0,repeated,".to_string(),
+                    Fate::Refused(Refusal { number, place }) => match place {
+                        Some(place) => format!("{number},none,{place}"),
+                        None => format!("{number},none,"),
+                    },
                 };
-                writeln!(text, "{index},{answer},{kind}").unwrap();
+                writeln!(text, "{index},{line}").unwrap();
                 (at, index, budget) = (at + length, index + 1, budget - 1);
             }
         }
@@ -47,11 +51,11 @@ fn the_printed_example() {
         Block::new(7, 1, 4, 0, &[5; 400]).bytes(),
     ]
     .concat();
-    let expected = "index,answer,kind\n\
-                    0,0,new\n\
-                    1,0,stored\n\
-                    2,0,repeated\n\
-                    3,14,none\n\
+    let expected = "index,answer,kind,place\n\
+                    0,0,new,\n\
+                    1,0,stored,\n\
+                    2,0,repeated,\n\
+                    3,14,none,\n\
                     stop,end\n";
     assert_eq!(print(&stretch), expected);
 }
@@ -68,13 +72,13 @@ fn a_stale_relay() {
         Block::new(7, 1, 32, 0, &[5; 400]).bytes(),
     ]
     .concat();
-    let expected = "index,answer,kind\n\
-                    0,0,new\n\
-                    1,9,none\n\
-                    2,0,stored\n\
-                    3,9,none\n\
-                    4,0,repeated\n\
-                    5,14,none\n\
+    let expected = "index,answer,kind,place\n\
+                    0,0,new,\n\
+                    1,9,none,\n\
+                    2,0,stored,\n\
+                    3,9,none,\n\
+                    4,0,repeated,\n\
+                    5,14,none,\n\
                     stop,end\n";
     assert_eq!(print(&stretch), expected);
 }
@@ -92,13 +96,13 @@ fn every_kind_and_a_stuffed_end() {
         ait(&[], &[]),
     ]
     .concat();
-    let expected = "index,answer,kind\n\
-                    0,0,table\n\
-                    1,18,none\n\
-                    2,0,new\n\
-                    3,0,same\n\
-                    4,3,none\n\
-                    5,4,none\n\
+    let expected = "index,answer,kind,place\n\
+                    0,0,table,\n\
+                    1,18,none,\n\
+                    2,0,new,\n\
+                    3,0,same,\n\
+                    4,3,none,0\n\
+                    5,4,none,1\n\
                     stop,stuffing\n";
     assert_eq!(print(&stretch), expected);
 }
@@ -138,7 +142,7 @@ fn sections_of_l_4094_and_4095_are_taken_and_refused() {
         section.extend(vec![0; usize::from(length)]);
         let taken = Record::empty().take(&section, &mut [], 1);
         let length = usize::from(length) + 3;
-        let fate = Fate::Refused(4);
+        let fate = Fate::Refused(Refusal::at(4, 1));
         assert_eq!(taken, Taken::Section { length, fate });
         section.pop();
         assert_eq!(stop(&section, 1), Some(Stop::Short));
