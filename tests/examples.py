@@ -98,10 +98,10 @@ def damaged():
     yield block(DRIFT, 1)[:50]
 
 
-# What must come out by the paper's words: each section's kind, or its number if refused; then the stop.
+# What must come out by the paper's words: each section's kind, or its number if refused, and where it broke (02, §9); then the stop.
 CAPTURES = {
     "whole.sections": (whole(), "table new stored stored stored repeated same stored stored end"),
-    "damaged.sections": (damaged(), "18 new stored 5 9 14 12 17 stored stored stored short"),
+    "damaged.sections": (damaged(), "18 new stored 5@66 9 14 12 17 stored stored stored short"),
 }
 
 

@@ -13,10 +13,11 @@ import sys
 import names
 from names import ROOT, text_of
 
-GIVEN = r"return {0};|Refusal {{ number: {0} }}|refuse\(c, {0}\)|Answer::Refused\({0}\)"
-# a line of stored answers, and which of its numbers are refusals
+# what is returned is a number where it is a u8; a place is a usize
+GIVEN = r"-> u8\n.*return {0};|Refusal {{\s*number: {0},|refuse\(c, {0}\)|Answer::Refused\({0}\)"
+# a line of stored answers, and which of its numbers are refusals; a place may follow one, `5@12`
 ANSWERS = {
-    "test_section": r"^\w+ (\d+) (\d+)$",
+    "test_section": r"^\w+ (\d+)(?:@\d+)? (\d+)(?:@\d+)?$",
     "test_ait": r"^(?:section|end) (\d+)",
     "test_carousel": r"^(?:step|handout|missing) (\d+)",
     "test_drift": r"^(?:read|write|(?:record|walk) \d) (\d+)",
@@ -49,7 +50,7 @@ def givers(number):
     """The functions of the libraries that give it."""
     for path in ROOT.glob("crates/*/src/**/*.rt"):
         for function in re.findall(r"\bfn (\w+)", text_of(path)):
-            if re.search(GIVEN.format(number), body_of(path, function)):
+            if re.search(GIVEN.format(number), body_of(path, function), re.S):
                 yield path, function
 
 

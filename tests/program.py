@@ -1,7 +1,7 @@
 #!/usr/bin/env python3
 """The paper's program in plain Python, and its tests.
 
-Written from the paper (01, "The run" and the numbered refusals; points R1 to R7) and 02, §6, not from the Rattle code: the carousel's
+Written from the paper (01, "The run" and the numbered refusals; points R1 to R7) and 02, §6 and §9, not from the Rattle code: the carousel's
 rules are tests/receiver.py, the application rules tests/test_ait.py. Each input below says what it shows and, where the paper's
 words tell it, what must come out.
 
@@ -28,7 +28,7 @@ import test_ait
 import receiver
 from test_ait import ait, app, d00, desc
 from receiver import IMAGE, Record, byte5, ddb, dii
-from second import ROOT, with_crc
+from second import ROOT, with_crc, with_place
 
 READ, BUDGET = 65_536, 65_536
 
@@ -54,27 +54,33 @@ def stop_at(stretch, at, budget):
 
 
 def taken(record, image, s):
-    """One section's number, its kind, and the record after it. The image changes in place."""
+    """One section's number, its kind, where it broke (02, §9) or None, and the record after it. The image changes in place."""
     if s[0] != 0x74:
         return receiver.step(record, image, s)
     number = test_ait.judged(s)[0]
-    return number, "none" if number else "table", record
+    return number, "none" if number else "table", test_ait.place(s), record
 
 
 def run(stretch, budget, record, image):
-    """The number and kind of each section, the stop, and the record after it. The image changes in place."""
+    """The number, kind and place of each section, the stop, and the record after it. The image changes in place."""
     answers, at = [], 0
     while not (stop := stop_at(stretch, at, budget - len(answers))):
         end = at + whole(stretch, at)
-        number, kind, record = taken(record, image, stretch[at:end])
-        answers.append((number, kind))
+        number, kind, place, record = taken(record, image, stretch[at:end])
+        answers.append((number, kind, place))
         at = end
     return answers, stop, record
 
 
+def column(place):
+    """The last of a section's line: empty where there is no place."""
+    return "" if place is None else str(place)
+
+
 def program(stdin):
     answers, stop, _ = run(stdin[:READ], BUDGET, Record(), bytearray(IMAGE))
-    lines = ["index,answer,kind"] + ["%d,%d,%s" % (i, *a) for i, a in enumerate(answers)] + ["stop,%s" % stop]
+    lines = ["%d,%d,%s,%s" % (i, number, kind, column(place)) for i, (number, kind, place) in enumerate(answers)]
+    lines = ["index,answer,kind,place"] + lines + ["stop,%s" % stop]
     return "".join(l + "\n" for l in lines).encode()
 
 
@@ -85,7 +91,7 @@ class Input(NamedTuple):
     name: str
     shows: str
     stdin: bytes
-    wanted: str | None = None  # where the paper's words tell it: each section's kind, or its number if refused; then the stop
+    wanted: str | None = None  # where the paper's words tell it: each section's kind, or its number if refused, with its place; then the stop
 
 
 # A module of 1,000 bytes in blocks of 400 is announced; then block 0, block 0 again, block 0 of another version, its section's too.
@@ -97,11 +103,11 @@ EXAMPLE = Input(
     "new stored repeated 14 end",
 )
 PRINTED = b"""\
-index,answer,kind
-0,0,new
-1,0,stored
-2,0,repeated
-3,14,none
+index,answer,kind,place
+0,0,new,
+1,0,stored,
+2,0,repeated,
+3,14,none,
 stop,end
 """
 
@@ -158,7 +164,7 @@ def endings():
     for n in (1, 2, 3, 11, len(more) - 1):
         yield Input("a tail of %d bytes" % n, "Of a section of %d bytes only these are there: short." % len(more), good + more[:n], "new stored short")
     yield Input("two bytes alone", "Fewer than 3 bytes, and no section before them.", more[:2], "short")
-    yield Input("three bytes that are whole", "L = 0 makes a section of 3 bytes: taken, and refused (R2).", good + b"\x3c\xb0\0", "new stored 4 end")
+    yield Input("three bytes that are whole", "L = 0 makes a section of 3 bytes: taken, and refused (R2).", good + b"\x3c\xb0\0", "new stored 4@1 end")
     yield Input("a tail that says 4,095", "The largest L, with one byte too few.", good + sized(0x3C, 4095)[:-1], "new stored short")
     yield Input("a short tail of a table", "Short knows no tables.", good + ait()[:-1], "new stored short")
 
@@ -173,7 +179,7 @@ def full(first=4096):
 
 def cuts():
     again = ddb(5, 1, 0, 0, bytes(4066))
-    every, but_last = "new " + "stored " * 15, "3 new " + "stored " * 14
+    every, but_last = "new " + "stored " * 15, "3@0 new " + "stored " * 14
     other = sized(0x00, 0)
     assert [len(full()), len(other)] == [READ, 3]
     yield Input("65,536 bytes", "The last byte that counts ends the last section.", full(), every + "end")
@@ -191,25 +197,25 @@ def cuts():
 def tables():
     good = app(d00())
     refused = [
-        (4, "section number above last", ait(number=1)),
-        (4, "L = 1,022", ait(apps=good * 71 + app(d00(labels=b"\0")))),
-        (5, "CRC", spoiled(ait())),
-        (6, "not current", ait(byte5=0xC0)),
-        (7, "a descriptor cut off", ait(b"\x15")),
-        (7, "malformed contents", ait(desc(5, b"x"))),
-        (18, "an application without 0x00", ait(apps=app(b""))),
+        ("4@6", "section number above last", ait(number=1)),
+        ("4@1", "L = 1,022", ait(apps=good * 71 + app(d00(labels=b"\0")))),
+        ("5@12", "CRC", spoiled(ait())),
+        ("6@5", "not current", ait(byte5=0xC0)),
+        ("7", "a descriptor cut off", ait(b"\x15")),
+        ("7", "malformed contents", ait(desc(5, b"x"))),
+        ("18", "an application without 0x00", ait(apps=app(b""))),
     ]
     accepted = [("empty", ait()), ("L = 1,021", ait(apps=good * 72)), ("common descriptors", ait(desc(0x15, b"/drift"), good))]
     around = [announcement(), block(TIDES, 0), block(TIDES, 0)]
     for number, why, table in refused:
-        wanted = "new %d stored %d repeated end" % (number, number)
+        wanted = "new %s stored %s repeated end" % (number, number)
         yield Input("a table refused: %s" % why, "The carousel around it goes on (R7).", table.join(around), wanted)
     for what, table in accepted:
         yield Input("a table taken: %s" % what, "The carousel around it goes on.", table.join(around), "new table stored table repeated end")
     yield Input("tables alone", "They need no announcement, and an equal one is no repetition.", ait() * 3, "table table table end")
     yield Input("an announcement as table 0x74", "0x74 goes by the application rules.", announcement(table=0x74), "7 end")
     others = [with_crc(bytes([number]) + ait()[1:-4]) for number in (0x3B, 0x3C, 0x75)]
-    yield Input("a table as 0x3B, 0x3C and 0x75", "Every other goes by the carousel's.", b"".join(others), "7 7 3 end")
+    yield Input("a table as 0x3B, 0x3C and 0x75", "Every other goes by the carousel's.", b"".join(others), "7 7 3@0 end")
 
 
 ODD_ORDER = announcement() + b"".join(block(m, b) for m, b in ((TIDES, 2), (DRIFT, 1), (TIDES, 0), (DRIFT, 0), (TIDES, 1)))
@@ -248,7 +254,7 @@ def announcements():
         "refused announcements in the middle",
         "They change nothing.",
         one + zero + announcement(block_size=0) + zero + announcement([TIDES, TIDES]) + zero + spoiled(other) + zero,
-        "new stored 10 repeated 11 repeated 5 repeated end",
+        "new stored 10 repeated 11 repeated 5@%d repeated end" % (len(other) - 4),
     )
 
 
@@ -286,7 +292,7 @@ def stale():
 # taken (R2); 15, since limit 10 holds the sizes to 65,536 together, as many as the image has; 19 and 20, which no section gets.
 FAULTS = {
     3: announcement(table=0x3D),
-    4: announcement(number=2, last=1),
+    4: announcement(number=2, last=1),  # at 6; more of 4 with their places are below
     5: spoiled(announcement()),
     6: announcement(byte5=0xC0),
     7: announcement(tail=b"\0"),
@@ -302,43 +308,102 @@ FAULTS = {
     18: ait(apps=app(b"")),
 }
 REACHED = {0, *FAULTS}
+PLACES = {3: 0, 4: 6, 5: len(FAULTS[5]) - 4, 6: 5}  # of these; the others have none
 
 
 def numbers():
     good = announcement() + block(TIDES, 0)
     stretch = good + b"".join(s + block(TIDES, 0) for s in FAULTS.values())
-    wanted = "new stored " + "".join("%d repeated " % n for n in FAULTS) + "end"
+    wanted = "new stored " + "".join("%s repeated " % with_place(n, PLACES.get(n)) for n in FAULTS) + "end"
     yield Input("every number", "Each that a run can show, and after each block 0 is still there.", stretch, wanted)
+
+
+def thirteen(table, number=0, last=0, flags=0xB0, byte5=0xC1):
+    """A section of L = 13: a table without applications, or no message of a carousel."""
+    return with_crc(bytes([table, flags, 13, 0, 1, byte5, number, last]) + bytes.fromhex("f000f000"))
+
+
+def broken(table):
+    """02, §9: whole sections of this table for each place, and what must be told of them; where two numbers apply, the lower one's place."""
+    over, syntax, current = {"number": 3, "last": 2}, {"flags": 0x30}, {"byte5": 0xC0}
+    yield sized(table, 0), "4@1"
+    yield sized(table, 8), "4@1"
+    yield thirteen(table, **syntax), "4@1"
+    yield thirteen(table, **over, **syntax), "4@1"
+    yield with_crc(bytes([table, 0xB0, 8, 0, 1, 0xC1, 255])), "4@1"
+    yield spoiled(thirteen(table, **syntax, **current)), "4@1"
+    yield thirteen(table, **over), "4@6"
+    yield thirteen(table, **over, flags=0xF0), "4@6"
+    yield spoiled(thirteen(table, **over, **current)), "4@6"
+    yield spoiled(thirteen(table)), "5@12"
+    yield spoiled(sized(table, 9)), "5@8"
+    yield spoiled(sized(table, 1021)), "5@1020"
+    yield spoiled(thirteen(table, **current)), "5@12"
+    yield thirteen(table, **current), "6@5"
+
+
+def other_tables():
+    """3 at 0, whatever else is wrong."""
+    for table in (0x00, 0x3D, 0x75):
+        for s, _ in broken(table):
+            yield s, "3@0"
+
+
+def places():
+    ends = lambda told: "".join(word + " " for _, word in told) + "end"
+    for table in (0x3B, 0x3C, 0x74):
+        told = list(broken(table))
+        yield Input("places of 0x%X" % table, "Where each broke: the bytes before it do not count.", b"".join(s for s, _ in told), ends(told))
+    told = list(other_tables())
+    yield Input("places of other tables", "3 comes before 4, 5 and 6.", b"".join(s for s, _ in told), ends(told))
+    told = [pair for table in (0x74, 0x3C, 0x00) for pair in broken(table)]
+    stretch = b"".join(s + block(TIDES, 0) for s, _ in told)
+    wanted = "".join("%s repeated " % (word if s[0] else "3@0") for s, word in told)
+    yield Input("places between blocks", "Nothing changes by any of them.", announcement() + block(TIDES, 0) + stretch, "new stored " + wanted + "end")
+    none = announcement() + ait() + ait(b"\x15") + ait(apps=app(b"")) + block(DRIFT, 0, download=1)
+    yield Input("no places", "Accepted ones have none, nor have 7, 18 and 12.", none, "new table 7 18 12 end")
+    # a place of four digits, and the largest of each rule
+    largest = spoiled(sized(0x3C, 4093)) + spoiled(sized(0x74, 1021)) + spoiled(sized(0x3B, 4093))
+    yield Input("the last places", "L = 4,093 and 1,021 with a bad CRC.", largest, "5@4092 5@1020 5@4092 end")
 
 
 def lengths():
     every = (0, 1, 8, 9, 1021, 1022, 4093, 4094, 4095)
     of = lambda table: b"".join(sized(table, n) for n in every)
-    yield Input("lengths of 0x3B", "3 to 4,098 bytes: L under 9 or over 4,093 gives 4.", of(0x3B), "4 4 4 7 8 8 8 4 4 end")
-    yield Input("lengths of 0x3C", "The same.", of(0x3C), "4 4 4 7 8 8 8 4 4 end")
-    yield Input("lengths of 0x74", "L under 9 or over 1,021 gives 4.", of(0x74), "4 4 4 7 7 4 4 4 4 end")
-    yield Input("lengths of another table", "3 comes before 4.", of(0x00), "3 " * 9 + "end")
+    of_carousel, of_table = "4@1 4@1 4@1 7 8 8 8 4@1 4@1 end", "4@1 4@1 4@1 7 7 4@1 4@1 4@1 4@1 end"
+    yield Input("lengths of 0x3B", "3 to 4,098 bytes: L under 9 or over 4,093 gives 4 at 1.", of(0x3B), of_carousel)
+    yield Input("lengths of 0x3C", "The same.", of(0x3C), of_carousel)
+    yield Input("lengths of 0x74", "L under 9 or over 1,021 gives 4 at 1.", of(0x74), of_table)
+    yield Input("lengths of another table", "3 comes before 4.", of(0x00), "3@0 " * 9 + "end")
+    over = lambda table, length: with_crc(bytes([table, 0xB0 | length >> 8, length & 255, 0, 0, 0xC1, 3, 2]) + bytes(length - 9))
+    of = lambda table, *every: b"".join(over(table, n) for n in every)
+    yield Input("lengths of 0x3C, numbers wrong", "At 6 only within the limits.", of(0x3C, 9, 1022, 4093, 4094, 4095), "4@6 4@6 4@6 4@1 4@1 end")
+    yield Input("lengths of 0x74, numbers wrong", "The same.", of(0x74, 9, 1021, 1022, 4093, 4094), "4@6 4@6 4@1 4@1 4@1 end")
 
 
 THREES = Input(
     "21,845 sections of three bytes",
     "As many as can be; so the budget, 65,536, is never used up.",
     sized(0x3C, 0) * 21_845,
-    "4 " * 21_845 + "end",
+    "4@1 " * 21_845 + "end",
 )
+# No text is longer: a section of 3 bytes has a line of its own, and of the stops that leave room for so many this has the longest name.
+LONGEST = Input("the longest text", "21,845 lines, a byte of stuffing after their sections.", THREES.stdin + b"\xff", "4@1 " * 21_845 + "stuffing")
+LONGEST_TEXT = 316_603  # the header's 24, the indices' 98,115, 10 more for each line, the stop's 14
 
 
 def many():
     yield THREES
-    yield Input("65,536 zeros", "The same of table 0, and a byte is left.", bytes(65_536), "3 " * 21_845 + "short")
+    yield LONGEST
+    yield Input("65,536 zeros", "The same of table 0, and a byte is left.", bytes(65_536), "3@0 " * 21_845 + "short")
     modules = [(k, 4096, k) for k in range(16)]
     threes = (sized(0x3C, 0) + sized(0x74, 0)) * 10_500
-    yield Input("three bytes each, a full record", "It has 16 modules all the while.", dii(1, 16, modules) + threes, "new " + "4 " * 21_000 + "end")
+    yield Input("three bytes each, a full record", "It has 16 modules all the while.", dii(1, 16, modules) + threes, "new " + "4@1 " * 21_000 + "end")
     modules = [(k, 256, 0) for k in range(8)]
     blocks = [ddb(1, k, 0, 97 * b % 256, bytes([b])) for b in range(256) for k in range(8)]
     yield Input("2,048 blocks of one byte", "Eight modules, every block once.", dii(1, 1, modules) + b"".join(blocks), "new " + "stored " * 2048 + "end")
     every = b"".join(sized(table, 0) for table in range(256))
-    wanted = ["4" if table in (0x3B, 0x3C, 0x74) else "3" for table in range(255)]
+    wanted = ["4@1" if table in (0x3B, 0x3C, 0x74) else "3@0" for table in range(255)]
     yield Input("every table number", "All but 0xFF are taken.", every, " ".join(wanted) + " stuffing")
 
 
@@ -391,16 +456,17 @@ def at_random():
         yield Input("sections at random, %d" % seed, "A byte or two damaged, the CRC mended; more than 1,000 sections are taken.", stretch)
 
 
-TOPICS = (beginnings, endings, cuts, tables, block_by_block, announcements, soundings, stale, numbers, lengths, many, at_random)
+TOPICS = (beginnings, endings, cuts, tables, block_by_block, announcements, soundings, stale, numbers, places, lengths, many, at_random)
 
 
 # ---- what is known of the inputs without the built program
 
 
 def told(output):
-    """An output as an input's `wanted` has it: each section's kind, or its number if refused; then the stop."""
+    """An output as an input's `wanted` has it: each section's kind, or its number if refused, with its place; then the stop."""
     *sections, stop = [line.split(",") for line in output.decode().splitlines()[1:]]
-    return [kind if answer == "0" else answer for _, answer, kind in sections] + stop[1:]
+    at = lambda place: "@" + place if place else ""
+    return [(kind if answer == "0" else answer) + at(place) for _, answer, kind, place in sections] + stop[1:]
 
 
 def check_order_of_stops():
@@ -423,9 +489,39 @@ def check_words(cases):
         words = told(output)
         assert i.wanted is None or words == i.wanted.split(), (i.name, words)
         assert not i.name.startswith("sections at random") or len(words) > 1001, i.name
-        met.update(words)
+        met.update(word.split("@")[0] for word in words)
     kinds, stops = {"new", "same", "stored", "repeated", "table"}, {"end", "stuffing", "short"}
     assert met == kinds | stops | {str(n) for n in REACHED - {0}}, met
+
+
+def cut_up(stretch, count):
+    """The first so many sections."""
+    at = 0
+    for _ in range(count):
+        yield stretch[at : at + whole(stretch, at)]
+        at += whole(stretch, at)
+
+
+def clause(s, answer, place):
+    """A line's answer and the request's words for its place."""
+    if answer == "5":
+        assert place == str(len(s) - 4), (place, s.hex())
+        return "5 at the first CRC byte"
+    return "%s at %s" % (answer, place) if place else answer
+
+
+def check_places(cases):
+    """02, §9: each place by either rule. But 2 never comes, since a taken section is whole, nor 3 of a table: 0x74 is what leads to its rule."""
+    met = {"application": set(), "carousel": set()}
+    for i, output in cases:
+        lines = output.decode().splitlines()
+        for line, s in zip(lines[1:-1], cut_up(i.stdin, len(lines) - 2)):
+            _, answer, _, place = line.split(",")
+            assert answer != "2", i.name
+            met["application" if s[0] == 0x74 else "carousel"].add(clause(s, answer, place))
+    placed = {"4 at 1", "4 at 6", "5 at the first CRC byte", "6 at 5"}
+    assert met["application"] == placed | {"0", "7", "18"}, met
+    assert met["carousel"] == placed | {"3 at 0"} | {str(n) for n in REACHED - {3, 4, 5, 6, 18}}, met
 
 
 def checked_cases():
@@ -436,6 +532,8 @@ def checked_cases():
     cases = [(i, program(i.stdin)) for topic in TOPICS for i in topic()]
     assert len({i.name for i, _ in cases}) == len(cases), "two inputs of one name"
     check_words(cases)
+    check_places(cases)
+    assert max(len(output) for _, output in cases) == len(program(LONGEST.stdin)) == LONGEST_TEXT
     return cases
 
 

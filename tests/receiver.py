@@ -1,8 +1,8 @@
-"""A carousel receiver in plain Python, and makers of its sections. Written from the paper (01) and 02, §6, not from the Rattle code.
+"""A carousel receiver in plain Python, and makers of its sections. Written from the paper (01) and 02, §6 and §9, not from the Rattle code.
 
 The marks are one number of 4,096 bits, not words; a section's numbers are gathered and the lowest taken, not tested in turn.
 """
-from second import Malformed, Reader, refusal, with_crc
+from second import CAROUSEL, Malformed, Reader, place_of, refusal, with_crc
 
 MODULES, BLOCKS, LARGEST, IMAGE = 16, 256, 4066, 65_536
 
@@ -102,7 +102,7 @@ class Block:
 
 def judged(s):
     """A section by itself: its number, 2 to 11 or 0, and what it says."""
-    n = refusal(s, {0x3B, 0x3C}, 4093)
+    n = refusal(s, *CAROUSEL)
     if n:
         return n, None
     r = Reader(s[8:-4])
@@ -131,16 +131,18 @@ def judged(s):
 
 
 def step(r, image, s):
-    """The number, the kind and the record after it. The image changes in place."""
+    """The number, the kind, where the section broke (02, §9; None but of 2 to 6) and the record after it. The image changes in place."""
     if not ruled(r):
-        return 1, "none", r
+        return 1, "none", None, r
     n, message = judged(s)
     if n:
-        return n, "none", r
-    return announced(r, message) if s[0] == 0x3B else received(r, image, message)
+        return n, "none", place_of(s, *CAROUSEL), r
+    n, kind, after = announced(r, message) if s[0] == 0x3B else received(r, image, message)
+    return n, kind, None, after
 
 
 def announced(r, a):
+    """The number, the kind and the record after it; so also of a block."""
     if (r.download, r.block_size) == (a.download, a.block_size) and [(m.number, m.size, m.version) for m in r.used()] == a.modules:
         return 0, "same", r
     return 0, "new", a.record()

@@ -1,4 +1,5 @@
-"""What the second programs share: the CRC by a table, a reader of fields, and framed stretches. Written from the paper (01), not from the Rattle code."""
+"""What the second programs share: the CRC by a table, the common section check with the place of a refusal, a reader of fields, and framed
+stretches. Written from the paper (01) and 02, §9, not from the Rattle code."""
 import sys
 from pathlib import Path
 
@@ -24,6 +25,11 @@ def crc(data):
     return register
 
 
+# The two rules: the tables that a call takes, and the most that L may be.
+APPLICATION = {0x74}, 1021
+CAROUSEL = {0x3B, 0x3C}, 4093
+
+
 def refusal(s, tables, limit):
     """The lowest number of the paper's table that applies, 2 to 6; 0 where none does."""
     applies = set()
@@ -40,6 +46,26 @@ def refusal(s, tables, limit):
     if at(5) % 2 == 0:
         applies.add(6)
     return min(applies, default=0)
+
+
+def numbers_alone(s, tables, limit):
+    """Of a section that 4 refuses: only its section numbers are wrong. So with the numbers made right, 4 is gone."""
+    return len(s) > 7 and refusal(s[:6] + bytes(2) + s[8:], tables, limit) != 4
+
+
+def place_of(s, tables, limit):
+    """Where it broke (02, §9): a byte of the section, its first being 0. None where there is no refusal of 2 to 6."""
+    number = refusal(s, tables, limit)
+    if number == 2:
+        return len(s)
+    if number == 4:
+        return 6 if numbers_alone(s, tables, limit) else 1
+    return {3: 0, 5: len(s) - 4, 6: 5}.get(number)
+
+
+def with_place(number, place):
+    """As the test programs print it: 5@12, and the number alone where there is no place."""
+    return "%d" % number if place is None else "%d@%d" % (number, place)
 
 
 class Malformed(Exception):

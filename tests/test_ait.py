@@ -1,15 +1,15 @@
 #!/usr/bin/env python3
 """What crates/test_ait must print, by a second program.
 
-Written from the paper (01, "The application section") and ETSI TS 102 809, not from the Rattle code: it reads a section once,
-from the front to the end, into plain lists, and then answers from those.
+Written from the paper (01, "The application section"; 02, §9) and ETSI TS 102 809, not from the Rattle code: it reads a section once,
+from the front to the end, into plain lists, and then answers from those. A refusal is printed with its place, where it has one: `5@12`.
 
     test_ait.py          compare crates/test_ait/stdin and stdout with what this program makes
     test_ait.py --write  write both
 """
 import random
 
-from second import Malformed, Reader, framed, refusal, settle, with_crc
+from second import APPLICATION, Malformed, Reader, framed, place_of, refusal, settle, with_crc, with_place
 
 
 def repeated(data, one):
@@ -74,7 +74,7 @@ def body(data):
 
 def judged(s):
     """The section's number, its common descriptors and its applications."""
-    n = refusal(s, {0x74}, 1021)
+    n = refusal(s, *APPLICATION)
     if n:
         return n, [], []
     try:
@@ -86,13 +86,18 @@ def judged(s):
     return 0, common, apps
 
 
+def place(s):
+    """Where it broke (02, §9): 7 and 18 have no place, since the common check is content with such a section."""
+    return place_of(s, *APPLICATION)
+
+
 CLASSES = [(0x3FFF, "unsigned"), (0x7FFF, "signed"), (0xFFFD, "other"), (0xFFFF, "wildcard")]
 CONTROLS = {1: "autostart", 2: "present", 3: "destroy", 4: "kill", 6: "remote"}
 
 
 def lines(s):
     number, common, apps = judged(s)
-    end = "end %d" % (number or 19)
+    end = "end " + with_place(number or 19, place(s))
 
     def descriptors(ds):
         for d in ds:
@@ -125,7 +130,7 @@ def lines(s):
         return "unresolved"
 
     if number:
-        yield "section %d" % number
+        yield "section " + with_place(number, place(s))
     else:
         extension = s[3] * 256 + s[4]
         yield "section 0 %d %d %d %d %d %d %d" % (extension >> 15, extension & 32767, s[5] >> 1 & 31, s[6], s[7], len(common), len(apps))
@@ -193,6 +198,37 @@ EVERY = [
 ]
 
 
+def placed():
+    """02, §9: where it broke, each with what must be printed. The first ones are its soundings."""
+    thirteen = ait()  # L = 13
+    spoiled = lambda s: s[:-1] + bytes([s[-1] ^ 1])
+    yield thirteen[:2], "2@2"
+    yield b"", "2@0"
+    yield with_crc(bytes([0x74, 0xB0, 8, 0, 1, 0xC1, 0])), "4@1"
+    yield ait(number=3, last=2), "4@6"
+    yield ait(number=3, last=2, flags=0x30), "4@1"
+    yield spoiled(thirteen), "5@12"
+    yield ait(byte5=0xC0), "6@5"
+    # and what stands beside them
+    yield thirteen[:1], "2@1"
+    yield thirteen + b"\0", "2@17"
+    yield with_crc(b"\x75" + thirteen[1:-4]), "3@0"
+    yield spoiled(with_crc(b"\x3b" + ait(number=3, last=2, flags=0x30, byte5=0xC0)[1:-4])), "3@0"
+    yield b"\x74\xb0\0", "4@1"
+    yield ait(flags=0x70), "4@1"
+    yield ait(apps=app(d00()) * 73, number=3, last=2), "4@1"  # L = 1,035
+    yield with_crc(bytes([0x74, 0xB0, 8, 0, 1, 0xC1, 255])), "4@1"
+    yield spoiled(ait(flags=0x30, byte5=0xC0)), "4@1"
+    yield spoiled(ait(number=3, last=2, byte5=0xC0)), "4@6"
+    yield ait(b"\x15", number=1), "4@6"
+    yield spoiled(ait(b"\x15", byte5=0xC0)), "5@13"
+    yield ait(apps=app(b""), byte5=0xFE), "6@5"
+    # no place: 7, 18, and 19, which is asked of an accepted one
+    yield ait(b"\x15"), "7"
+    yield ait(apps=app(b"")), "18"
+    yield thirteen, "19"
+
+
 def sections():
     # the soundings of the paper
     yield ait()
@@ -257,6 +293,7 @@ def sections():
     yield ait(b"\x15")[:-1] + b"\0"
     yield ait()[:-1]
     yield b""
+    yield from (s for s, _ in placed())
     # and many more: whole ones, each then with a byte or two spoiled and the CRC made anew
     rnd = random.Random(102809)
     for _ in range(110):
@@ -272,12 +309,16 @@ def sections():
 def main():
     every = list(sections())
     seen = [judged(s)[0] for s in every]
-    for n in (0, 2, 4, 5, 6, 7, 18):
-        assert n in seen, n
+    assert set(seen) == {0, *range(2, 8), 18}, set(seen)
+    for s, printed in placed():
+        assert {l for l in lines(s) if l.startswith("end")} == {"end " + printed}, (printed, s.hex())
+    for s in every:
+        assert (place(s) is not None) == (judged(s)[0] in range(2, 7)), s.hex()
     wanted = "".join(l + "\n" for s in every for l in lines(s))
     given = framed(every)
     settle("test_ait", given, wanted.encode())
-    print("test_ait: %d sections (%d accepted), %d bytes, %d answers: stdin and stdout are the second program's" % (len(every), seen.count(0), len(given), wanted.count("\n")))
+    counts = len(every), seen.count(0), len(given), wanted.count("\n")
+    print("test_ait: %d sections (%d accepted), %d bytes, %d answers: stdin and stdout are the second program's" % counts)
 
 
 if __name__ == "__main__":

@@ -1,8 +1,9 @@
 #!/usr/bin/env python3
 """What crates/test_carousel must print, by a second program.
 
-Written from the paper (01, "The messages" to "False bearings"; 02, §6), not from the Rattle code: the receiver is tests/receiver.py, and
-here are the sequences that both are led through. Where a sequence knows its answer from the paper's words, it says so (`wanted`).
+Written from the paper (01, "The messages" to "False bearings"; 02, §6 and §9), not from the Rattle code: the receiver is tests/receiver.py,
+and here are the sequences that both are led through. Where a sequence knows its answer from the paper's words, it says so (`wanted`), and
+where a section broke (`place`). A step's refusal is printed with its place, where it has one: `5@12`.
 
     test_carousel.py          compare crates/test_carousel/stdin and stdout with what this program makes
     test_carousel.py --write  write both
@@ -15,7 +16,7 @@ from collections import Counter
 
 import receiver
 from receiver import byte5, ddb, dii, message, section
-from second import settle, with_crc
+from second import settle, with_crc, with_place
 
 FIELDS = ["download", "block_size", "count", "number", "size", "version", "start", "marks"]
 MEMORY = 65_600
@@ -47,7 +48,7 @@ class Script:
     """The commands so far, and what the program must print."""
 
     def __init__(self):
-        self.given, self.lines, self.met = bytearray(), [], Counter()
+        self.given, self.lines, self.met, self.places = bytearray(), [], Counter(), Counter()
         self.record, self.image, self.beyond = receiver.Record(), bytearray(), bytearray(MEMORY)
 
     def command(self, letter, *parts):
@@ -89,17 +90,24 @@ class Script:
         self.image[place] = value
         self.lines.append("paint")
 
-    def step(self, s, wanted=None):
+    def step(self, s, wanted=None, place=None):
         self.command(b"t", (len(s), 2))
         self.given += s
         before, bytes_before = copy.deepcopy(self.record), bytes(self.image)
-        n, kind, self.record = receiver.step(self.record, self.image, s)
-        assert wanted in (None, n, kind), (wanted, n, kind, s.hex())
+        n, kind, at, self.record = receiver.step(self.record, self.image, s)
+        assert wanted in (None, n, kind) and place in (None, at), (wanted, place, n, kind, at, s.hex())
+        self.place_met(s, n, at)
         if kind in ("none", "same", "repeated"):
             assert record_digest(before) == record_digest(self.record) and bytes_before == self.image
         self.met["step %d" % n if n else kind] += 1
-        self.lines.append("step %d %s %08x %08x" % (n, kind, record_digest(self.record), digest(self.image)))
+        self.lines.append("step %s %s %08x %08x" % (with_place(n, at), kind, record_digest(self.record), digest(self.image)))
         return n, kind
+
+    def place_met(self, s, n, at):
+        """02, §9: each of 2 to 6 has its place, and nothing else has one."""
+        places = {2: {len(s): "the lent length"}, 3: {0: "zero"}, 4: {1: "one", 6: "six"}, 5: {len(s) - 4: "the first CRC byte"}, 6: {5: "five"}}
+        self.places["%d at %s" % (n, places[n][at]) if n in places else "none"] += 1
+        assert n in places or at is None, (n, at)
 
     def handout(self, number, wanted=None):
         self.command(b"h", (number, 2))
@@ -267,24 +275,29 @@ def headers(t):
     begun(t, blocks=[(0, 0)])
     for whole in (announcement(), block(0, 0)):
         for n in (0, 1, 2, 3, 4, 11, 12, len(whole) - 1):
-            t.step(whole[:n], 2)
-        t.step(whole + b"\0", 2)
-        t.step(whole[:-1] + bytes([whole[-1] ^ 1]), 5)
+            t.step(whole[:n], 2, n)
+        t.step(whole + b"\0", 2, len(whole) + 1)
+        t.step(whole[:-1] + bytes([whole[-1] ^ 1]), 5, len(whole) - 4)
         for k in (3, 5, 8, 20, len(whole) - 4):
-            t.step(whole[:k] + bytes([whole[k] ^ 0x10]) + whole[k + 1 :], 5)
+            t.step(whole[:k] + bytes([whole[k] ^ 0x10]) + whole[k + 1 :], 5, len(whole) - 4)
     for length in (0, 8, 9):
-        t.step(with_crc(bytes([0x3B, 0xB0, length, 0, 0, 0xC1, 0, 0])[: length - 1]) if length else b"\x3b\xb0\x00", 7 if length == 9 else 4)
+        s = with_crc(bytes([0x3B, 0xB0, length, 0, 0, 0xC1, 0, 0])[: length - 1]) if length else b"\x3b\xb0\x00"
+        t.step(s, *(4, 1) if length < 9 else (7, None))
     for table in (0x00, 0x3A, 0x3D, 0x74, 0xFF):
-        t.step(announcement(table=table), 3)
-        t.step(block(0, 0, table=table), 3)
+        t.step(announcement(table=table), 3, 0)
+        t.step(block(0, 0, table=table), 3, 0)
     t.step(announcement(table=0x3C), 8)
     t.step(block(0, 0, table=0x3B), 8)
-    t.step(announcement(flags=0x30), 4)
-    t.step(block(0, 0, flags=0x70), 4)
-    t.step(announcement(number=2, last=1), 4)
-    t.step(block(0, 1, last=0), 4)
-    t.step(announcement(byte5=0xC0), 6)
-    t.step(block(0, 0, byte5=0xFE), 6)
+    t.step(announcement(flags=0x30), 4, 1)
+    t.step(block(0, 0, flags=0x70), 4, 1)
+    t.step(announcement(number=2, last=1), 4, 6)
+    t.step(block(0, 1, last=0), 4, 6)
+    # numbers wrong and the syntax indicator 0, or L; the numbers alone, though 5 and 6 apply as well
+    t.step(section(0x3B, b"", number=3, last=2, flags=0x30), 4, 1)
+    t.step(with_crc(bytes([0x3C, 0xB0, 8, 0, 0, 0xC1, 255])), 4, 1)
+    t.step(section(0x3C, b"", number=3, last=2, byte5=0xC0)[:-1] + b"\0", 4, 6)
+    t.step(announcement(byte5=0xC0), 6, 5)
+    t.step(block(0, 0, byte5=0xFE), 6, 5)
     for same in (
         {"extension": 0xFFFF}, {"byte5": 0x01}, {"byte5": 0xFF}, {"number": 5, "last": 5}, {"flags": 0xC0}, {"flags": 0xF0},
         {"identifier": 0xFFFF_FFFF}, {"unread": 0}, {"unread10": bytes([9] * 10)},
@@ -738,6 +751,8 @@ def main():
         assert t.met[name] > 3, name
         if "--count" in sys.argv:
             print("%-12s %4d" % (name, t.met[name]), file=sys.stderr)
+    places = ["2 at the lent length", "3 at zero", "4 at one", "4 at six", "5 at the first CRC byte", "6 at five", "none"]
+    assert set(t.places) == set(places) and min(t.places.values()) > 3, t.places
     settle("test_carousel", bytes(t.given), "".join(l + "\n" for l in t.lines).encode())
     print("test_carousel: %d commands, %d bytes: stdin and stdout are the second program's" % (len(t.lines), len(t.given)))
 

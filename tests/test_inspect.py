@@ -1,12 +1,13 @@
 #!/usr/bin/env python3
 """What crates/inspect must print, by a second program.
 
-Written from the paper (01), 02, §6, and the lines below, not from the Rattle code. The carousel's rules are tests/receiver.py, those of a
+Written from the paper (01), 02, §6 and §9, and the lines below, not from the Rattle code. The carousel's rules are tests/receiver.py, those of a
 table tests/test_ait.py, the run tests/program.py; what is new here reads an accepted table with the place of each part.
 
-A line each, comma-separated, all numbers decimal. For each section taken (kind: new, same, stored, repeated, table, none):
+A line each, comma-separated, all numbers decimal. For each section taken (kind: new, same, stored, repeated, table, none), and where it
+broke, a byte counted from its own first as 0 (02, §9; empty for all answers but 2 to 6, of which 2 never comes):
 
-    section,INDEX,OFFSET,LENGTH,TABLE,ANSWER,KIND
+    section,INDEX,OFFSET,LENGTH,TABLE,ANSWER,KIND,PLACE
 
 Below an accepted table; then its common descriptors, and each application with its own:
 
@@ -223,8 +224,8 @@ def lines(stretch):
     at = index = 0
     while not (stop := program.stop_at(stretch, at, BUDGET - index)):
         s = stretch[at : at + program.whole(stretch, at)]
-        number, kind, record = program.taken(record, image, s)
-        yield "section", index, at, len(s), s[0], number, kind
+        number, kind, place, record = program.taken(record, image, s)
+        yield "section", index, at, len(s), s[0], number, kind, program.column(place)
         if kind == "table":
             yield from table_lines(s)
         at += len(s)
@@ -284,10 +285,16 @@ def sample_carousel():
         yield block(TIDES, 0)
 
 
+def sample_places():
+    """Each place of a refusal, of a table and of the carousel."""
+    for table in (0x74, 0x3B, 0x3C, 0x75):
+        yield from (s for s, _ in program.broken(table) if len(s) < 100)
+
+
 def sample():
     carousel = list(sample_carousel())
     threes = [program.sized(t, 0) for t in (0x00, 0x3B, 0x3C, 0x74)]
-    stretch = [*carousel[:4], *sample_tables(), *REFUSED_TABLES, *large_tables(), *carousel[4:], *threes * 20]
+    stretch = [*carousel[:4], *sample_tables(), *REFUSED_TABLES, *large_tables(), *carousel[4:], *sample_places(), *threes * 20]
     return b"".join(stretch) + b"\xff" * 7
 
 
@@ -300,6 +307,18 @@ def check_sample(stdout):
     assert not set((words + " " + kinds + " " + classes).split()) - met
     handouts = [l.split(",")[6] for l in stdout.decode().splitlines() if l.startswith("module")]
     assert handouts == ["0", "20", "20"] and len(stdout) > 65_536, handouts
+    check_places([l.split(",") for l in stdout.decode().splitlines() if l.startswith("section")])
+
+
+def check_places(sections):
+    """Each that can be, by either rule; 3 is not of a table. The CRC's place is told by the section's length, and nothing else has one."""
+    clauses = {True: set(), False: set()}
+    for _, _, _, length, table, answer, _, place in sections:
+        assert (place != "") == (answer in ("3", "4", "5", "6")) and answer != "2", (answer, place)
+        clauses[table == "116"].add((answer, "CRC" if answer == "5" and int(place) == int(length) - 4 else place))
+    wanted = {("4", "1"), ("4", "6"), ("5", "CRC"), ("6", "5")}
+    assert {c for c in clauses[True] if c[1]} == wanted, clauses
+    assert {c for c in clauses[False] if c[1]} == wanted | {("3", "0")}, clauses
 
 
 # ---- other inputs

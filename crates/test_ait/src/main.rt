@@ -50,8 +50,7 @@ fn print_section(s: &[u8]) {
     io::write_all(1, b"section");
     match ait_read::read(s) {
         ReadAnswer::Refused(r) => {
-            print_number(r.number as u64);
-            io::write_all(1, b"\n");
+            print_refusal(r);
         }
         ReadAnswer::Accepted(t) => {
             print_number(0);

@@ -1,6 +1,7 @@
 // Words of a line.
 use ait_descriptors::Span;
 use section::Refusal;
+use section::Spot;
 
 pub fn print_number(n: u64) {
     io::write_all(1, b" ");
@@ -9,7 +10,17 @@ pub fn print_number(n: u64) {
 
 pub fn print_end(r: Refusal) {
     io::write_all(1, b"end");
+    print_refusal(r);
+}
+
+// The line's end: the number and, where it has one, its place: 5@12.
+pub fn print_refusal(r: Refusal) {
     print_number(r.number as u64);
+    let place = r.place;
+    if let Spot::Byte(p) = place {
+        io::write_all(1, b"@");
+        io::print_decimal(1, p as u64);
+    }
     io::write_all(1, b"\n");
 }
 

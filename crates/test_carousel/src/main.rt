@@ -18,6 +18,8 @@ use carousel_record::Carousel;
 use carousel_record::MARK_WORDS;
 use carousel_record::Module;
 use carousel_step::Answer;
+use section::Refusal;
+use section::Spot;
 
 // Room for the largest image, and some bytes more.
 const MEMORY: usize = MOST_BYTES + 64;
@@ -232,9 +234,19 @@ fn print_answer(a: Answer) {
             io::write_all(1, b" 0 repeated");
         }
         Answer::Refused(r) => {
-            print_number(r.number as u64);
+            print_refusal(r);
             io::write_all(1, b" none");
         }
+    }
+}
+
+// A refusal's number and, where it has one, its place: 5@12.
+fn print_refusal(r: Refusal) {
+    print_number(r.number as u64);
+    let place = r.place;
+    if let Spot::Byte(p) = place {
+        io::write_all(1, b"@");
+        io::print_decimal(1, p as u64);
     }
 }
 

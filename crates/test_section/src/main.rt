@@ -1,10 +1,12 @@
 // Reads stretches from standard input, each after its length (16 bits), and writes a line for each:
 // the register after its bytes, the numbers that `check` answers by the application's and by the
-// carousel's rules, and the header's fields where one of them accepts it. tests/test_section.py, an
+// carousel's rules, with their places, and the header's fields where one of them accepts it. tests/test_section.py, an
 // independent second program, makes the input and says what must come out.
 use section::Checked;
 use section::Header;
+use section::Refusal;
 use section::Rules;
+use section::Spot;
 
 fn main() {
     let mut buffer = io::large_buffer();
@@ -41,11 +43,21 @@ fn print_number(c: Checked) {
     io::write_all(1, b" ");
     match c {
         Checked::Refused(r) => {
-            io::print_decimal(1, r.number as u64);
+            print_refusal(r);
         }
         Checked::Accepted(_) => {
             io::print_decimal(1, 0);
         }
+    }
+}
+
+// The number and, where it has one, its place: 5@12.
+fn print_refusal(r: Refusal) {
+    io::print_decimal(1, r.number as u64);
+    let place = r.place;
+    if let Spot::Byte(p) = place {
+        io::write_all(1, b"@");
+        io::print_decimal(1, p as u64);
     }
 }
 
