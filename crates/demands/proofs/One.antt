@@ -29,7 +29,7 @@ use Rattle.carousel_step.specs.Step.{numberOfAnswer, steppedOf, imageOf}
 use Rattle.carousel_step.proofs.Told as carousel
 use Rattle.receiver.specs.declared.Fate.the-variants as fate
 use Rattle.receiver.specs.declared.Stop.the-variants as stop
-use Rattle.receiver.specs.Run.{numberOfFate, givenOf, imageGiven, runOf, halted}
+use Rattle.receiver.specs.Run.{numberOfFate, rulesOf, givenOf, imageGiven, runOf, halted}
 use Rattle.receiver.proofs.Laws.Refusals as laws
 
 -- "Every one returns no value besides its number" (01) and, for 2 to 6, its place (02, §9): a refusal is its number. `Told` says that of a refusal, and the next theorems of every call;
@@ -57,7 +57,7 @@ module _ (c : Carousel) (s image : List ℕ) where
   pub step-told : (r : Refusal) → steppedOf c s image .answer ≡ answer.Refused r → Told Carousels s r
   step-told r e = carousel.step-told s r c image e
 
-  pub take-told : (r : Refusal) → givenOf c s image .fate ≡ fate.Refused r → Told (laws.rulesOf s) s r
+  pub take-told : (r : Refusal) → givenOf c s image .fate ≡ fate.Refused r → Told (rulesOf s) s r
   take-told r e = laws.take-told c s image r e
 
   -- A REFUSAL CHANGES NEITHER RECORD NOR IMAGE, of any record and image: the step's, and the receiver's

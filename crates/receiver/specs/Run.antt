@@ -6,6 +6,9 @@ use lib.Dec.{eqb, ltb}
 use lib.ListN.{length, take, drop}
 use Rattle.wire.specs.Fields.{byteAt}
 use Rattle.wire.specs.Tests.{firstMet}
+use Rattle.section.specs.declared.Rules.{Rules}
+use Rattle.section.specs.declared.Rules.the-variants.{Application}
+use Rattle.section.specs.declared.Rules.the-variants.{Carousel as Carousels}
 use Rattle.section.specs.declared.Spot.{Spot}
 use Rattle.section.specs.declared.Spot.the-variants.{Nowhere}
 use Rattle.section.specs.Header.{lengthOf, applicationTable}
@@ -44,6 +47,9 @@ unfoldable pub wholeAt : List ℕ → ℕ
 wholeAt s = cond (isShort s || eqb (byteAt s 0) 0xFF) 0 (saidLength s)
 
 -- "0x74 by the application rules (kind "table" when accepted), every other by the carousel's"
+abbrev pub rulesOf : List ℕ → Rules
+rulesOf s = cond (eqb (byteAt s 0) applicationTable) Application Carousels
+
 unfoldable pub readFate : ReadAnswer → Fate
 readFate (reading.Refused r) = fate.Refused r
 readFate (reading.Accepted t) = fate.Table

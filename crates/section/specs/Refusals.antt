@@ -20,7 +20,7 @@ meets2 s = ltb (length s) 3 || not (eqb (length s) (3 + lengthOf s))
 unfoldable pub meets3 : Rules → List ℕ → Bool
 meets3 rules s = not (isTable rules (tableOf s))
 
--- 4: "L under 9, or over 1,021 (AIT) or 4,093; syntax indicator 0; section number above last"
+-- 4: "L under 9, or over 1,021 (AIT) or 4,093; syntax indicator 0; section number above last". All but the last:
 abbrev pub misframed : Rules → List ℕ → Bool
 misframed rules s = ltb (lengthOf s) 9 || ltb (limitOf rules) (lengthOf s) || eqb (syntaxOf s) 0
 

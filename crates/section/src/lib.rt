@@ -5,8 +5,8 @@
 mod register;
 
 ghost use mathlib.Core.Path.{_≡_};
-ghost use Rattle.section.specs.Header.{isTable, limitOf, headerOf};
 ghost use mathlib.Core.Bool.{not, cond};
+ghost use Rattle.section.specs.Header.{isTable, limitOf, headerOf};
 ghost use Rattle.section.specs.Refusals.{refusalOf, misframed, spotOf};
 ghost use Rattle.section.specs.Answer.{numberOfChecked, checkedOf};
 pub use register::crc;

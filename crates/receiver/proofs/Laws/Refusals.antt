@@ -39,7 +39,7 @@ use Rattle.receiver.specs.declared.Fate.the-variants as fate
 use Rattle.receiver.specs.declared.Given.{Given}
 use Rattle.receiver.specs.declared.Stop.the-variants as stop
 use Rattle.receiver.specs.Run.{readFate, tableFate, carouselFate, givenOf, imageGiven, runOf, halted}
-use Rattle.receiver.specs.Run.{numberOfFate}
+use Rattle.receiver.specs.Run.{numberOfFate, rulesOf}
 use Rattle.receiver.proofs.Laws.Runs.{run-state}
 use Rattle.receiver.proofs.Laws.Takes.{given-number}
 use Rattle.receiver.proofs.Laws.Fates.{fate-table, fate-other, fate-tells}
@@ -103,10 +103,6 @@ read-refused : (a : ReadAnswer) (r : Refusal) → readFate a ≡ fate.Refused r 
 unfolding readFate
 read-refused (reading.Refused n) r e = let q : n ≡ r = cc in ap reading.Refused q
 read-refused (reading.Accepted t) r e = let w : _≡_ {A = ℕ} 0 1 = cc in absurd (omega arith)
-
--- by which rules a section is judged that is taken
-abbrev pub rulesOf : List ℕ → Rules
-rulesOf s = cond (eqb (byteAt s 0) applicationTable) Application Carousels
 
 -- AND A REFUSAL IS ITS NUMBER, NOT 0, AND ITS PLACE: of whatever section is taken as of a table and of the step
 pub take-told : (c : Carousel) (s image : List ℕ) (r : Refusal) → givenOf c s image .fate ≡ fate.Refused r → Told (rulesOf s) s r

@@ -28,6 +28,17 @@ abbrev pub byteIn : Spot → ℕ
 byteIn (Byte p) = p
 byteIn Nowhere = 0
 
+-- by cases of a number: 2 to 6, and any other
+by-number : (P : ℕ → Type 0) → ((n : ℕ) → n < 2 → P n) → P 2 → P 3 → P 4 → P 5 → P 6 → ((n : ℕ) → 6 < n → P n) → (n : ℕ) → P n
+by-number P low p2 p3 p4 p5 p6 high zero = low 0 (omega arith)
+by-number P low p2 p3 p4 p5 p6 high (suc zero) = low 1 (omega arith)
+by-number P low p2 p3 p4 p5 p6 high (suc (suc zero)) = p2
+by-number P low p2 p3 p4 p5 p6 high (suc (suc (suc zero))) = p3
+by-number P low p2 p3 p4 p5 p6 high (suc (suc (suc (suc zero)))) = p4
+by-number P low p2 p3 p4 p5 p6 high (suc (suc (suc (suc (suc zero))))) = p5
+by-number P low p2 p3 p4 p5 p6 high (suc (suc (suc (suc (suc (suc zero)))))) = p6
+by-number P low p2 p3 p4 p5 p6 high (suc (suc (suc (suc (suc (suc (suc n))))))) = high (suc (suc (suc (suc (suc (suc (suc n))))))) (omega arith)
+
 module _ (rules : Rules) (s : List ℕ) where
   -- each number's place, and that the others have none
   pub spot2 : (n : ℕ) → n ≡ 2 → spotOf rules s n ≡ Byte (length s)
@@ -61,19 +72,25 @@ module _ (rules : Rules) (s : List ℕ) where
   spot-below n h = spot-none n (λ e. omega arith) (λ e. omega arith) (λ e. omega arith) (λ e. omega arith) (λ e. omega arith)
 
   -- each of 2 to 6 has one, and it is not far past the end
-  pub spot-there : (n : ℕ) → 1 < n → n < 7 → (spotOf rules s n ≡ Byte (byteIn (spotOf rules s n))) × (byteIn (spotOf rules s n) ≤ length s + 6)
-  spot-there zero h k = absurd (omega arith)
-  spot-there (suc zero) h k = absurd (omega arith)
-  spot-there (suc (suc zero)) h k = rw (spot2 2 refl) (refl, omega arith)
-  spot-there (suc (suc (suc zero))) h k = rw (spot3 3 refl) (refl, omega arith)
-  spot-there (suc (suc (suc (suc zero)))) h k = rw (spot4 4 refl) (refl, go (misframed rules s))
+  abbrev There : ℕ → Type 0
+  There n = (spotOf rules s n ≡ Byte (byteIn (spotOf rules s n))) × (byteIn (spotOf rules s n) ≤ length s + 6)
+
+  there-as : (n p : ℕ) → spotOf rules s n ≡ Byte p → p ≤ length s + 6 → There n
+  there-as n p e h = rw e (refl, h)
+
+  pub spot-there : (n : ℕ) → 1 < n → n < 7 → There n
+  spot-there = by-number (λ n. 1 < n → n < 7 → There n)
+      (λ n l h k. absurd (omega arith))
+      (λ h k. there-as 2 (length s) (spot2 2 refl) (omega arith))
+      (λ h k. there-as 3 0 (spot3 3 refl) (omega arith))
+      (λ h k. there-as 4 (cond (misframed rules s) 1 6) (spot4 4 refl) (four (misframed rules s)))
+      (λ h k. there-as 5 (length s - 4) (spot5 5 refl) (omega arith))
+      (λ h k. there-as 6 5 (spot6 6 refl) (omega arith))
+      (λ n l h k. absurd (omega arith))
     where
-      go : (b : Bool) → cond b 1 6 ≤ length s + 6
-      go true = omega arith
-      go false = omega arith
-  spot-there (suc (suc (suc (suc (suc zero))))) h k = rw (spot5 5 refl) (refl, omega arith)
-  spot-there (suc (suc (suc (suc (suc (suc zero)))))) h k = rw (spot6 6 refl) (refl, omega arith)
-  spot-there (suc (suc (suc (suc (suc (suc (suc n))))))) h k = absurd (omega arith)
+      four : (b : Bool) → cond b 1 6 ≤ length s + 6
+      four true = omega arith
+      four false = omega arith
 
   -- THE PLACE OF A NUMBER IS WHAT THE REQUEST'S SENTENCE SAYS, AND NO OTHER PLACE IS
   placed : (n : ℕ) → Placed rules s n (spotOf rules s n)
@@ -112,14 +129,14 @@ module _ (rules : Rules) (s : List ℕ) where
           w .four-numbers refl (f .0) (f .1) (omega (arith, n))
 
   placed-only : (n : ℕ) (p : Spot) → Placed rules s n p → p ≡ spotOf rules s n
-  placed-only zero p w = w .below (omega arith) ∙ sym (spot-below 0 (omega arith))
-  placed-only (suc zero) p w = w .below (omega arith) ∙ sym (spot-below 1 (omega arith))
-  placed-only (suc (suc zero)) p w = w .two refl ∙ sym (spot2 2 refl)
-  placed-only (suc (suc (suc zero))) p w = w .three refl ∙ sym (spot3 3 refl)
-  placed-only (suc (suc (suc (suc zero)))) p w = four-only p w ∙ sym (spot4 4 refl)
-  placed-only (suc (suc (suc (suc (suc zero))))) p w = w .five refl ∙ sym (spot5 5 refl)
-  placed-only (suc (suc (suc (suc (suc (suc zero)))))) p w = w .six refl ∙ sym (spot6 6 refl)
-  placed-only (suc (suc (suc (suc (suc (suc (suc n))))))) p w = w .above (omega arith) ∙ sym (spot-above _ (omega arith))
+  placed-only = by-number (λ n. (p : Spot) → Placed rules s n p → p ≡ spotOf rules s n)
+      (λ n l p w. w .below l ∙ sym (spot-below n l))
+      (λ p w. w .two refl ∙ sym (spot2 2 refl))
+      (λ p w. w .three refl ∙ sym (spot3 3 refl))
+      (λ p w. four-only p w ∙ sym (spot4 4 refl))
+      (λ p w. w .five refl ∙ sym (spot5 5 refl))
+      (λ p w. w .six refl ∙ sym (spot6 6 refl))
+      (λ n l p w. w .above l ∙ sym (spot-above n l))
 
   pub placed-exactly : (n : ℕ) (p : Spot) → (p ≡ spotOf rules s n) ↔ Placed rules s n p
   placed-exactly n p = (λ e. rw e (placed n), placed-only n p)
@@ -146,15 +163,18 @@ module _ (rules : Rules) (s : List ℕ) where
       go true e w = omega (arith, w .0)
       go false e w = omega (arith, w .1, framed-has rules s e .0)
 
+  within-as : (n p : ℕ) → spotOf rules s n ≡ Byte p → p < length s → byteIn (spotOf rules s n) < length s
+  within-as n p e h = rw e h
+
   byte-within : (n : ℕ) → refusalOf rules s ≡ n → 2 < n → byteIn (spotOf rules s n) < length s
-  byte-within zero e h = absurd (omega arith)
-  byte-within (suc zero) e h = absurd (omega arith)
-  byte-within (suc (suc zero)) e h = absurd (omega arith)
-  byte-within (suc (suc (suc zero))) e h = rw (spot3 3 refl) (let w = whole3 (omega arith) in omega (arith, w .0))
-  byte-within (suc (suc (suc (suc zero)))) e h = rw (spot4 4 refl) (four-within (omega arith))
-  byte-within (suc (suc (suc (suc (suc zero))))) e h = rw (spot5 5 refl) (let w = whole5 (omega arith) in omega arith)
-  byte-within (suc (suc (suc (suc (suc (suc zero)))))) e h = rw (spot6 6 refl) (let w = whole5 (omega arith) in omega arith)
-  byte-within (suc (suc (suc (suc (suc (suc (suc n))))))) e h = rw (spot-above (suc (suc (suc (suc (suc (suc (suc n))))))) (omega arith)) (let w = whole3 (omega arith) in omega (arith, w .0))
+  byte-within = by-number (λ n. refusalOf rules s ≡ n → 2 < n → byteIn (spotOf rules s n) < length s)
+      (λ n l e h. absurd (omega arith))
+      (λ e h. absurd (omega arith))
+      (λ e h. within-as 3 0 (spot3 3 refl) (let w = whole3 (omega arith) in omega (arith, w .0)))
+      (λ e h. within-as 4 (cond (misframed rules s) 1 6) (spot4 4 refl) (four-within (omega arith)))
+      (λ e h. within-as 5 (length s - 4) (spot5 5 refl) (let w = whole5 (omega arith) in omega arith))
+      (λ e h. within-as 6 5 (spot6 6 refl) (let w = whole5 (omega arith) in omega arith))
+      (λ n l e h. rw (spot-above n l) (let w = whole3 (omega arith) in omega (arith, w .0)))
 
   -- IT LIES WITHIN THE SECTION FOR 3 TO 6
   pub spot-within : (p : ℕ) → 2 < refusalOf rules s → spotOf rules s (refusalOf rules s) ≡ Byte p → p < length s
