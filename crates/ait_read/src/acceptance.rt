@@ -20,10 +20,8 @@ pub fn judge(s: &[u8]) -> Checked
             let e = s.len() - 4;
             let number = ait_body::body_refusal(&s[8..e]);
             if number != 0 {
-                return Checked::Refused(Refusal {
-                    number,
-                    place: Spot::Nowhere,
-                });
+                let place = Spot::Nowhere;
+                return Checked::Refused(Refusal { number, place });
             }
             Checked::Accepted(h)
         }

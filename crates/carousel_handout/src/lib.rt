@@ -93,18 +93,13 @@ pub fn handout<'a>(c: Carousel, image: &'a [u8], number: u16) -> &'a [u8]
 pub fn missing(c: Carousel, number: u16) -> Report
     ensures { λ r. ⌜ (r ≡ reportOf c number) × (numberOfReport r ≡ missingNumber c number) ⌝ }
 {
+    let place = Spot::Nowhere;
     if !is_ruled(c) {
-        return Report::Refused(Refusal {
-            number: 1,
-            place: Spot::Nowhere,
-        });
+        return Report::Refused(Refusal { number: 1, place });
     }
     let i = place_of(c, number);
     if c.count as usize <= i {
-        return Report::Refused(Refusal {
-            number: 13,
-            place: Spot::Nowhere,
-        });
+        return Report::Refused(Refusal { number: 13, place });
     }
     let lack = lack_of(c, i);
     if lack.count == 0 {

@@ -28,10 +28,8 @@ pub fn judge_message(b: &[u8], h: Header) -> Judged
     let table = table_of(h.table);
     let number = message_refusal(b, table, h);
     if number != 0 {
-        return Judged::Refused(Refusal {
-            number,
-            place: Spot::Nowhere,
-        });
+        let place = Spot::Nowhere;
+        return Judged::Refused(Refusal { number, place });
     }
     match table {
         CarouselTable::Announcements => Judged::Announced(announcement_of(b)),

@@ -37,11 +37,9 @@ pub fn take_block(c: Carousel, b: Block, bytes: &[u8], image: &mut [u8]) -> Step
 pub fn refuse(c: Carousel, number: u8) -> Stepped
     ensures { λ r. ⌜ r ≡ returning c (refusing (refused number)) ⌝ }
 {
+    let place = Spot::Nowhere;
     Stepped {
-        answer: Answer::Refused(Refusal {
-            number,
-            place: Spot::Nowhere,
-        }),
+        answer: Answer::Refused(Refusal { number, place }),
         state: c,
     }
 }

@@ -1,4 +1,5 @@
 -- `ait_numbers::spot_number` meets its contract.
+use mathlib.Core.Path.{refl}
 use borrow.Author.Needs.{needs}
 use Rattle.ait_numbers.specs.Shapes.{spotNumber}
 use Rattle.ait_numbers.proofs.spot_number.Statement.{statement}
@@ -14,11 +15,11 @@ enum-known-place c = search needs
 
 returns : tie.Need-returns
 unfolding spotNumber
-returns c = rw (c .enum-told .given .1)
+returns c = rw (c .enum-told .given .1) refl
 
 returns-2 : tie.Need-returns-2
 unfolding spotNumber
-returns-2 c = rw (c .before .place .given .1)
+returns-2 c = rw (c .before .place .given .1) refl
 
 pub spot-number-spec : {M : Type 1} → statement M
 spot-number-spec = tie.close (tie.spec enum-told enum-known-place returns returns-2)
