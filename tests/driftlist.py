@@ -1,8 +1,8 @@
 #!/usr/bin/env python3
 """What crates/driftlist must print, by a second program.
 
-Written from the words on the drift list (§1, and points 1.1 to 1.5), the paper (01) and the lines below, not from the Rattle code. The
-carousel's rules are tests/receiver.py, the run tests/program.py; what is new here reads a handed-out module as a drift list.
+Written from the words on the drift list (§1, and points 1.1 to 1.5), the paper (01), 02, §8, and the lines below, not from the Rattle code.
+The carousel's rules are tests/receiver.py, the run tests/program.py; what is new here reads a handed-out module as a drift list.
 
 Standard input is read as the paper's program reads it. The one argument is a module's number, of 16 bits and in decimal. After the run
 that module is asked for, and one of these is printed:
@@ -35,7 +35,7 @@ from typing import NamedTuple
 import program
 import receiver
 from program import BUDGET, READ, sized
-from receiver import IMAGE, Record, ddb, dii
+from receiver import BLOCKS, IMAGE, LARGEST, MODULES, TOGETHER, Record, ddb, dii
 from second import ROOT, settle
 from test_ait import ait
 
@@ -364,7 +364,7 @@ def empty_lines(buoys):
 
 def full(rows):
     """A list in the largest blocks: the fewest section heads."""
-    return sent(Module(listing(rows)), size=receiver.LARGEST)
+    return sent(Module(listing(rows)), size=LARGEST)
 
 
 LONGEST_ROWS = [(1_043_160 + k, LAST, -107_999_999, -54_000_000, 10_079) for k in range(5416)]
@@ -387,8 +387,8 @@ def counts():
     yield Input("5,416 records, one not rising", "At place 2,000, and nothing is printed of those before it.", full(level), "list,33\n")
     spare = most[:-1] + [(5416, NONE, 0, 0, 0, 1)]
     yield Input("5,416 records, the last with spare bits", "All are looked at before any is printed.", full(spare), "list,34\n")
-    bytewise = sent(Module(listing(most[:21])), size=1)
-    yield Input("blocks of one byte", "256 of them make 21 records.", bytewise, told(42, *empty_lines(range(1, 22))))
+    bytewise = sent(Module(listing(most[:85])), size=1)
+    yield Input("blocks of one byte", "1,024 of them make 85 records.", bytewise, told(42, *empty_lines(range(1, 86))))
 
 
 # ---- inputs: lists that are refused
@@ -498,7 +498,7 @@ def wrong_lengths():
     yield Input("no list at all", "A complete module of other bytes.", sent(TIDES), "list,30\n", (b"44",))
 
 
-# ---- inputs: the hand-out. Never 1, since the run keeps the record's rule, nor 15, since the image is as large as the sizes can be
+# ---- inputs: the hand-out. Never 1, since the run keeps the record's rule
 
 
 def without(module, gone, size=SIZE):
@@ -519,21 +519,47 @@ def handouts():
     yield Input("nothing announced, module 0", "The empty record has no module 0.", b"", "handout,13\n", (b"0",))
     for other in (b"299", b"301", b"44", b"5", b"1", b"0", b"65535"):
         yield Input("module %s is not announced" % other.decode(), "300 is, and is complete.", sent(LIST), "handout,13\n", (other,))
-    largest = dii(DOWNLOAD, 4066, [(300, 65_536, 5)])
+    largest = dii(DOWNLOAD, LARGEST, [(300, IMAGE, 5)])
     yield Input("the largest module", "5,461 records would fill it; its 17 blocks are missing.", largest, "handout,20,17,0\n")
     yield Input("the largest module, its last block", "Of 480 bytes.", largest + ddb(DOWNLOAD, 300, 5, 16, bytes(480)), "handout,20,16,0\n")
 
 
+def beyond():
+    """15 (02, §8): more is announced than the image holds."""
+    of = lambda *sizes: dii(DOWNLOAD, LARGEST, [(300 + k, z, 5) for k, z in enumerate(sizes)])
+    for size in (IMAGE + 1, TOGETHER):
+        yield Input("size %d" % size, "It is announced, and the image is too short.", of(size), "handout,15\n")
+    last = ddb(DOWNLOAD, 300, 5, 16, bytes(481))
+    yield Input("size 65537, its last block", "It is not stored, and that the others are missing is not told.", of(IMAGE + 1) + last, "handout,15\n")
+    yield Input("size 262145", "10: nothing is announced.", of(TOGETHER + 1), "handout,13\n")
+    yield Input("a module beyond the image, another asked for", "13 comes before 15.", of(TOGETHER), "handout,13\n", (b"301",))
+    chart = Module(bytes(IMAGE + 1 - len(LIST.data)), 44, 9)
+    whole = announcement(LIST, chart, size=150) + b"".join(blocks(LIST, 150))
+    yield Input("a chart beside the list, a byte too large", "The list would fit; it is not stored.", whole, "handout,15\n")
+    fits = Module(chart.data[1:], 44, 9)
+    whole = announcement(LIST, fits, size=150) + b"".join(blocks(LIST, 150))
+    yield Input("a chart beside the list, to the image's end", "The list is complete.", whole, SAMPLE_PRINTED)
+    whole = announcement(fits, LIST, size=150) + b"".join(blocks(LIST, 150))
+    yield Input("a chart before the list", "The list is the image's last bytes.", whole, SAMPLE_PRINTED)
+    yield Input("a larger one after the list", "The list is no longer announced as it was.", sent(LIST) + of(TOGETHER), "handout,15\n")
+    yield Input("the list after a larger one", "It is stored and printed.", of(TOGETHER) + sent(LIST), SAMPLE_PRINTED)
+    yield Input("one too large after the list", "10: it changes nothing.", sent(LIST) + of(TOGETHER + 1), SAMPLE_PRINTED)
+
+
 def many_blocks():
-    """256 blocks of one byte, of a module at the first place and at the last: the missing ones at the ends of the marks' words."""
-    module = Module(listing(empty_rows(range(1, 22))))
-    others = [Module(bytes(16), 400 + k) for k in range(15)]
-    gone = ([31], [32], [255], [0, 255], [63, 64, 65], range(32, 256), range(1, 256), range(128, 160), [*range(33, 64), 200])
+    """1,024 blocks of one byte, of a module at the first place and at the last: the missing ones at the ends of the marks' words."""
+    module = Module(listing(empty_rows(range(1, 86))))
+    assert len(module.data) == BLOCKS
+    others = [Module(bytes(16), 400 + k) for k in range(MODULES - 1)]
+    few = lambda *heard: [b for b in range(BLOCKS) if b not in heard]
+    gone = ([255], [1023], [256, 512, 768], few(), few(0), few(0, 1, 256), few(1023), few(31, 32, 255, 511, 991), range(32, 1024), range(256, 1024), [*range(33, 992), 1000])
     for k, missing in enumerate(gone):
         wanted = "handout,20,%d,%d\n" % (len(missing), missing[0])
-        for place, modules in (("first", [module]), ("last of 16", [*others, module])):
+        for place, modules in (("first", [module]), ("last of 32", [*others, module])):
             stdin = announcement(*modules, size=1) + without(module, missing, 1)
-            yield Input("256 blocks, gap %d, %s" % (k, place), "%d missing, from %d on." % (len(missing), missing[0]), stdin, wanted)
+            yield Input("1,024 blocks, gap %d, %s" % (k, place), "%d missing, from %d on." % (len(missing), missing[0]), stdin, wanted)
+    whole = announcement(*others, module, size=1) + without(module, (), 1)
+    yield Input("1,024 blocks, last of 32", "None is missing.", whole, told(42, *empty_lines(range(1, 86))))
 
 
 def beside():
@@ -550,9 +576,11 @@ def beside():
     bad = Module(with_changes({1: FAULTS[34]}), 301)
     yield Input("a good list beside a bad one", "The bad one is not asked for.", sent(bad, LIST), SAMPLE_PRINTED)
     yield Input("a bad list beside a good one", "The good one is not asked for.", sent(bad, LIST), "list,34\n", (b"301",))
-    sixteen = [Module(bytes([k]) * 50, k) for k in range(15)] + [LIST]
-    yield Input("the last of sixteen modules", "It begins far in the image.", sent(*sixteen), SAMPLE_PRINTED)
-    yield Input("sixteen modules, one asked for", "A module of 50 bytes is no list.", sent(*sixteen), "list,30\n", (b"14",))
+    others = [Module(bytes([k]) * 50, k) for k in range(MODULES - 1)]
+    yield Input("the last of 32 modules", "It begins far in the image.", sent(*others, LIST), SAMPLE_PRINTED)
+    yield Input("32 modules, one asked for", "A module of 50 bytes is no list.", sent(*others, LIST), "list,30\n", (b"30",))
+    yield Input("33 modules", "10: nothing is announced.", sent(*others, TIDES, LIST), "handout,13\n")
+    yield Input("33 modules after the list", "10: they change nothing.", sent(LIST) + announcement(*others, TIDES, LIST), SAMPLE_PRINTED)
 
 
 def orders():
@@ -794,7 +822,7 @@ def of_the_paper():
 
 
 LISTS = (by_hand, corners, kinds, counts, refusals, together, wrong_lengths)
-CAROUSELS = (handouts, many_blocks, beside, orders, weeks, announcements, cuts)
+CAROUSELS = (handouts, beyond, many_blocks, beside, orders, weeks, announcements, cuts)
 TOPICS = (*LISTS, *CAROUSELS, arguments, every_bit, random_lists, random_weeks, of_the_paper)
 
 
@@ -843,7 +871,7 @@ def check_words(cases):
         assert not i.name.startswith("a good list") or text.startswith("issue,"), i.name
         first = text.splitlines()[0].split(",")
         met.add(first[0] if first[0] in ("issue", USAGE.strip()) else ",".join(first[:2]))
-    assert met == {"handout,13", "handout,20", *("list,%d" % n for n in range(30, 36)), "issue", USAGE.strip()}, met
+    assert met == {"handout,13", "handout,15", "handout,20", *("list,%d" % n for n in range(30, 36)), "issue", USAGE.strip()}, met
 
 
 def checked_cases():

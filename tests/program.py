@@ -1,8 +1,8 @@
 #!/usr/bin/env python3
 """The paper's program in plain Python, and its tests.
 
-Written from the paper (01, "The run" and the numbered refusals; points R1 to R7) and 02, §6 and §9, not from the Rattle code: the carousel's
-rules are tests/receiver.py, the application rules tests/test_ait.py. Each input below says what it shows and, where the paper's
+Written from the paper (01, "The run" and the numbered refusals; points R1 to R7) and 02, §6, §8 and §9, not from the Rattle code: the
+carousel's rules are tests/receiver.py, the application rules tests/test_ait.py. Each input below says what it shows and, where the paper's
 words tell it, what must come out.
 
     program.py                 check the inputs, and compare crates/receive/stdin and stdout with the paper's printed example
@@ -27,7 +27,7 @@ from typing import NamedTuple
 import test_ait
 import receiver
 from test_ait import ait, app, d00, desc
-from receiver import IMAGE, Record, byte5, ddb, dii
+from receiver import BLOCKS, IMAGE, LARGEST, MODULES, TOGETHER, Record, byte5, ddb, dii
 from second import ROOT, with_crc, with_place
 
 READ, BUDGET = 65_536, 65_536
@@ -171,14 +171,14 @@ def endings():
 
 def full(first=4096):
     """An announcement of so many bytes and 15 blocks of 4,096: with 4,096 it is 65,536 bytes in all."""
-    modules = [(1, 15 * 4066, 0)]
-    pad = first - len(dii(5, 4066, modules))
-    blocks = [ddb(5, 1, 0, b, bytes([b]) * 4066) for b in range(15)]
-    return dii(5, 4066, modules, private=bytes(pad)) + b"".join(blocks)
+    modules = [(1, 15 * LARGEST, 0)]
+    pad = first - len(dii(5, LARGEST, modules))
+    blocks = [ddb(5, 1, 0, b, bytes([b]) * LARGEST) for b in range(15)]
+    return dii(5, LARGEST, modules, private=bytes(pad)) + b"".join(blocks)
 
 
 def cuts():
-    again = ddb(5, 1, 0, 0, bytes(4066))
+    again = ddb(5, 1, 0, 0, bytes(LARGEST))
     every, but_last = "new " + "stored " * 15, "3@0 new " + "stored " * 14
     other = sized(0x00, 0)
     assert [len(full()), len(other)] == [READ, 3]
@@ -268,8 +268,47 @@ def soundings():
     yield Input("size 800 in blocks of 400", "No last block of 0 bytes.", sizes(400, 800) + data(2, 0) + data(2, 400), "new 16 16 end")
     blocks = data(16, 479) + data(16, 481) + data(16, 480) + data(17, 480)
     yield Input("size 65,536 in blocks of 4,066", "The last of 17 has 480 bytes.", sizes(4066, 65_536) + blocks, "new 16 16 stored 16 end")
-    yield Input("blocks of 1", "256 are taken, 257 not.", sizes(1, 256) + sizes(1, 257), "new 10 end")
-    yield Input("the sizes together", "65,536 fill the image, one more is refused.", sizes(400, 65_535, 1) + sizes(400, 65_536, 1), "new 10 end")
+    yield Input("blocks of 1", "1,024 are taken, 1,025 not.", sizes(1, 1024) + sizes(1, 1025), "new 10 end")
+    ends = data(1023, 1, number=255) + data(1024, 1, number=0)
+    yield Input("block 1,023 of 1,024", "Its section number is 255. Of block 1,024 it is 0: 16.", sizes(1, 1024) + ends, "new stored 16 end")
+    yield Input("the sizes together", "262,144 are taken, one more is refused.", sizes(400, 262_143, 1) + sizes(400, 262_144, 1), "new 10 end")
+    yield Input("size 65,537", "It is announced, and its block is 15: the image has 65,536.", sizes(400, 65_537) + data(0, 400), "new 15 end")
+
+
+def bigger():
+    """02, §8: more than the image holds, 32 modules, 1,024 blocks."""
+    sizes = lambda block_size, *sizes: dii(6, block_size, [(k, z, 0) for k, z in enumerate(sizes)])
+    data = lambda module, b, n, **given: ddb(**{"download": 6, "module": module, "version": 0, "block": b, "data": bytes([module + 1]) * n, **given})
+    one = data(0, 0, 400)
+    yield Input(
+        "more than the image",
+        "Up to 262,144 it is announced, and 15 comes of its blocks; a byte more is refused, and changes nothing.",
+        sizes(400, IMAGE + 1) + one + sizes(400, TOGETHER) + one + sizes(400, TOGETHER + 1) + one + sizes(400, TOGETHER) + sizes(400, IMAGE) + one,
+        "new 15 new 15 10 15 same new stored end",
+    )
+    two = data(0, 163, 336) + data(1, 0, 1)
+    yield Input("two that are more than the image", "15 also of the first, which would fit.", sizes(400, IMAGE, 1) + two, "new 15 15 end")
+    yield Input("two that fill the image", "Its last two bytes.", sizes(400, IMAGE - 1, 1) + data(0, 163, 335) + data(1, 0, 1), "new stored stored end")
+    faults = [spoiled(one), data(0, 0, 400, number=1), data(0, 0, 400, download=7), data(9, 0, 400), data(0, 0, 400, version=1)]
+    faults += [data(0, 0, 399), data(0, 656, 0), data(0, 700, 400)]
+    wanted = "new 5@%d 9 12 13 14 15 15 15 end" % (len(one) - 4)
+    yield Input("faults beside 15", "5, 9 and 12 to 14 come before it, and it before 16.", sizes(400, TOGETHER) + b"".join(faults), wanted)
+    small = announcement() + block(TIDES, 0)
+    yield Input("15 between small ones", "The announcement heard last decides.", small + sizes(400, TOGETHER) + one + small, "new stored new 15 new stored end")
+    most = [IMAGE // MODULES] * MODULES
+    last = data(MODULES - 1, 5, 48)  # of 2,048
+    stretch = sizes(400, *most) + last + last + data(MODULES, 0, 400) + sizes(400, *most, 1) + last
+    yield Input("32 modules, and 33", "The last one's last block; 33 are refused, and the block is still there.", stretch, "new stored repeated 13 10 repeated end")
+    yield Input("32 modules, two with one number", "The first's and the last's.", dii(6, 400, [(k % (MODULES - 1), 9, 0) for k in range(MODULES)]), "11 end")
+    assert IMAGE == 64 * BLOCKS
+    told = [(0, 0), (255, 255), (256, 0), (511, 255), (512, 0), (767, 255), (768, 0), (1023, 255)]
+    blocks = b"".join(data(0, b, 64, number=n) for b, n in told)
+    wrong = data(0, 300, 64, number=45) + data(0, 256, 64, number=1) + data(0, BLOCKS - 1, 63) + data(0, BLOCKS, 64) + data(0, 1280, 0) + data(0, 65_535, 64)
+    wanted = "new " + "stored " * 8 + "repeated " * 8 + "9 9 16 16 16 16 end"
+    yield Input("blocks above 255", "Four of a section number; 9 for another, 16 past the last.", sizes(64, IMAGE) + blocks * 2 + wrong, wanted)
+    other = b"".join(data(0, b, 64, data=bytes(64)) for b, _ in told)
+    wanted = "new " + "stored " * 4 + "17 " * 4 + "stored " * 4 + "end"
+    yield Input("other bytes above 255", "17 of each that has come, and of no other.", sizes(64, IMAGE) + blocks[: len(blocks) // 2] + other, wanted)
 
 
 def stale():
@@ -289,7 +328,7 @@ def stale():
 
 
 # Not among them: 1, since the run begins with the empty record and every step keeps the rule; 2, since only whole sections are
-# taken (R2); 15, since limit 10 holds the sizes to 65,536 together, as many as the image has; 19 and 20, which no section gets.
+# taken (R2); 15, since these are announced within the image (but see `numbers`); 19 and 20, which no section gets.
 FAULTS = {
     3: announcement(table=0x3D),
     4: announcement(number=2, last=1),  # at 6; more of 4 with their places are below
@@ -307,15 +346,18 @@ FAULTS = {
     17: block(TIDES, 0, data=bytes(10)),
     18: ait(apps=app(b"")),
 }
-REACHED = {0, *FAULTS}
+REACHED = {0, 15, *FAULTS}
 PLACES = {3: 0, 4: 6, 5: len(FAULTS[5]) - 4, 6: 5}  # of these; the others have none
 
 
 def numbers():
     good = announcement() + block(TIDES, 0)
     stretch = good + b"".join(s + block(TIDES, 0) for s in FAULTS.values())
-    wanted = "new stored " + "".join("%s repeated " % with_place(n, PLACES.get(n)) for n in FAULTS) + "end"
-    yield Input("every number", "Each that a run can show, and after each block 0 is still there.", stretch, wanted)
+    wanted = "new stored " + "".join("%s repeated " % with_place(n, PLACES.get(n)) for n in FAULTS)
+    larger = (7, IMAGE + 1, 3)
+    fifteen = announcement([larger], block_size=400) + block(TIDES, 0) * 2
+    shows = "Each that a run can show, and after each block 0 is still there; last 15, after an announcement beyond the image."
+    yield Input("every number", shows, stretch + fifteen, wanted + "new 15 15 end")
 
 
 def thirteen(table, number=0, last=0, flags=0xB0, byte5=0xC1):
@@ -396,12 +438,16 @@ def many():
     yield THREES
     yield LONGEST
     yield Input("65,536 zeros", "The same of table 0, and a byte is left.", bytes(65_536), "3@0 " * 21_845 + "short")
-    modules = [(k, 4096, k) for k in range(16)]
+    size = TOGETHER // MODULES
+    modules = [(k, size, k) for k in range(MODULES)]
     threes = (sized(0x3C, 0) + sized(0x74, 0)) * 10_500
-    yield Input("three bytes each, a full record", "It has 16 modules all the while.", dii(1, 16, modules) + threes, "new " + "4@1 " * 21_000 + "end")
-    modules = [(k, 256, 0) for k in range(8)]
-    blocks = [ddb(1, k, 0, 97 * b % 256, bytes([b])) for b in range(256) for k in range(8)]
-    yield Input("2,048 blocks of one byte", "Eight modules, every block once.", dii(1, 1, modules) + b"".join(blocks), "new " + "stored " * 2048 + "end")
+    stretch = dii(1, size // BLOCKS, modules) + threes
+    yield Input("three bytes each, a full record", "It has 32 modules of 1,024 blocks all the while.", stretch, "new " + "4@1 " * 21_000 + "end")
+    ends = (0, MODULES - 1)
+    modules = [(k, BLOCKS if k in ends else 1, 0) for k in range(MODULES)]
+    blocks = [ddb(1, k, 0, 97 * b % BLOCKS, bytes([b % 256])) for b in range(BLOCKS) for k in ends]
+    shows = "The first and the last of 32 modules, every block once."
+    yield Input("2,048 blocks of one byte", shows, dii(1, 1, modules) + b"".join(blocks), "new " + "stored " * 2048 + "end")
     every = b"".join(sized(table, 0) for table in range(256))
     wanted = ["4@1" if table in (0x3B, 0x3C, 0x74) else "3@0" for table in range(255)]
     yield Input("every table number", "All but 0xFF are taken.", every, " ".join(wanted) + " stuffing")
@@ -456,7 +502,7 @@ def at_random():
         yield Input("sections at random, %d" % seed, "A byte or two damaged, the CRC mended; more than 1,000 sections are taken.", stretch)
 
 
-TOPICS = (beginnings, endings, cuts, tables, block_by_block, announcements, soundings, stale, numbers, places, lengths, many, at_random)
+TOPICS = (beginnings, endings, cuts, tables, block_by_block, announcements, soundings, bigger, stale, numbers, places, lengths, many, at_random)
 
 
 # ---- what is known of the inputs without the built program

@@ -1,10 +1,15 @@
-"""A carousel receiver in plain Python, and makers of its sections. Written from the paper (01) and 02, §6 and §9, not from the Rattle code.
+"""A carousel receiver in plain Python, and makers of its sections. Written from the paper (01) and 02, §6, §8 and §9, not from the Rattle
+code.
 
-The marks are one number of 4,096 bits, not words; a section's numbers are gathered and the lowest taken, not tested in turn.
+The marks are one number of 32,768 bits, not words; a section's numbers are gathered and the lowest taken, not tested in turn.
 """
+from itertools import accumulate
+
 from second import CAROUSEL, Malformed, Reader, place_of, refusal, with_crc
 
-MODULES, BLOCKS, LARGEST, IMAGE = 16, 256, 4066, 65_536
+MODULES, BLOCKS, LARGEST, TOGETHER = 32, 1024, 4066, 262_144  # 02, §8; TOGETHER is the most that all sizes may be
+WORDS = BLOCKS // 32  # of marks, for each module
+IMAGE = 65_536  # the programs'; a call takes any
 
 
 # ---- the record
@@ -46,7 +51,7 @@ def over_limits(block_size, sizes):
     """Refusal 10."""
     if not 1 <= block_size <= LARGEST or not 1 <= len(sizes) <= MODULES:
         return True
-    return any(not 1 <= z <= BLOCKS * block_size for z in sizes) or sum(sizes) > IMAGE
+    return any(not 1 <= z <= BLOCKS * block_size for z in sizes) or sum(sizes) > TOGETHER
 
 
 def twice(numbers):
@@ -59,9 +64,10 @@ def ruled(r):
         return False
     if r.count == 0:
         return r.download == r.block_size == r.marks == 0
-    if over_limits(r.block_size, [m.size for m in r.used()]) or twice([m.number for m in r.used()]):
+    sizes = [m.size for m in r.used()]
+    if over_limits(r.block_size, sizes) or twice([m.number for m in r.used()]):
         return False
-    if any(m.start != sum(before.size for before in r.modules[:i]) for i, m in enumerate(r.used())):
+    if any(m.start != at for m, at in zip(r.used(), accumulate(sizes, initial=0))):
         return False
     possible = sum((1 << r.blocks(i)) - 1 << BLOCKS * i for i in range(r.count))
     return r.marks | possible == possible

@@ -1,7 +1,7 @@
 #!/usr/bin/env python3
 """What crates/test_carousel must print, by a second program.
 
-Written from the paper (01, "The messages" to "False bearings"; 02, §6 and §9), not from the Rattle code: the receiver is tests/receiver.py,
+Written from the paper (01, "The messages" to "False bearings"; 02, §6, §8 and §9), not from the Rattle code: the receiver is tests/receiver.py,
 and here are the sequences that both are led through. Where a sequence knows its answer from the paper's words, it says so (`wanted`), and
 where a section broke (`place`). A step's refusal is printed with its place, where it has one: `5@12`.
 
@@ -9,17 +9,17 @@ where a section broke (`place`). A step's refusal is printed with its place, whe
     test_carousel.py --write  write both
     test_carousel.py --count  and say on standard error how often each number and kind was met
 """
-import copy
 import random
 import sys
 from collections import Counter
 
 import receiver
-from receiver import byte5, ddb, dii, message, section
+from receiver import BLOCKS, IMAGE, LARGEST, MODULES, TOGETHER, WORDS, byte5, ddb, dii, message, section
 from second import settle, with_crc, with_place
 
 FIELDS = ["download", "block_size", "count", "number", "size", "version", "start", "marks"]
-MEMORY = 65_600
+MEMORY = TOGETHER + 64
+ALL = 0xFFFF_FFFF  # a word of marks
 BITS = dict(zip(FIELDS, (32, 16, 16, 16, 32, 8, 32, 32)))
 
 
@@ -38,9 +38,13 @@ def halves(n):
     return [n >> 16, n & 0xFFFF]
 
 
+def fields(r):
+    return [r.download, r.block_size, r.count] + [f for m in r.modules for f in m.fields()] + [r.marks]
+
+
 def record_digest(r):
-    words = [r.download, r.block_size, r.count] + [f for m in r.modules for f in m.fields()]
-    words += [r.marks >> 32 * i & 0xFFFF_FFFF for i in range(128)]
+    *words, marks = fields(r)
+    words += [marks >> 32 * i & ALL for i in range(MODULES * WORDS)]
     return digest(h for w in words for h in halves(w))
 
 
@@ -48,7 +52,7 @@ class Script:
     """The commands so far, and what the program must print."""
 
     def __init__(self):
-        self.given, self.lines, self.met, self.places = bytearray(), [], Counter(), Counter()
+        self.given, self.lines, self.met, self.places, self.large = bytearray(), [], Counter(), Counter(), 0
         self.record, self.image, self.beyond = receiver.Record(), bytearray(), bytearray(MEMORY)
 
     def command(self, letter, *parts):
@@ -72,17 +76,17 @@ class Script:
         self.image, self.beyond = memory[:n], memory[n:]
 
     def poke(self, field, value, place=0):
-        self.command(b"p", (FIELDS.index(field), 1), (place, 1), (value, 4))
+        self.command(b"p", (FIELDS.index(field), 1), (place, 2), (value, 4))
         value %= 1 << BITS[field]
         if field == "marks":
-            self.record.marks = self.record.marks & ~(0xFFFF_FFFF << 32 * place) | value << 32 * place
+            self.record.marks = self.record.marks & ~(ALL << 32 * place) | value << 32 * place
         else:
             setattr(self.record if hasattr(self.record, field) else self.record.modules[place], field, value)
         self.lines.append("poke")
 
     def peek(self, field, place=0):
         if field == "marks":
-            return self.record.marks >> 32 * place & 0xFFFF_FFFF
+            return self.record.marks >> 32 * place & ALL
         return getattr(self.record if hasattr(self.record, field) else self.record.modules[place], field)
 
     def paint(self, place, value):
@@ -93,12 +97,13 @@ class Script:
     def step(self, s, wanted=None, place=None):
         self.command(b"t", (len(s), 2))
         self.given += s
-        before, bytes_before = copy.deepcopy(self.record), bytes(self.image)
+        before, bytes_before = fields(self.record), bytes(self.image)
         n, kind, at, self.record = receiver.step(self.record, self.image, s)
         assert wanted in (None, n, kind) and place in (None, at), (wanted, place, n, kind, at, s.hex())
         self.place_met(s, n, at)
         if kind in ("none", "same", "repeated"):
-            assert record_digest(before) == record_digest(self.record) and bytes_before == self.image
+            assert before == fields(self.record) and bytes_before == self.image
+        self.large += len(self.image) > 70_000
         self.met["step %d" % n if n else kind] += 1
         self.lines.append("step %s %s %08x %08x" % (with_place(n, at), kind, record_digest(self.record), digest(self.image)))
         return n, kind
@@ -186,10 +191,13 @@ def soundings(t):
     t.step(dii(5, 400, [(1, 800, 0)]), "new")
     for data in (b"", b"x", filled(400)):
         t.step(ddb(5, 1, 0, 2, data), 16)
-    for size, number in ((256, "new"), (257, 10)):
-        t.step(dii(5, 1, [(1, size, 0)]), number)
-    for size, number in ((65_535, "new"), (65_536, 10)):
+    for size, number in ((262_143, "new"), (262_144, 10)):
         t.step(dii(5, 400, [(1, size, 0), (2, 1, 0)]), number)
+    t.length(1024)
+    for size, number in ((1024, "new"), (1025, 10)):
+        t.step(dii(5, 1, [(1, size, 0)]), number)
+    t.step(ddb(5, 1, 0, 1023, b"x", number=255), "stored")
+    t.step(ddb(5, 1, 0, 1024, b"x", number=0), 16)
     # the four sections of the paper's run
     t.start(1)
     t.step(dii(5, 2, [(1, 1, 0)]), "new")
@@ -197,8 +205,8 @@ def soundings(t):
         t.step(ddb(5, 1, version, 0, b"x"), wanted)
     # the largest block, and the last of 17
     t.start(65_536)
-    t.step(dii(5, 4066, [(1, 65_536, 0)]), "new")
-    largest = ddb(5, 1, 0, 0, filled(4066))
+    t.step(dii(5, LARGEST, [(1, 65_536, 0)]), "new")
+    largest = ddb(5, 1, 0, 0, filled(LARGEST))
     assert len(largest) == 3 + 4093
     t.step(largest, "stored")
     for data, wanted in ((filled(479), 16), (filled(481), 16), (filled(480), "stored")):
@@ -214,21 +222,51 @@ def soundings(t):
     t.handout(1, 0)
     t.length(65_535)
     t.handout(1, 15)
+    # 65,537 bytes: 65 x 1,008, and 17. Announced; in the programs' image its blocks are 15, in one of a byte more they are stored
+    t.length(IMAGE)
+    t.step(dii(5, 65, [(1, 65_537, 0)]), "new")
+    last = ddb(5, 1, 0, 1008, filled(17), number=240)
+    for length, wanted, handed in ((IMAGE, 15, 15), (IMAGE + 1, "stored", 20), (IMAGE, 15, 15)):
+        t.length(length)
+        t.step(last, wanted)
+        t.handout(1, handed)
+
+
+def most(t):
+    """An image of 262,144 bytes, as many as the sizes may be together."""
+    t.start(0)
+    t.step(dii(5, 400, [(1, TOGETHER - 1, 0), (2, 1, 0)]), "new")
+    for length, data, wanted in ((-1, b"z", 15), (0, b"z", "stored"), (0, b"y", 17), (1, b"z", "repeated")):
+        t.length(TOGETHER + length)
+        t.step(ddb(5, 2, 0, 0, data), wanted)
+        t.handout(2, 15 if wanted == 15 else 0)
+    t.missing(1, list(range(656)))
+    t.length(0)
+    t.step(dii(5, 256, [(1, TOGETHER, 0)]), "new")
+    t.length(TOGETHER)
+    t.step(ddb(5, 1, 0, BLOCKS - 1, filled(256)), "stored")
+    t.step(ddb(5, 1, 0, BLOCKS, b""), 16)
+    for w in range(WORDS):
+        t.missing(1, list(range(32 * w, BLOCKS - 1)))
+        t.poke("marks", ALL, w)
+    t.handout(1, 0)
+    t.length(TOGETHER - 1)
+    t.handout(1, 15)
 
 
 def framing(t):
     """7 and 8: each length too long and too short by one, adaptation bytes, the exception."""
     begun(t, blocks=[(0, 0)])
-    for n in range(12):
+    for n in (0, 1, 2, 4, 11):
         t.step(section(0x3B, message(0x1002, b"")[:n]), 7)
         t.step(section(0x3C, bytes(n)), 7)
     t.step(section(0x3B, message(0x1002, b"")), 7)
     t.step(section(0x3C, bytes(12)), 8)
-    for wrong in ({"first": 0x10}, {"second": 0x02}, {"code": 0x1006}, {"code": 0x1003}, {"code": 0x0002}, {"code": 0x1102}):
-        for more in ({}, {"size": 999, "privates": 9}):
+    for k, wrong in enumerate(({"first": 0x10}, {"second": 0x02}, {"code": 0x1006}, {"code": 0x1003}, {"code": 0x0002}, {"code": 0x1102})):
+        for more in ({}, {"size": 999, "privates": 9}) if k < 2 else ({},):
             t.step(dii(ID, SIZE, LIST[:1], **wrong, **more), 8)
-    for wrong in ({"first": 0x91}, {"second": 0x13}, {"code": 0x1002}, {"code": 0x1001}):
-        for more in ({}, {"size": 0}, {"adapted": 255}):
+    for k, wrong in enumerate(({"first": 0x91}, {"second": 0x13}, {"code": 0x1002}, {"code": 0x1001})):
+        for more in ({}, {"size": 0}, {"adapted": 255}) if k < 2 else ({},):
             t.step(block(0, 1, **wrong, **more), 8)
     for adaptation in (b"", b"ab", bytes(range(255))):
         n = len(adaptation)
@@ -250,7 +288,7 @@ def framing(t):
         t.step(block(0, 0, adapted=adapted), wanted)
     for part in ("info", "compatibility", "private"):
         told = {"info": "infos", "compatibility": "compatible", "private": "privates"}[part]
-        for contents in (b"", b"i", b"info!"):
+        for contents in (b"", b"info!"):
             t.step(announcement(**{part: contents}), "same")
             for n in {max(0, len(contents) - 1), len(contents) + 1} - {len(contents)}:
                 t.step(announcement(**{part: contents, told: n}), 7)
@@ -343,28 +381,32 @@ def stale(t):
 def limits(t):
     """10 and 11."""
     t.start(0)
-    for size, wanted in ((0, 10), (1, "new"), (4066, "new"), (4067, 10), (65_535, 10)):
+    for size, wanted in ((0, 10), (1, "new"), (LARGEST, "new"), (LARGEST + 1, 10), (65_535, 10)):
         t.step(dii(1, size, [(3, 1, 1)]), wanted)
-    for count, wanted in ((0, 10), (1, "new"), (15, "new"), (16, "new"), (17, 10), (18, 10)):
+    for count, wanted in ((0, 10), (1, "new"), (MODULES, "new"), (MODULES + 1, 10)):
         modules = [(k, 100 + k, k) for k in range(count)]
         t.step(dii(1, 50, modules), wanted)
-        t.ask(0, 15, 16)
-    t.step(dii(1, 50, [(k % 9, 1, 0) for k in range(17)]), 10)
+        t.ask(0, MODULES - 1, MODULES)
     t.step(dii(1, 0, [(5, 1, 0), (5, 1, 0)]), 10)
+    # with 256 the most blocks are the most bytes
     for size in (1, 50, 256):
-        for z, wanted in ((0, 10), (256 * size, "new"), (256 * size + 1, 10), (0xFFFF_FFFF, 10)):
+        for z, wanted in ((0, 10), (BLOCKS * size, "new"), (BLOCKS * size + 1, 10), (0xFFFF_FFFF, 10)):
             t.step(dii(size, size, [(5, z, 0)]), wanted)
-    t.step(dii(1, 4066, [(5, 256 * 4066, 0)]), 10)
-    t.step(dii(1, 4066, [(5, 65_536, 0)]), "new")
-    t.step(dii(1, 4066, [(5, 65_537, 0)]), 10)
+    t.step(dii(1, 1, [(k, BLOCKS + k // (MODULES - 1), 0) for k in range(MODULES)]), 10)  # the last of them alone is over
+    t.step(dii(1, LARGEST, [(5, BLOCKS * LARGEST, 0)]), 10)
+    t.step(dii(1, LARGEST, [(5, TOGETHER, 0)]), "new")
+    t.step(dii(1, LARGEST, [(5, TOGETHER + 1, 0)]), 10)
+    half, share = TOGETHER // 2, TOGETHER // MODULES
     for sizes, wanted in (
-        ([65_535, 1], "new"), ([65_535, 2], 10), ([65_536, 1], 10), ([4096] * 16, "new"), ([4096] * 15 + [4097], 10), ([0xFFFF_FFFF, 1], 10),
-        ([1, 0], 10), ([0, 1], 10), ([32_768, 32_768], "new"), ([32_768, 32_769], 10),
+        ([TOGETHER - 1, 1], "new"), ([1, TOGETHER - 1], "new"), ([TOGETHER - 1, 2], 10), ([2, TOGETHER - 1], 10), ([TOGETHER, 1], 10), ([1, TOGETHER], 10),
+        ([half, half], "new"), ([half, half + 1], 10), ([share] * MODULES, "new"), ([share] * (MODULES - 1) + [share + 1], 10),
+        ([0xFFFF_FFFF, 1], 10), ([1, 0], 10), ([0, 1], 10),
     ):
         t.step(dii(1, 400, [(k, z, 9) for k, z in enumerate(sizes)]), wanted)
+    but_one = list(range(MODULES - 1))
     for numbers, wanted in (
-        ([1, 1], 11), ([1, 2, 1], 11), ([1, 2, 2], 11), ([0, 0xFFFF], "new"), ([0, 0], 11), (list(range(15)) + [0], 11),
-        (list(range(15)) + [14], 11), (list(range(16)), "new"), ([1, 257], "new"),
+        ([1, 1], 11), ([1, 2, 1], 11), ([1, 2, 2], 11), ([0, 0xFFFF], "new"), ([0, 0], 11), ([1, 257], "new"),
+        (but_one + [0], 11), (but_one + [MODULES - 2], 11),
     ):
         t.step(dii(1, 8, [(n, 3 + k, k) for k, n in enumerate(numbers)]), wanted)
 
@@ -428,13 +470,14 @@ def blocks(t):
         t.step(block(0, 1, b"q" * size), 16)
     for size in (0, 4, 6, 10):
         t.step(block(0, 2, b"q" * size), 16)
-    for b in (3, 255, 256, 65_535):
+    for b in (3, 256, BLOCKS - 1, BLOCKS, 65_535):
         for data in (b"", b"q" * 10):
             t.step(block(0, b, data), 16)
     for place, b in ((1, 1), (2, 2)):
         for data in (b"", b"q" * 10):
             t.step(block(place, b, data), 16)
-    t.step(block(0, 256, PATTERN[:10]), 16)
+    for b in (256, BLOCKS):
+        t.step(block(0, b, PATTERN[:10]), 16)
     # 17, and it does not overwrite
     for k in (0, 5, 9):
         t.step(block(0, 0, PATTERN[:k] + b"\0" + PATTERN[k + 1 : 10]), 17)
@@ -463,56 +506,72 @@ def blocks(t):
 
 
 def many_blocks(t):
-    """256 blocks of a byte, the last of them, and 16 modules with marks in every word."""
-    t.start(300)
-    t.step(dii(1, 1, [(1, 256, 0), (2, 40, 0), (3, 1, 0)]), "new")
-    for b in (0, 31, 32, 33, 63, 127, 128, 254, 255):
-        t.step(ddb(1, 1, 0, b, bytes([b])), "stored")
-        t.missing(1)
-    t.step(ddb(1, 1, 0, 256, b"a", number=0), 16)
-    t.step(ddb(1, 1, 0, 255, b"a"), 17)
+    """1,024 blocks of a byte, the last of them, and 32 modules with marks in their first and last words."""
+    t.start(BLOCKS + 41, 0xEE)
+    t.step(dii(1, 1, [(1, BLOCKS, 0), (2, 40, 0), (3, 1, 0)]), "new")
+    # four blocks share a section number: the number in the message tells them apart
+    heard = []
+    for b, number in ((0, 0), (255, 255), (256, 0), (511, 255), (512, 0), (767, 255), (768, 0), (1023, 255), (31, 31), (32, 32), (992, 224)):
+        t.step(ddb(1, 1, 0, b, bytes([b // 4]), number=number), "stored")
+        heard.append(b)
+        t.missing(1, [n for n in range(BLOCKS) if n not in heard])
+    t.step(ddb(1, 1, 0, 512, bytes([128]), number=0), "repeated")
+    t.step(ddb(1, 1, 0, 768, bytes([0]), number=0), 17)
+    for b, number in ((256, 1), (1023, 254), (1024, 1)):
+        t.step(ddb(1, 1, 0, b, b"a", number=number), 9)
+    for b in (1024, 1280):
+        t.step(ddb(1, 1, 0, b, b"a", number=0), 16)
     for b in (39, 0, 31, 32, 40):
         t.step(ddb(1, 2, 0, b, b"b"), 16 if b == 40 else "stored")
         t.ask(2)
-    for w in range(8):
-        t.poke("marks", 0xFFFF_FFFF, w)
-        t.ask(1)
-    t.poke("marks", 0xFFFF_FFFF, 8)
+    for w in range(WORDS):
+        t.poke("marks", ALL, w)
+        if w in (0, 7, 8, WORDS - 2, WORDS - 1):
+            t.ask(1)
+    t.poke("marks", ALL, WORDS)
     t.missing(2, list(range(33, 39)))
-    t.poke("marks", 0xFF, 9)
+    t.poke("marks", 0xFF, WORDS + 1)
     t.ask(2, 3)
-    t.poke("marks", 0x7FFF_FFFF, 7)
-    t.missing(1, [255])
+    t.poke("marks", 0x7FFF_FFFF, WORDS - 1)
+    t.missing(1, [1023])
     t.handout(1, 20)
     t.poke("marks", 0xFFFF_FFFE, 0)
-    t.missing(1, [0, 255])
+    t.missing(1, [0, 1023])
     # a last block at each end of a word: every mark up to it, and then the one past it
-    counts = [31, 32, 33, 255, 256]
-    t.start(sum(counts))
+    counts = [31, 32, 33, BLOCKS - 1, BLOCKS]
+    t.start(0)
     t.step(dii(1, 1, [(i, n, 0) for i, n in enumerate(counts)]), "new")
+    t.length(sum(counts))
     for i, n in enumerate(counts):
         for w in range(-(-n // 32)):
-            t.poke("marks", (1 << min(32, n - 32 * w)) - 1, 8 * i + w)
+            t.poke("marks", (1 << min(32, n - 32 * w)) - 1, WORDS * i + w)
         t.handout(i, 0)
-        past = 256 * i + n
+        past = BLOCKS * i + n
         before = t.peek("marks", past // 32)
         t.poke("marks", before | 1 << past % 32, past // 32)
         t.missing(i, 1)
         t.poke("marks", before, past // 32)
         t.missing(i, [])
-    t.start(16 * 130)
-    t.step(dii(2, 1, [(100 + i, 130, i) for i in range(16)]), "new")
-    for i in range(16):
-        t.step(ddb(2, 100 + i, i, 129 - i, bytes([i])), "stored")
-        t.missing(100 + i)
-    for i in (0, 7, 15):
-        for w in range(4):
-            t.poke("marks", 0xFFFF_FFFF, 8 * i + w)
-        t.missing(100 + i, [128, 129] if i else [128])
-        t.poke("marks", 3, 8 * i + 4)
-        t.handout(100 + i, 0)
-    t.step(ddb(2, 115, 15, 129, b"\0"), "repeated")
-    t.step(ddb(2, 115, 15, 129, b"\1"), 17)
+    # every module of 1,024: block i of it, and the last but i; then the last module's last block
+    t.start(0)
+    t.step(dii(2, 1, [(100 + i, BLOCKS, i) for i in range(MODULES)]), "new")
+    for i in range(MODULES):
+        t.poke("marks", 1 << i, WORDS * i)
+        t.poke("marks", 1 << 31 - i, WORDS * i + WORDS - 1)
+    for i in range(MODULES):
+        t.missing(100 + i, [b for b in range(BLOCKS) if b not in (i, BLOCKS - 1 - i)])
+    number, version = 99 + MODULES, MODULES - 1
+    for w in range(WORDS):
+        t.poke("marks", ALL if w < WORDS - 1 else 0x7FFF_FFFF, WORDS * (MODULES - 1) + w)
+    t.missing(number, [1023])
+    t.handout(number, 15)
+    t.length(MODULES * BLOCKS)
+    t.handout(number, 20)
+    t.step(ddb(2, number, version, 1023, b"l", number=255), "stored")
+    assert t.peek("marks", MODULES * WORDS - 1) == ALL
+    t.missing(number, [])
+    t.handout(number, 0)
+    t.step(ddb(2, number, version, 1023, b"m", number=255), 17)
 
 
 def lengths(t):
@@ -576,29 +635,30 @@ def pairs(t):
 def broken(t):
     """Records that break their rule: every call answers 1, and nothing changes. Mended, all is as before."""
     begun(t, TOTAL + 5, EVERY)
-    # module 7 has 3 blocks in words 0 to 7, 0x1234 one in 8 to 15, 9 two in 16 to 23
+    # module 7 has 3 blocks in words 0 to 31, 0x1234 one in 32 to 63, 9 two in 64 to 95
+    last, words = MODULES - 1, MODULES * WORDS
     ways = [
-        ("count", 17, 0), ("count", 65_535, 0), ("count", 2, 0), ("count", 4, 0), ("count", 0, 0), ("count", 16, 0),
-        ("block_size", 0, 0), ("block_size", 4067, 0), ("block_size", 65_535, 0), ("block_size", 13, 0), ("block_size", 25, 0),
-        ("size", 0, 1), ("size", 2561, 2), ("size", 0xFFFF_FFFF, 0), ("size", 0xFFFF_FFFF, 2), ("size", 26, 0), ("size", 9, 1), ("size", 10, 2), ("size", 1, 2),
+        ("count", MODULES + 1, 0), ("count", 65_535, 0), ("count", 2, 0), ("count", 4, 0), ("count", 0, 0), ("count", MODULES, 0),
+        ("block_size", 0, 0), ("block_size", LARGEST + 1, 0), ("block_size", 65_535, 0), ("block_size", 13, 0), ("block_size", 25, 0),
+        ("size", 0, 1), ("size", BLOCKS * SIZE + 1, 2), ("size", 0xFFFF_FFFF, 0), ("size", 0xFFFF_FFFF, 2), ("size", 26, 0), ("size", 9, 1), ("size", 10, 2), ("size", 1, 2),
         ("number", 7, 1), ("number", 0x1234, 2), ("number", 9, 0),
         ("start", 1, 0), ("start", 24, 1), ("start", 26, 1), ("start", 34, 2), ("start", 36, 2), ("start", 0, 2), ("start", 0xFFFF_FFFF, 0),
-        ("number", 1, 3), ("size", 1, 3), ("version", 1, 3), ("start", 55, 3), ("number", 1, 15), ("size", 0x100_0000, 15), ("version", 128, 15), ("start", 1, 15),
-        ("marks", 15, 0), ("marks", 0x8000_0007, 0), ("marks", 1, 1), ("marks", 0x8000_0000, 7), ("marks", 3, 8), ("marks", 1, 9), ("marks", 7, 16), ("marks", 1, 17), ("marks", 1, 23),
-        ("marks", 1, 24), ("marks", 0x8000_0000, 24), ("marks", 1, 120), ("marks", 0x8000_0000, 127), ("marks", 0x10, 64),
+        ("number", 1, 3), ("size", 1, 3), ("version", 1, 3), ("start", 55, 3), ("number", 1, last), ("size", 0x100_0000, last), ("version", 128, last), ("start", 1, last),
+        ("marks", 15, 0), ("marks", 0x8000_0007, 0), ("marks", 1, 1), ("marks", 1, 8), ("marks", 0x10, 16), ("marks", 0x8000_0000, WORDS - 1),
+        ("marks", 3, WORDS), ("marks", 1, WORDS + 1), ("marks", 0x8000_0000, 2 * WORDS - 1), ("marks", 7, 2 * WORDS), ("marks", 1, 2 * WORDS + 8),
+        ("marks", 1, 3 * WORDS - 1), ("marks", 1, 3 * WORDS), ("marks", 1, 127), ("marks", 1, 128), ("marks", 1, words - WORDS), ("marks", 0x8000_0000, words - 1),
     ]
     for k, (field, value, place) in enumerate(ways):
         before = t.peek(field, place)
         t.poke(field, value, place)
         assert not receiver.ruled(t.record), (field, value, place)
-        t.step(announcement() if k % 4 == 0 else dii(1, 1, [(1, 1, 1)]), 1)
-        t.step(block(0, 2), 1)
+        t.step((announcement(), block(0, 2), dii(1, 1, [(1, 1, 1)]), block(0, 2))[k % 4], 1)
         t.handout((7, 0x1234, 9)[k % 3], 1)
         t.missing((7, 0x1234, 9, 8)[k % 4], 1)
         t.poke(field, before, place)
         t.handout((7, 0x1234, 9)[k % 3], 0)
     # changed as well, but not broken
-    for field, value, place in (("download", 0, 0), ("size", 11, 2), ("block_size", 9, 0), ("version", 9, 0), ("number", 0, 1), ("marks", 0, 0), ("marks", 5, 0), ("marks", 2, 16)):
+    for field, value, place in (("download", 0, 0), ("size", 11, 2), ("block_size", 9, 0), ("version", 9, 0), ("number", 0, 1), ("marks", 0, 0), ("marks", 5, 0), ("marks", 2, 2 * WORDS)):
         before = t.peek(field, place)
         t.poke(field, value, place)
         assert receiver.ruled(t.record), (field, value, place)
@@ -619,19 +679,19 @@ def broken(t):
     # no announcement: then all is zero
     t.start(20, 1)
     for field, value, place in (
-        ("download", 1, 0), ("download", 0x8000_0000, 0), ("block_size", 1, 0), ("count", 1, 0), ("count", 17, 0), ("count", 0x8000, 0),
-        ("number", 1, 0), ("size", 1, 0), ("version", 1, 0), ("start", 1, 0), ("start", 1, 7), ("version", 255, 15), ("marks", 1, 0),
-        ("marks", 0x8000_0000, 0), ("marks", 0x8000_0000, 127), ("marks", 1, 127), ("marks", 2, 77),
+        ("download", 1, 0), ("download", 0x8000_0000, 0), ("block_size", 1, 0), ("count", 1, 0), ("count", MODULES + 1, 0), ("count", 0x8000, 0),
+        ("number", 1, 0), ("size", 1, 0), ("version", 1, 0), ("start", 1, 0), ("start", 1, 7), ("version", 255, last), ("marks", 1, 0),
+        ("marks", 0x8000_0000, 0), ("marks", 2, 77), ("marks", 0x8000_0000, 127), ("marks", 1, 128), ("marks", 1, words - 1), ("marks", 0x8000_0000, words - 1),
     ):
         t.poke(field, value, place)
-        t.step(dii(1, 1, [(1, 1, 1)]), 1)
-        t.step(ddb(0, 0, 0, 0, b"x"), 1)
-        t.ask(0)
+        t.step(dii(1, 1, [(1, 1, 1)]) if value % 2 else ddb(0, 0, 0, 0, b"x"), 1)
+        t.missing(0, 1)
+        t.handout(0, 1)
         t.poke(field, 0, place)
     t.ask(0)
     t.step(dii(1, 1, [(1, 1, 1)]), "new")
-    # the sum, with each size within its own limit; the marks of a module that fills its 256
-    for sizes, good in (([65_535, 1], True), ([65_535, 2], False), ([65_536], True), ([65_537], False), ([40_000, 40_000], False)):
+    # the sum, with each size within its own limit
+    for sizes, good in (([TOGETHER - 1, 1], True), ([TOGETHER - 1, 2], False), ([TOGETHER], True), ([TOGETHER + 1], False), ([160_000, 160_000], False)):
         t.start(10)
         t.poke("block_size", 400)
         t.poke("count", len(sizes))
@@ -642,34 +702,41 @@ def broken(t):
         assert receiver.ruled(t.record) == good
         t.step(ddb(0, 0, 0, 0, b""), 15 if good else 1)
         t.ask(0, 1)
-    t.start(512)
-    t.step(dii(1, 1, [(i, 16 * i + 16, i) for i in range(16)][:4] + [(77, 256, 1)]), "new")
-    t.poke("marks", 0xFFFF_FFFF, 39)
-    t.ask(77)
-    t.poke("marks", 1, 40)
-    t.ask(77)
     # the largest block, and one more
     t.start(9)
-    t.step(dii(1, 4066, [(5, 9, 1)]), "new")
-    for value in (0, 4067, 4066, 65_535, 9, 8):
+    t.step(dii(1, LARGEST, [(5, 9, 1)]), "new")
+    for value, wanted in ((0, 1), (LARGEST + 1, 1), (LARGEST, 20), (65_535, 1), (9, 20), (8, 20)):
         t.poke("block_size", value)
-        t.ask(5)
-    # 16 modules of which the last is at fault, or one more is told
-    t.start(512)
-    t.step(dii(1, 2, [(i, 3, i) for i in range(16)]), "new")
-    for field, value in (("size", 5), ("size", 0), ("number", 0), ("number", 14), ("start", 44), ("start", 46), ("size", 513), ("size", 65_491)):
-        before = t.peek(field, 15)
-        t.poke(field, value, 15)
-        t.step(ddb(1, 15, 15, 1, b"l"))
-        t.ask(15)
-        t.poke(field, before, 15)
-    t.poke("count", 17)
-    t.ask(15)
-    t.poke("count", 16)
-    t.poke("marks", 3, 120)
-    t.handout(15, 0)
-    t.poke("marks", 7, 120)
-    t.handout(15, 1)
+        t.missing(5)
+        t.handout(5, wanted)
+    # 32 modules of which the last is at fault, or one more is told
+    at = 3 * last
+    t.start(at + 5)
+    t.step(dii(1, 2, [(i, 3, i) for i in range(MODULES)]), "new")
+    for field, value, wanted in (
+        ("size", 5, 16), ("size", 0, 1), ("number", 0, 1), ("number", last - 1, 1), ("start", at - 1, 1), ("start", at + 1, 1),
+        ("size", 2 * BLOCKS, 15), ("size", 2 * BLOCKS + 1, 1), ("size", TOGETHER - at, 1),
+    ):
+        before = t.peek(field, last)
+        t.poke(field, value, last)
+        t.step(ddb(1, last, last, 1, b"l"), wanted)
+        t.ask(last)
+        t.poke(field, before, last)
+    t.poke("count", MODULES + 1)
+    t.missing(last, 1)
+    t.handout(last, 1)
+    t.poke("count", MODULES)
+    for i in (0, 15, 16, last):
+        t.step(ddb(1, i, i, 1, b"l"), "stored")
+        t.missing(i, [0])
+    t.poke("marks", 3, words - WORDS)
+    t.handout(last, 0)
+    for value, place in ((7, words - WORDS), (1, words - WORDS + 8), (1, words - 1), (0x8000_0000, words - 1)):
+        before = t.peek("marks", place)
+        t.poke("marks", value, place)
+        t.handout(last, 1)
+        t.poke("marks", before, place)
+    t.handout(last, 0)
 
 
 def walk(t, seed, steps):
@@ -727,17 +794,17 @@ def records(t, seed, times):
         last = t.record.blocks(i) - 1
         w = last // 32
         for k in range(w):
-            t.poke("marks", rnd.choice([0xFFFF_FFFF, 0xFFFF_FFFF, 0xFFFE_FFFF]), 8 * i + k)
-        t.poke("marks", (1 << last % 32 + 1) - 1 + rnd.choice([0, 0, -1, -(1 << last % 32), 1 << last % 32 + 1 if last % 32 < 31 else 0]), 8 * i + w)
+            t.poke("marks", rnd.choice([ALL, ALL, 0xFFFE_FFFF]), WORDS * i + k)
+        t.poke("marks", (1 << last % 32 + 1) - 1 + rnd.choice([0, 0, -1, -(1 << last % 32), 1 << last % 32 + 1 if last % 32 < 31 else 0]), WORDS * i + w)
         t.ask(*[n for n, _, _ in modules])
         field, place = rnd.choice(FIELDS), rnd.randrange(len(modules) + 1)
-        t.poke(field, t.peek(field, place) + rnd.choice([1, -1, 256]) & 0xFFFF_FFFF, place)
+        t.poke(field, t.peek(field, place) + rnd.choice([1, -1, 256]) & ALL, place)
         t.ask(modules[0][0], modules[-1][0])
 
 
 def main():
     t = Script()
-    for sequence in (soundings, framing, headers, stale, limits, announcements, blocks, many_blocks, lengths, pairs, broken):
+    for sequence in (soundings, most, framing, headers, stale, limits, announcements, blocks, many_blocks, lengths, pairs, broken):
         at = len(t.given)
         sequence(t)
         if "--count" in sys.argv:
@@ -753,6 +820,7 @@ def main():
             print("%-12s %4d" % (name, t.met[name]), file=sys.stderr)
     places = ["2 at the lent length", "3 at zero", "4 at one", "4 at six", "5 at the first CRC byte", "6 at five", "none"]
     assert set(t.places) == set(places) and min(t.places.values()) > 3, t.places
+    assert t.large < 20, t.large  # an image's digest at each step is slow
     settle("test_carousel", bytes(t.given), "".join(l + "\n" for l in t.lines).encode())
     print("test_carousel: %d commands, %d bytes: stdin and stdout are the second program's" % (len(t.lines), len(t.given)))
 

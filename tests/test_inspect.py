@@ -1,8 +1,8 @@
 #!/usr/bin/env python3
 """What crates/inspect must print, by a second program.
 
-Written from the paper (01), 02, §6 and §9, and the lines below, not from the Rattle code. The carousel's rules are tests/receiver.py, those of a
-table tests/test_ait.py, the run tests/program.py; what is new here reads an accepted table with the place of each part.
+Written from the paper (01), 02, §6, §8 and §9, and the lines below, not from the Rattle code. The carousel's rules are tests/receiver.py, those
+of a table tests/test_ait.py, the run tests/program.py; what is new here reads an accepted table with the place of each part.
 
 A line each, comma-separated, all numbers decimal. For each section taken (kind: new, same, stored, repeated, table, none), and where it
 broke, a byte counted from its own first as 0 (02, §9; empty for all answers but 2 to 6, of which 2 never comes):
@@ -38,7 +38,8 @@ After the last section the stop, and what is announced, if anything is:
 
     stop,NAME
     record,DOWNLOAD,BLOCKSIZE,MODULES
-    module,PLACE,NUMBER,SIZE,VERSION,START,HANDOUT,MISSING,LOWEST,CRC
+    module,PLACE,NUMBER,SIZE,VERSION,START,HANDOUT,MISSING,LOWEST,CRC   hand-out 0, 15 or 20; the blocks missing are told with 15, too;
+                                                                        lowest empty where none is, CRC where nothing is handed out
 
     test_inspect.py          compare crates/inspect/stdin and stdout with what this program makes
     test_inspect.py --write  write both
@@ -54,7 +55,7 @@ import program
 import receiver
 from test_ait import EVERY, ait, app, base, d00, d02, desc
 from program import BUDGET, DRIFT, FAULTS, READ, TIDES, Input, announcement, block
-from receiver import IMAGE, Record, ddb, dii
+from receiver import BLOCKS, IMAGE, LARGEST, TOGETHER, Record, ddb, dii
 from second import ROOT, Reader, crc, settle, with_crc
 
 # ---- an accepted table, each part with its place
@@ -273,6 +274,8 @@ MODULES = [TIDES, QUIET, DRIFT]
 
 def sample_carousel():
     yield block(TIDES, 0)
+    yield announcement([(7, IMAGE + 1, 3)], block_size=400)
+    yield block(TIDES, 0)
     yield announcement([DRIFT], download=4)
     yield block(DRIFT, 0, download=4)
     yield announcement(MODULES)
@@ -294,7 +297,7 @@ def sample_places():
 def sample():
     carousel = list(sample_carousel())
     threes = [program.sized(t, 0) for t in (0x00, 0x3B, 0x3C, 0x74)]
-    stretch = [*carousel[:4], *sample_tables(), *REFUSED_TABLES, *large_tables(), *carousel[4:], *sample_places(), *threes * 20]
+    stretch = [*carousel[:6], *sample_tables(), *REFUSED_TABLES, *large_tables(), *carousel[6:], *sample_places(), *threes * 20]
     return b"".join(stretch) + b"\xff" * 7
 
 
@@ -307,7 +310,9 @@ def check_sample(stdout):
     assert not set((words + " " + kinds + " " + classes).split()) - met
     handouts = [l.split(",")[6] for l in stdout.decode().splitlines() if l.startswith("module")]
     assert handouts == ["0", "20", "20"] and len(stdout) > 65_536, handouts
-    check_places([l.split(",") for l in stdout.decode().splitlines() if l.startswith("section")])
+    sections = [l.split(",") for l in stdout.decode().splitlines() if l.startswith("section")]
+    assert {int(s[5]) for s in sections} == program.REACHED
+    check_places(sections)
 
 
 def check_places(sections):
@@ -368,11 +373,61 @@ def page_inputs():
         yield Input("a page's end, %d" % n, "Lines of other lengths before it.", announcement() * n + b"".join(sample_tables()) * 9 + sample())
 
 
+def records():
+    """02, §8: inputs, and what must be told of the record."""
+    count, size = receiver.MODULES, IMAGE // receiver.MODULES
+    modules = [(k, size, k) for k in range(count)]
+    heard = (0, 1, count - 1)
+    blocks = b"".join(ddb(2**32 - 1, k, k, b, bytes([k + b]) * n) for k in heard for b, n in ((0, 2000), (1, 48)))
+    part = lambda k: bytes([k]) * 2000 + bytes([k + 1]) * 48
+    told = ["module,%d,%d,2048,%d,%d," % (k, k, k, 2048 * k) + ("0,0,,%d" % crc(part(k)) if k in heard else "20,2,0,") for k in range(32)]
+    stdin = dii(2**32 - 1, 2000, modules) + blocks
+    yield Input("32 modules", "The first two and the last complete.", stdin), ["record,4294967295,2000,32", *told]
+    more = dii(2**32 - 1, 2000, [*modules, (count, 1, 0)])
+    yield Input("33 modules", "Nothing is announced.", more), []
+    yield Input("33 modules after 32", "They change nothing.", stdin + more), ["record,4294967295,2000,32", *told]
+    whole = dii(1, LARGEST, [(65_535, IMAGE, 255)]) + ddb(1, 65_535, 255, 16, bytes(480))
+    yield Input("the whole image", "One module of 65,536 bytes, its last block heard.", whole), ["record,1,4066,1", "module,0,65535,65536,255,0,20,16,0,"]
+    # 1,024 blocks of a byte, some of them missing
+    one = dii(1, 1, [(5, 3, 0), (6, BLOCKS, 1)])
+    first = "module,0,5,3,0,0,20,3,0,"
+    data = bytes(b % 251 for b in range(BLOCKS))
+    for gone, told in (
+        ([1023], "20,1,1023,"),
+        ([256, 512], "20,2,256,"),
+        ([300, 301, 600, 1000], "20,4,300,"),
+        (range(1, 1024), "20,1023,1,"),
+        (range(256, 1024), "20,768,256,"),
+        (range(1023), "20,1023,0,"),
+        ([], "0,0,,%d" % crc(data)),
+    ):
+        blocks = b"".join(ddb(1, 6, 1, b, data[b : b + 1]) for b in range(BLOCKS) if b not in gone)
+        shows = "Of the module of 1,024 blocks %d are missing." % len(gone)
+        yield Input("1,024 blocks, " + told, shows, one + blocks), ["record,1,1,2", first, "module,1,6,1024,1,3," + told]
+    # more than the image holds: no block of it is stored
+    for size, missing in ((IMAGE + 1, 164), (TOGETHER, 656)):
+        shows = "No block is stored, so all are missing."
+        wanted = ["record,1,400,1", "module,0,5,%d,2,0,15,%d,0," % (size, missing)]
+        yield Input("size %d" % size, shows, dii(1, 400, [(5, size, 2)]) + ddb(1, 5, 2, 0, bytes(400)) + ddb(1, 5, 2, 163, bytes(337))), wanted
+    yield Input("size 262,145", "Nothing is announced.", dii(1, 400, [(5, TOGETHER + 1, 2)]) + ddb(1, 5, 2, 0, bytes(400))), []
+    wanted = ["record,1,400,2", "module,0,5,65536,2,0,15,164,0,", "module,1,6,1,3,65536,15,1,0,"]
+    blocks = ddb(1, 5, 2, 0, bytes(400)) + ddb(1, 6, 3, 0, b"x")
+    yield Input("two modules beyond the image", "15 of each.", dii(1, 400, [(5, IMAGE, 2), (6, 1, 3)]) + blocks), wanted
+    wanted = ["record,1,400,2", "module,0,5,65535,2,0,20,163,1,", "module,1,6,1,3,65535,0,0,,%d" % crc(b"x")]
+    yield Input("two modules to the image's end", "The second is its last byte.", dii(1, 400, [(5, IMAGE - 1, 2), (6, 1, 3)]) + blocks), wanted
+
+
 def carousel_inputs():
-    modules = [(k, 4096, k) for k in range(16)]
-    blocks = b"".join(ddb(2**32 - 1, k, k, b, bytes([k + b]) * n) for k in range(3) for b, n in ((0, 4066), (1, 30)))
-    yield Input("sixteen modules", "The first three complete.", dii(2**32 - 1, 4066, modules) + blocks)
-    yield Input("the whole image", "One module of 65,536 bytes, its last block heard.", dii(1, 4066, [(65_535, 65_536, 255)]) + ddb(1, 65_535, 255, 16, bytes(480)))
+    for i, _ in records():
+        yield i
+
+
+def check_records():
+    """The lines after the stop."""
+    for i, wanted in records():
+        after = printed(i.stdin).decode().splitlines()
+        after = after[after.index("stop,end") + 1 :]
+        assert len(i.stdin) <= READ and after == wanted, (i.name, after, wanted)
 
 
 def inputs():
@@ -400,6 +455,7 @@ def main():
     stdin = sample()
     stdout = printed(stdin)
     check_sample(stdout)
+    check_records()
     settle("inspect", stdin, stdout)
     print("test_inspect.py: the sample has %d bytes and %d lines: stdin and stdout are the second program's" % (len(stdin), stdout.count(b"\n")))
     if arguments == ["built"]:

@@ -104,10 +104,27 @@ unfolding twice11
 distinct-there [] e = tt
 distinct-there (k ∷ ks) e = let p = neither (among k ks) (twice11 ks) e in (among-there k ks (p .0), distinct-there ks (p .1))
 
-distinct-back : (ks : List ℕ) → Distinct ks → twice11 ks ≡ false
+pub distinct-back : (ks : List ℕ) → Distinct ks → twice11 ks ≡ false
 unfolding twice11
 distinct-back [] d = refl
 distinct-back (k ∷ ks) d = rw (among-back k ks (d .0)) (distinct-back ks (d .1))
+
+-- 10, IN PLAIN FACTS
+pub ten-exactly : (bs : ℕ) (zs : List ℕ)
+    → (beyond10 bs zs ≡ false)
+    ↔ ((1 ≤ bs) × (bs ≤ largestBlock) × (1 ≤ length zs) × (length zs ≤ mostModules) × ((z : ℕ) → List·Memᴰ z zs → (1 ≤ z) × (z ≤ mostBlocks * bs)) × (total zs ≤ mostBytes))
+unfolding beyond10
+ten-exactly bs zs = (
+  λ e. let w = within bs zs e in (w .blockSome, w .blockMost, w .some, w .few, sizes-there bs zs (w .sizes), w .together),
+  λ g. let s = g .0 in let m = g .2 in rw (
+    ne-eqb bs 0 (λ e. omega arith),
+    le-ltb largestBlock bs (g .1),
+    ne-eqb (length zs) 0 (λ e. omega arith),
+    le-ltb mostModules (length zs) (g .3),
+    sizes-back bs zs (g .4),
+    le-ltb mostBytes (total zs) (g .5),
+  ),
+)
 
 -- an announcement's payload
 module _ (p : List ℕ) where
@@ -119,36 +136,26 @@ module _ (p : List ℕ) where
       let bs = blockSizeOf p in
       let zs = announcedSizes p in
       let l = length-map (modulesOf p) moduleSizeOf in
-      let w = within bs zs f in
+      let w = ten-exactly bs zs .0 f in
       record {
         headed = leb-true _ _ (b .0);
         counted = eqb-false _ _ (not-true _ (b .1));
         ends = eqb-true _ _ (a .1);
-        blockSome = w .blockSome;
-        blockMost = w .blockMost;
-        modulesSome = omega (arith, w .some);
-        modulesMost = omega (arith, w .few);
-        sizes = sizes-there bs zs (w .sizes);
-        together = w .together;
+        blockSome = w .0;
+        blockMost = w .1;
+        modulesSome = omega (arith, w .2);
+        modulesMost = omega (arith, w .3);
+        sizes = w .4;
+        together = w .5;
         distinct = distinct-there (announcedNumbers p) g;
       }
 
   list-back : GoodModules p → (announcementFramed p ≡ true) × (meets10 p ≡ false) × (meets11 p ≡ false)
-  unfolding announcementFramed meets10 meets11 beyond10
+  unfolding announcementFramed meets10 meets11
   list-back g =
-      let l = length-map (modulesOf p) moduleSizeOf in
-      let s = g .blockSome in
-      let m = g .modulesSome in
-      let k = g .modulesMost in (
+      let l = length-map (modulesOf p) moduleSizeOf in (
         rw (le-leb (modulesStart p) (length p) (g .headed), ne-eqb (modulesEnd p) 0 (g .counted), eq-eqb (modulesEnd p + 2 + sixteenAt p (modulesEnd p)) (length p) (g .ends)),
-        rw (
-          ne-eqb (blockSizeOf p) 0 (λ e. omega arith),
-          le-ltb largestBlock (blockSizeOf p) (g .blockMost),
-          ne-eqb (length (announcedSizes p)) 0 (λ e. omega arith),
-          le-ltb mostModules (length (announcedSizes p)) (omega arith),
-          sizes-back (blockSizeOf p) (announcedSizes p) (g .sizes),
-          le-ltb mostBytes (total (announcedSizes p)) (g .together),
-        ),
+        ten-exactly (blockSizeOf p) (announcedSizes p) .1 (g .blockSome, g .blockMost, omega (arith, g .modulesSome), omega (arith, g .modulesMost), g .sizes, g .together),
         distinct-back (announcedNumbers p) (g .distinct),
       )
 

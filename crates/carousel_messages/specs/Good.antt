@@ -42,7 +42,7 @@ pub record GoodModules (p : List ℕ) : Type 0 where
   pub headed : modulesStart p ≤ length p
   pub counted : modulesEnd p ≡ 0 → ⊥
   pub ends : modulesEnd p + 2 + sixteenAt p (modulesEnd p) ≡ length p
-  -- the limits of 10: "blockSize 0 or over 4,066; 0 or over 16 modules; a size 0 or over 256 × blockSize; sizes over 65,536 together"
+  -- the limits of 10: "blockSize 0 or over 4,066; 0 or over 32 modules; a size 0 or over 1,024 × blockSize; sizes over 262,144 together"
   pub blockSome : 1 ≤ blockSizeOf p
   pub blockMost : blockSizeOf p ≤ largestBlock
   pub modulesSome : 1 ≤ length (modulesOf p)

@@ -1,4 +1,5 @@
--- The limits of refusals 10 and 11, over what is announced: the block size, and the modules' sizes and numbers. Named once; the carousel record's rule is over the same.
+-- The limits of refusals 10 and 11, over what is announced: the block size, and the modules' sizes and numbers. The carousel record's rule is over the same.
+-- The numbers stand here once, and once in the code (limits.rt). 02 §8: "Raise 16 modules to 32, 256 blocks to 1,024, and 65,536 bytes in all to 262,144, in the library".
 use Prim.Native.Nat.{ℕ, _+_, _*_}
 use mathlib.Core.Bool.{Bool, false, _||_}
 use mathlib.Core.List.{List, [], _∷_}
@@ -9,15 +10,15 @@ abbrev pub largestBlock : ℕ
 largestBlock = 4066
 
 abbrev pub mostModules : ℕ
-mostModules = 16
+mostModules = 32
 
 abbrev pub mostBlocks : ℕ
-mostBlocks = 256
+mostBlocks = 1024
 
 abbrev pub mostBytes : ℕ
-mostBytes = 65536
+mostBytes = 262144
 
--- "a size 0 or over 256 × blockSize"
+-- "a size 0 or over 1,024 × blockSize"
 abbrev pub badSize : (blockSize size : ℕ) → Bool
 badSize blockSize z = eqb z 0 || ltb (mostBlocks * blockSize) z
 
@@ -29,7 +30,7 @@ unfoldable pub total : List ℕ → ℕ
 total [] = 0
 total (z ∷ zs) = z + total zs
 
--- 10: "blockSize 0 or over 4,066; 0 or over 16 modules; a size 0 or over 256 × blockSize; sizes over 65,536 together"
+-- 10: "blockSize 0 or over 4,066; 0 or over 32 modules; a size 0 or over 1,024 × blockSize; sizes over 262,144 together"
 unfoldable pub beyond10 : ℕ → List ℕ → Bool
 beyond10 blockSize zs =
     eqb blockSize 0 || ltb largestBlock blockSize || eqb (length zs) 0 || ltb mostModules (length zs) || someBad blockSize zs || ltb mostBytes (total zs)

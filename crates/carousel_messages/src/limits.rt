@@ -9,11 +9,11 @@ ghost use Rattle.carousel_messages.specs.Heard.{sizesOf, numbersOf, plac
 
 pub const LARGEST_BLOCK: u16 = 4066;
 
-pub const MOST_MODULES: usize = 16;
+pub const MOST_MODULES: usize = 32;
 
-pub const MOST_BLOCKS: usize = 256;
+pub const MOST_BLOCKS: usize = 1024;
 
-pub const MOST_BYTES: usize = 65536;
+pub const MOST_BYTES: usize = 262_144;
 
 // 10: a limit that is not kept.
 pub fn is_beyond(block_size: u16, ms: [Listed; MOST_MODULES], n: usize) -> bool

@@ -7,14 +7,14 @@ use lib.Bits.{bitOr}
 use lib.ListN.{getD, set, take, drop}
 use Rattle.carousel_messages.specs.Limits.{mostModules, mostBlocks}
 
--- "a received mark for each of 16 × 256 possible blocks, 128 words of 32 bits"
+-- 02 §8: "the marks are 32 × 1,024 in 1,024 words", of 32 bits
 abbrev pub moduleWords : ℕ
 moduleWords = mostBlocks / 32
 
 abbrev pub markWords : ℕ
 markWords = mostModules * moduleWords
 
--- "Mark 256 × i + b is for block b of the module at place i"
+-- 02 §8: "mark 1,024 × i + b is for block b of the module at place i"
 abbrev pub markOf : (place block : ℕ) → ℕ
 markOf i b = mostBlocks * i + b
 
@@ -31,10 +31,10 @@ unfoldable pub clearFrom : ℕ → List ℕ → Bool
 clearFrom n [] = true
 clearFrom n (w ∷ ws) = eqb (w / 2 ^ n) 0 && clearFrom (n - 32) ws
 
--- "marks past a last block are zero": module after module, by its number of blocks; then no mark at all
-unfoldable pub marksWithin : List ℕ → List ℕ → Bool
-marksWithin [] ws = clearFrom 0 ws
-marksWithin (n ∷ ns) ws = clearFrom n (take moduleWords ws) && marksWithin ns (drop moduleWords ws)
+-- "marks past a last block are zero": module after module, so many words each, by its number of blocks; then no mark at all
+unfoldable pub marksWithin : (words : ℕ) → (blocks marks : List ℕ) → Bool
+marksWithin w [] ws = clearFrom 0 ws
+marksWithin w (n ∷ ns) ws = clearFrom n (take w ws) && marksWithin w ns (drop w ws)
 
 -- of n blocks from b on, those that have no mark, lowest first; the mark of block 0 being `first`
 unfoldable pub clearAmong : List ℕ → (first b n : ℕ) → List ℕ

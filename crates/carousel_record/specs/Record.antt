@@ -10,9 +10,9 @@ use Rattle.carousel_messages.specs.Heard.{noneListed, sizesOf, numbersOf, place
 use Rattle.carousel_record.specs.declared.Module.{Module}
 use Rattle.carousel_record.specs.declared.Carousel.{Carousel}
 use Rattle.carousel_record.specs.Blocks.{blocksOf, blockLengthOf}
-use Rattle.carousel_record.specs.Marks.{markWords, markOf, isMarked, marksWithin, clearAmong}
+use Rattle.carousel_record.specs.Marks.{moduleWords, markWords, markOf, isMarked, marksWithin, clearAmong}
 
--- The record as the paper has it: it "holds the announcement .., each module's start in the image, and a received mark for each of 16 × 256 possible blocks".
+-- The record as the paper has it: it "holds the announcement .., each module's start in the image, and a received mark for each of 32 × 1,024 possible blocks".
 pub record Record : Type 0 where
   pub announced : Announced
   pub starts : List ℕ
@@ -95,7 +95,7 @@ ruled r =
     eqb (length (r .marks)) markWords
     && withinLimits (r .announced)
     && sameNumbers (r .starts) (sums 0 (sizesOf (r .announced .modules)))
-    && marksWithin (map (λ z. blocksOf (r .announced .blockSize) z) (sizesOf (r .announced .modules))) (r .marks)
+    && marksWithin moduleWords (map (λ z. blocksOf (r .announced .blockSize) z) (sizesOf (r .announced .modules))) (r .marks)
 
 -- "unused entries .. are zero"
 abbrev pub unused : Module
@@ -108,6 +108,6 @@ unfoldable pub allUnused : List Module → Bool
 allUnused [] = true
 allUnused (m ∷ ms) = isUnused m && allUnused ms
 
--- "at most 16 modules; .. unused entries .. are zero", and what the record says keeps the rule. 1: "record breaks its rule" is where this is false
+-- "at most 32 modules; .. unused entries .. are zero", and what the record says keeps the rule. 1: "record breaks its rule" is where this is false
 unfoldable pub ruledOf : Carousel → Bool
 ruledOf c = leb (c .count) mostModules && allUnused (drop (c .count) (c .modules)) && ruled (recordOf c)

@@ -14,7 +14,7 @@ ghost use Prim.Native.Nat.{_≤_};
 ghost use lib.ListN.{drop, take};
 ghost use Rattle.carousel_messages.specs.Limits.{mostModules};
 ghost use Rattle.carousel_record.specs.Blocks.{blocksOf};
-ghost use Rattle.carousel_record.specs.Marks.{marksWithin};
+ghost use Rattle.carousel_record.specs.Marks.{moduleWords, marksWithin};
 ghost use Rattle.carousel_messages.specs.Heard.{sizesOf};
 ghost use Rattle.carousel_record.specs.Record.{announcedBy, listedIn, startIn, sums, sameNumbers, isUnused, allUnused, withinLimits, ruledOf};
 
@@ -108,7 +108,7 @@ fn is_running(ms: [Module; MOST_MODULES], n: usize) -> bool
 // Whether no mark past a last block is set.
 fn is_in_place(c: Carousel) -> bool
     requires { ⌜ c .count ≤ mostModules ⌝ }
-    ensures { λ r. ⌜ r ≡ marksWithin (map (λ z. blocksOf (c .«block_size») z) (sizesOf (announcedBy c .modules))) (c .marks) ⌝ }
+    ensures { λ r. ⌜ r ≡ marksWithin moduleWords (map (λ z. blocksOf (c .«block_size») z) (sizesOf (announcedBy c .modules))) (c .marks) ⌝ }
 {
     let n = c.count as usize;
     let ms = c.modules;

@@ -8,4 +8,5 @@ pub mod Exact
 pub mod Told
 pub mod Longest
 pub mod Soundings
+pub mod Charts
 pub mod Unique

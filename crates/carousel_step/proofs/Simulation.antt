@@ -5,9 +5,9 @@ use mathlib.Core.Bool.{Bool, true, false, cond}
 use mathlib.Core.List.{List, [], _∷_, map}
 use native.Mathlib.Omega.{arith}
 use lib.Dec.{eqb}
-use lib.ListN.{length, replicate}
+use lib.ListN.{length, replicate, length-replicate}
 use lib.Seq.{take-at, drop-at}
-use borrow.Author.Tests.{eqb-true, le-leb}
+use borrow.Author.Tests.{eq-eqb, eqb-true, le-leb}
 use Rattle.wire.proofs.Laws.Tests.{clash}
 use Rattle.section.specs.Answer.{refused}
 use Rattle.carousel_messages.specs.declared.Listed.{Listed}
@@ -15,12 +15,14 @@ use Rattle.carousel_messages.specs.Limits.{mostModules, beyond10, twice11}
 use Rattle.carousel_messages.specs.Heard.{Announced, Heard, refusal, announced, arrived, heardOf, sizesOf, numbersOf}
 use Rattle.carousel_messages.proofs.Laws.Heard.{heard-limits}
 use Rattle.carousel_record.specs.declared.Carousel.{Carousel}
-use Rattle.carousel_record.specs.Marks.{clearFrom, marksWithin}
+use Rattle.carousel_record.specs.Marks.{moduleWords, markWords}
 use Rattle.carousel_record.specs.Record.{Record, listedIn, startIn, announcedBy, startsBy, recordOf, placeOf, sums, sameNumbers, withinLimits, ruled, unused, allUnused, ruledOf}
 use Rattle.carousel_record.specs.Changes.{emptyRecord, entries, madeAfresh, withMark, afresh, marking}
 use Rattle.carousel_step.specs.Step.{blockRefusal, sameAnnounced, StepOutcome, refusing, new, same, repeated, stored, matched, onArrived}
 use Rattle.carousel_step.specs.Step.{onAnnounced, onHeard, outcomeOf, carouselAfter, recordAfter, steppedOf}
 use Rattle.carousel_step.proofs.Views.{isNew}
+use Rattle.carousel_record.proofs.Laws.Tests.{joint}
+use Rattle.carousel_record.proofs.Laws.Marks.{within-fresh}
 use Rattle.carousel_record.proofs.Laws.Places.{few-modules}
 use Rattle.carousel_record.proofs.Laws.Rule.{kept, keeps, fresh-kept, shaped, ruled-parts, parts-ruled}
 use Rattle.carousel_step.proofs.Laws.Afresh.{entries-length}
@@ -127,8 +129,10 @@ rule-after r image (arrived d) l e = go (eqb (blockRefusal (r .announced) (lengt
 
 -- "Starting gives the empty record", which keeps the rule.
 pub empty-ruled : ruledOf emptyRecord ≡ true
-unfolding emptyRecord ruledOf allUnused ruled withinLimits sameNumbers sums announcedBy startsBy marksWithin clearFrom
-empty-ruled = refl
+unfolding emptyRecord ruled withinLimits sameNumbers sums announcedBy startsBy
+empty-ruled =
+    parts-ruled emptyRecord (unused-zero mostModules)
+    (joint _ _ (joint _ _ (joint _ _ (eq-eqb _ _ (length-replicate {A = ℕ} markWords 0)) refl) refl) (within-fresh moduleWords [] markWords))
 
 -- THE STEP KEEPS THE RULE.
 pub step-rule : (c : Carousel) (s image : List ℕ) → ruledOf c ≡ true → ruledOf (steppedOf c s image .state) ≡ true

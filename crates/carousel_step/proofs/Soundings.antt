@@ -1,6 +1,6 @@
 -- The paper's soundings of this floor, computed from the definitions; and two whole sections from the empty record on, so that "new", "stored" and "repeated" are not empty.
-use Prim.Native.Nat.{ℕ}
-use mathlib.Core.Path.{_≡_, refl, ap, _∙_}
+use Prim.Native.Nat.{ℕ, _-_}
+use mathlib.Core.Path.{_≡_, refl, sym, ap, _∙_}
 use mathlib.Core.Bool.{true, false}
 use mathlib.Core.List.{List, [], _∷_}
 use lib.ListN.{replicate}
@@ -14,14 +14,15 @@ use Rattle.carousel_messages.proofs.Soundings as messages
 use Rattle.carousel_messages.proofs.Soundings.{announcing, abcd}
 use Rattle.carousel_record.specs.declared.Carousel.{Carousel}
 use Rattle.carousel_step.specs.declared.Answer.the-variants as answer
+use Rattle.carousel_step.specs.declared.Stepped.{Stepped}
 use Rattle.carousel_record.specs.Blocks.{blocksOf, blockLengthOf}
-use Rattle.carousel_record.specs.Marks.{isMarked, marksWith, clearFrom, marksWithin, clearAmong}
-use Rattle.carousel_record.specs.Record.{Record, announcedBy, startsBy, recordOf, sums, blockAt, missingOf, completeOf, sameNumbers, withinLimits, ruled, allUnused, ruledOf}
+use Rattle.carousel_record.specs.Marks.{markWords, isMarked, marksWith, clearAmong}
+use Rattle.carousel_record.specs.Record.{Record, announcedBy, startsBy, recordOf, sums, blockAt, missingOf, completeOf, sameNumbers, withinLimits, ruledOf}
 use Rattle.carousel_record.specs.Changes.{emptyRecord, entries, madeAfresh, withMark, afresh, marking, overwrite}
 use Rattle.carousel_step.specs.Step.{meets12, meets14, meets16, blockRefusal, bytesDiffer, sameModules, sameAnnounced, refusing, new, same, repeated, stored}
 use Rattle.carousel_record.specs.Refusals.{meets13, meets15}
 use Rattle.carousel_step.specs.Step.{matched, onArrived, onAnnounced, onHeard, outcomeOf, recordAfter, imageAfter, StepOutcome, returning, steppedOf, imageOf}
-use Rattle.carousel_step.proofs.Simulation.{outcome-ruled, empty-ruled}
+use Rattle.carousel_step.proofs.Simulation.{outcome-ruled, empty-ruled, step-rule}
 
 -- download 5 of one module 7, version 1, of this size in blocks of this size; two modules; and a block of module 7
 abbrev pub one : (blockSize size : ℕ) → Announced
@@ -35,7 +36,7 @@ block b bytes = record { download = 5; number = 7; version = 1; block = b; bytes
 
 -- the record after an announcement, with its first word of marks given
 abbrev pub marked : Announced → ℕ → Record
-marked a w = record { announced = a; starts = 0 ∷ []; marks = w ∷ replicate 127 0 }
+marked a w = record { announced = a; starts = 0 ∷ []; marks = w ∷ replicate (markWords - 1) 0 }
 
 pub soundings :
     -- "Size 1,000, blockSize 400: blocks of 400, 400, 200."
@@ -44,10 +45,10 @@ pub soundings :
     × (blocksOf 400 800 ≡ 2) × (blockLengthOf 400 800 0 ≡ 400) × (blockLengthOf 400 800 1 ≡ 400) × ((bytes : List ℕ) → blockRefusal (one 400 800) 800 (block 2 bytes) ≡ 16)
     -- "Size 65,536, blockSize 4,066: 17 blocks, last 480."
     × (blocksOf 4066 65536 ≡ 17) × (blockLengthOf 4066 65536 16 ≡ 480)
-    -- "blockSize 1: size 256 taken, 257 gives 10." Here: what the record's rule lets stand.
-    × (withinLimits (one 1 256) ≡ true) × (withinLimits (one 1 257) ≡ false)
-    -- "blockSize 400: sizes 65,535 and 1 taken; 65,536 and 1 give 10."
-    × (withinLimits (two 400 65535 1) ≡ true) × (withinLimits (two 400 65536 1) ≡ false)
+    -- "blockSize 1: size 1,024 taken, 1,025 gives 10" (02 §8). Here: what the record's rule lets stand.
+    × (withinLimits (one 1 1024) ≡ true) × (withinLimits (one 1 1025) ≡ false)
+    -- "blockSize 400: sizes 262,143 and 1 taken; 262,144 and 1 give 10" (02 §8)
+    × (withinLimits (two 400 262143 1) ≡ true) × (withinLimits (two 400 262144 1) ≡ false)
     -- "Blocks 0 and 2 of three: missing 1, lowest 1."
     × (missingOf (marked (one 400 1000) 5) 0 ≡ 1 ∷ [])
     -- "Block 300 of a three-block module, with section number 44, passes check 9, then gives 16" (that it passes 9 is computed among the messages)
@@ -105,26 +106,38 @@ image = replicate 6 0
 abbrev imaged : List ℕ
 imaged = 0x41 ∷ 0x42 ∷ 0x43 ∷ 0x44 ∷ 0 ∷ 0 ∷ []
 
-comes : (c : Carousel) (s image : List ℕ) (h : Heard) → ruledOf c ≡ true → heardOf s ≡ h → outcomeOf c s image ≡ onHeard (recordOf c) image h
+pub comes : (c : Carousel) (s image : List ℕ) (h : Heard) → ruledOf c ≡ true → heardOf s ≡ h → outcomeOf c s image ≡ onHeard (recordOf c) image h
 comes c s image h e f = outcome-ruled c s image e ∙ ap (onHeard (recordOf c) image) f
 
 told-new : onHeard (recordOf emptyRecord) image (announced told) ≡ new told
 unfolding onHeard onAnnounced sameAnnounced announcedBy emptyRecord
 told-new = refl
 
-renewed-ruled : ruledOf renewed ≡ true
-unfolding madeAfresh emptyRecord entries ruledOf allUnused ruled withinLimits beyond10 someBad total twice11 among sameNumbers sums announcedBy startsBy marksWithin clearFrom blocksOf
-renewed-ruled = refl
-
-holding-ruled : ruledOf holding ≡ true
-unfolding withMark marksWith madeAfresh emptyRecord entries ruledOf allUnused ruled withinLimits beyond10 someBad total twice11 among sameNumbers
-    sums announcedBy startsBy marksWithin clearFrom blocksOf
-holding-ruled = refl
+tells : steppedOf emptyRecord announcing image ≡ record { answer = answer.New; state = renewed }
+unfolding steppedOf
+tells = ap (λ (o : StepOutcome). returning emptyRecord o) (comes emptyRecord announcing image (announced told) empty-ruled hears-told ∙ told-new)
 
 carried-stored : onHeard (recordOf renewed) image (arrived carried) ≡ stored 0 0 (carried .bytes)
 unfolding onHeard onArrived matched blockRefusal firstMet meets12 meets13 meets14 meets15 meets16 placeIn total blocksOf blockLengthOf blockAt
     isMarked announcedBy startsBy madeAfresh emptyRecord entries
 carried-stored = refl
+
+-- the step keeps the rule
+pub left-ruled : (c : Carousel) (s image : List ℕ) (x : Stepped) → ruledOf c ≡ true → steppedOf c s image ≡ x → ruledOf (x .state) ≡ true
+left-ruled c s image x r e = ap (λ (y : Stepped). ruledOf (y .state)) (sym e) ∙ step-rule c s image r
+
+renewed-ruled : ruledOf renewed ≡ true
+renewed-ruled = left-ruled emptyRecord announcing image _ empty-ruled tells
+
+puts : outcomeOf renewed abcd image ≡ stored 0 0 (carried .bytes)
+puts = comes renewed abcd image (arrived carried) renewed-ruled hears-carried ∙ carried-stored
+
+stores : steppedOf renewed abcd image ≡ record { answer = answer.Stored; state = holding }
+unfolding steppedOf
+stores = ap (λ (o : StepOutcome). returning renewed o) puts
+
+holding-ruled : ruledOf holding ≡ true
+holding-ruled = left-ruled renewed abcd image _ renewed-ruled stores
 
 carried-repeated : onHeard (recordOf holding) imaged (arrived carried) ≡ repeated
 unfolding onHeard onArrived matched blockRefusal firstMet meets12 meets13 meets14 meets15 meets16 placeIn total blocksOf blockLengthOf blockAt
@@ -147,12 +160,11 @@ pub sections : (steppedOf emptyRecord announcing image ≡ record { answer = ans
     × (steppedOf holding abcd imaged ≡ record { answer = answer.Repeated; state = holding })
     × (steppedOf holding abcd image ≡ record { answer = answer.Refused (refused 17); state = holding })
 unfolding steppedOf imageOf overwrite
-sections =
-    let put = comes renewed abcd image (arrived carried) renewed-ruled hears-carried ∙ carried-stored in (
-      ap (λ (o : StepOutcome). returning emptyRecord o) (comes emptyRecord announcing image (announced told) empty-ruled hears-told ∙ told-new),
-      ap (λ (o : StepOutcome). returning renewed o) (comes renewed announcing image (announced told) renewed-ruled hears-told ∙ told-same),
-      ap (λ (o : StepOutcome). returning renewed o) put,
-      ap (λ (o : StepOutcome). imageAfter image o) put,
-      ap (λ (o : StepOutcome). returning holding o) (comes holding abcd imaged (arrived carried) holding-ruled hears-carried ∙ carried-repeated),
-      ap (λ (o : StepOutcome). returning holding o) (comes holding abcd image (arrived carried) holding-ruled hears-carried ∙ carried-other),
-    )
+sections = (
+  tells,
+  ap (λ (o : StepOutcome). returning renewed o) (comes renewed announcing image (announced told) renewed-ruled hears-told ∙ told-same),
+  stores,
+  ap (λ (o : StepOutcome). imageAfter image o) puts,
+  ap (λ (o : StepOutcome). returning holding o) (comes holding abcd imaged (arrived carried) holding-ruled hears-carried ∙ carried-repeated),
+  ap (λ (o : StepOutcome). returning holding o) (comes holding abcd image (arrived carried) holding-ruled hears-carried ∙ carried-other),
+)

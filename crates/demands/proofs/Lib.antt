@@ -13,3 +13,4 @@ pub mod Bearings
 pub mod Relays
 pub mod Drift
 pub mod Places
+pub mod Charts

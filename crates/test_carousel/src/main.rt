@@ -5,7 +5,7 @@
 //
 //   s length 24, fill 8               start: the empty record, an image of that length
 //   l length 24                       only the image's length changes
-//   p field 8, place 8, value 32      poke a field of the record
+//   p field 8, place 16, value 32     poke a field of the record
 //   i place 24, value 8               paint a byte of the image
 //   t length 16, section              step
 //   h number 16                       hand-out
@@ -62,7 +62,7 @@ fn command_size(s: &[u8]) -> usize
     match wire::byte_at(s, 0) {
         b's' => 5,
         b'l' => 4,
-        b'p' => 7,
+        b'p' => 8,
         b'i' => 5,
         b't' => 3 + wire::sixteen_at(s, 1) as usize,
         _ => 3,
@@ -151,24 +151,24 @@ fn paint(s: &[u8], memory: &mut [u8]) {
     memory[place] = wire::byte_at(s, 4);
 }
 
-// The field's number is the second byte, the place in its array the third.
+// The field's number is the second byte, the place in its array the next two.
 fn poke(c: Carousel, s: &[u8]) -> Carousel {
     io::write_all(1, b"poke\n");
     let mut next = c;
-    let place = wire::eight_at(s, 2);
+    let place = wire::sixteen_at(s, 2) as usize;
     match wire::byte_at(s, 1) {
         0 => {
-            next.download = wire::thirty_two_at(s, 3);
+            next.download = wire::thirty_two_at(s, 4);
         }
         1 => {
-            next.block_size = wire::sixteen_at(s, 5);
+            next.block_size = wire::sixteen_at(s, 6);
         }
         2 => {
-            next.count = wire::sixteen_at(s, 5);
+            next.count = wire::sixteen_at(s, 6);
         }
         7 => {
             if place < MARK_WORDS {
-                next.marks[place] = wire::thirty_two_at(s, 3);
+                next.marks[place] = wire::thirty_two_at(s, 4);
             }
         }
         _ => {
@@ -185,16 +185,16 @@ fn poked_module(m: Module, s: &[u8]) -> Module {
     let mut next = m;
     match wire::byte_at(s, 1) {
         3 => {
-            next.number = wire::sixteen_at(s, 5);
+            next.number = wire::sixteen_at(s, 6);
         }
         4 => {
-            next.size = wire::thirty_two_at(s, 3);
+            next.size = wire::thirty_two_at(s, 4);
         }
         5 => {
-            next.version = wire::byte_at(s, 6);
+            next.version = wire::byte_at(s, 7);
         }
         _ => {
-            next.start = wire::thirty_two_at(s, 3);
+            next.start = wire::thirty_two_at(s, 4);
         }
     }
     next

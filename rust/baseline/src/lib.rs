@@ -1,6 +1,6 @@
 //! A receiver for application tables (AIT) and DSM-CC data carousels, in plain Rust.
 //!
-//! It is written from the paper `01-scope.md` ("the paper" below) and 02, §6 and §9, and serves as an
+//! It is written from the paper `01-scope.md` ("the paper" below) and 02, §6, §8 and §9, and serves as an
 //! independent second implementation and as a baseline for speed. Nothing is allocated except by
 //! [`read_all`], whose answer is a tree of owned values, and [`drift::read`].
 //!
@@ -31,6 +31,7 @@ pub mod table;
 pub use ait::{read, Table};
 pub use checksum::crc;
 pub use record::{Answer, Missing, Module, Record};
+pub use record::{ALL_WORDS, BLOCKS, MODULES, MOST_TOGETHER, WORDS};
 pub use refusal::Refusal;
 pub use run::{Fate, Passage, Stop, Taken};
 pub use table::read_all;

@@ -67,8 +67,8 @@ fn message(body: &[u8], number: u16) -> Result<(u32, &[u8]), u8> {
     Ok((u32::from_be_bytes([i0, i1, i2, i3]), content))
 }
 
-/// Reads an announcement. All announced modules are framed, also those past the sixteenth, so that 7 comes
-/// before 10.
+/// Reads an announcement. All announced modules are framed, also those past a record's last entry, so that 7
+/// comes before 10.
 pub fn announcement(frame: &Frame<'_>) -> Result<Announcement, u8> {
     let (_, content) = message(frame.body, ANNOUNCEMENT)?;
     let mut content = Reader::new(content, BODY);

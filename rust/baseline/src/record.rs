@@ -6,20 +6,29 @@ use crate::message::{self, Announcement, Block};
 use crate::refusal::{self, Refusal};
 use crate::section::{self, Frame};
 
-/// The most modules a record holds.
-pub const MODULES: usize = 16;
-/// The words of marks of one module, for its 256 possible blocks.
-const WORDS: usize = 8;
-/// The bits of a word of marks.
-const BITS: usize = 32;
-/// The most blocks of a module.
-const BLOCKS: u32 = 256;
+/// The most modules of an announcement, and a record's entries (refusal 10; 02, §8).
+pub const MODULES: usize = 32;
+/// The most blocks of a module (refusal 10; 02, §8).
+pub const BLOCKS: u32 = 1_024;
+/// The most bytes of all modules together (refusal 10; 02, §8).
+pub const MOST_TOGETHER: u32 = 262_144;
 /// The largest blockSize (refusal 10).
 const MOST_BLOCK_SIZE: u16 = 4_066;
-/// The most bytes of all modules together (refusal 10).
-const MOST_TOGETHER: u32 = 65_536;
 /// The largest L of a carousel section (refusal 4).
 const MOST_LENGTH: usize = 4_093;
+
+/// The bits of a word of marks.
+const BITS: usize = u32::BITS as usize;
+/// The words of marks of one module, a mark for each possible block.
+pub const WORDS: usize = BLOCKS as usize / BITS;
+/// The words of marks of a record.
+pub const ALL_WORDS: usize = MODULES * WORDS;
+
+// A module's marks fill its words. Neither the sizes of all entries together, each in its limit, nor the bytes
+// of the most blocks overflow.
+const _: () = assert!(WORDS * BITS == BLOCKS as usize);
+const _: () = assert!(MODULES <= (u32::MAX / MOST_TOGETHER) as usize);
+const _: () = assert!(BLOCKS <= u32::MAX / MOST_BLOCK_SIZE as u32);
 
 /// An announced module and where it begins in the image.
 #[derive(Clone, Copy, PartialEq, Eq, Debug)]
@@ -65,8 +74,9 @@ pub struct Record {
     pub count: u16,
     /// The modules in announced order, the unused entries zero.
     pub modules: [Module; MODULES],
-    /// Mark 256 × i + b is for block b of the module at place i; a word's lowest bit is its first mark.
-    pub marks: [u32; MODULES * WORDS],
+    /// Mark 1,024 × i + b is for block b of the module at place i (02, §8); a word's lowest bit is its first
+    /// mark.
+    pub marks: [u32; ALL_WORDS],
 }
 
 /// What a step did with a section.
@@ -112,7 +122,7 @@ impl Record {
         block_size: 0,
         count: 0,
         modules: [Module::NONE; MODULES],
-        marks: [0; MODULES * WORDS],
+        marks: [0; ALL_WORDS],
     };
 
     /// The record to start from.
@@ -121,8 +131,9 @@ impl Record {
         Record::EMPTY
     }
 
-    /// Whether the record's rule holds: at most 16 modules; if any, the limits of refusals 10 and 11 hold and
-    /// starts are running sums; unused entries and marks past a last block are zero; with none, all is zero.
+    /// Whether the record's rule holds (02, §8): at most 32 modules; if any, the limits of refusals 10 and 11
+    /// hold and starts are running sums; unused entries and marks past a last block are zero; with none, all is
+    /// zero.
     #[must_use]
     pub fn is_ruled(&self) -> bool {
         if self.count == 0 {
@@ -191,7 +202,7 @@ impl Record {
         self.block_size = announced.block_size;
         self.count = announced.count;
         self.modules = announced.modules;
-        self.marks = [0; MODULES * WORDS];
+        self.marks = [0; ALL_WORDS];
         Ok(Answer::New)
     }
 
@@ -330,7 +341,7 @@ fn is_carousel(table: u8) -> bool {
     matches!(table, section::ANNOUNCEMENT | section::BLOCK)
 }
 
-/// The limits of refusals 10 and 11, over an announcement's modules or a record's. More than 16 modules are for
+/// The limits of refusals 10 and 11, over an announcement's modules or a record's. More than 32 modules are for
 /// the caller to refuse.
 fn judge(block_size: u16, modules: &[Module]) -> Result<(), u8> {
     if block_size == 0 || block_size > MOST_BLOCK_SIZE || modules.is_empty() {
@@ -342,7 +353,7 @@ fn judge(block_size: u16, modules: &[Module]) -> Result<(), u8> {
         if module.size == 0 || module.size > most {
             return Err(refusal::LIMITS);
         }
-        // At most 16 sizes of at most 65,536: no overflow.
+        // At most 32 sizes of at most 262,144: no overflow.
         together += module.size;
     }
     if together > MOST_TOGETHER {

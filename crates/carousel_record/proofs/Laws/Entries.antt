@@ -56,13 +56,13 @@ module _ (ms : List Module) (n : ℕ) (h : n ≤ length ms) where
       abbrev here : List ℕ
       here = take moduleWords (drop (moduleWords * i) ws)
 
-      pub place-off : clearFrom (blocksOf bs (getD ms i unused .size)) here ≡ false → marksWithin (map (λ z. blocksOf bs z) (sizesOf (drop i listed))) (drop (moduleWords * i) ws) ≡ false
+      pub place-off : clearFrom (blocksOf bs (getD ms i unused .size)) here ≡ false → marksWithin moduleWords (map (λ z. blocksOf bs z) (sizesOf (drop i listed))) (drop (moduleWords * i) ws) ≡ false
       unfolding marksWithin
       place-off e = rw (next listedIn i l, e)
 
       pub place-kept : clearFrom (blocksOf bs (getD ms i unused .size)) here ≡ true
-          → marksWithin (map (λ z. blocksOf bs z) (sizesOf (drop (i + 1) listed))) (drop (moduleWords * (i + 1)) ws)
-          ≡ marksWithin (map (λ z. blocksOf bs z) (sizesOf (drop i listed))) (drop (moduleWords * i) ws)
+          → marksWithin moduleWords (map (λ z. blocksOf bs z) (sizesOf (drop (i + 1) listed))) (drop (moduleWords * (i + 1)) ws)
+          ≡ marksWithin moduleWords (map (λ z. blocksOf bs z) (sizesOf (drop i listed))) (drop (moduleWords * i) ws)
       unfolding marksWithin
       place-kept e =
           let k : moduleWords * (i + 1) ≡ moduleWords * i + moduleWords = omega arith in
@@ -74,7 +74,7 @@ module _ (ms : List Module) (n : ℕ) (h : n ≤ length ms) where
     unfolding sums sameNumbers
     running-done s = rw (none-left listedIn i l, none-left startIn i l)
 
-    pub marks-done : (bs : ℕ) (ws : List ℕ) → marksWithin (map (λ z. blocksOf bs z) (sizesOf (drop i listed))) ws ≡ clearFrom 0 ws
+    pub marks-done : (bs : ℕ) (ws : List ℕ) → marksWithin moduleWords (map (λ z. blocksOf bs z) (sizesOf (drop i listed))) ws ≡ clearFrom 0 ws
     unfolding marksWithin
     marks-done bs ws = rw (none-left listedIn i l)
 

@@ -1,11 +1,11 @@
--- Laws of the marks, over any number of words: setting mark k sets it and changes no other; which marks the rule lets be set.
-use Prim.Native.Nat.{ℕ, zero, suc, _+_, _-_, _/_, _%_, _^_, _<_, _≤_}
+-- Laws of the marks, over any number of words and of words for each module: setting mark k sets it and changes no other; which marks the rule lets be set.
+use Prim.Native.Nat.{ℕ, zero, suc, _+_, _-_, _*_, _/_, _%_, _^_, _<_, _≤_}
 use mathlib.Core.Path.{_≡_, refl, ap, sym, _∙_}
 use mathlib.Core.Bool.{true, false}
 use mathlib.Core.List.{List, [], _∷_}
 use mathlib.Core.Logic.{_⊎_, inl, inr}
 use native.Mathlib.Omega.{arith}
-use native.Mathlib.Nat.{div-self, zero-div, div-eq-of-lt, mul-div-cancel-left, mul-mod-left, pow-suc}
+use native.Mathlib.Nat.{div-self, zero-div, div-eq-of-lt, div-eq-sub-div, mod-eq-of-lt, mod-eq-sub-mod, mul-div-cancel-left, mul-mod-left, mul-suc, pow-suc}
 use native.Mathlib.Decide.{decLt}
 use lib.Dec.{eqb}
 use lib.Pow.{pow-lt, pow-pos, pow-add, shr-shr}
@@ -14,8 +14,7 @@ use lib.ListN.{length, getD, set, take, drop, replicate}
 use lib.Seq.{getD-set-same, getD-set-other, take-set-lt, take-set-le, drop-set-lt, drop-set-add, getD-take, getD-drop}
 use borrow.Author.Tests.{eq-eqb, eqb-true}
 use Rattle.wire.proofs.Laws.Tests.{both, clash}
-use Rattle.carousel_messages.specs.Limits.{mostBlocks}
-use Rattle.carousel_record.specs.Marks.{moduleWords, markOf, isMarked, marksWith, clearFrom, marksWithin}
+use Rattle.carousel_record.specs.Marks.{isMarked, marksWith, clearFrom, marksWithin}
 use Rattle.carousel_record.proofs.Laws.Tests.{alike, joint}
 
 -- a number below 2 is 0 or 1
@@ -120,40 +119,6 @@ clear-means n (w ∷ ws) k e m =
           omega arith
     ]
 
--- the words of the first module, and those after them
-module _ (ws : List ℕ) (k : ℕ) where
-  take-with : k < mostBlocks → take moduleWords (marksWith ws k) ≡ marksWith (take moduleWords ws) k
-  unfolding marksWith
-  take-with h =
-      let l : k / 32 < moduleWords = omega arith in
-      take-set-lt moduleWords ws (k / 32) _ l ∙ ap (λ (w : ℕ). set (take moduleWords ws) (k / 32) (bitOr w (2 ^ (k % 32)))) (sym (getD-take moduleWords ws (k / 32) 0 l))
-
-  drop-same : k < mostBlocks → drop moduleWords (marksWith ws k) ≡ drop moduleWords ws
-  unfolding marksWith
-  drop-same h = drop-set-lt moduleWords ws (k / 32) _ (omega arith)
-
-  take-same : take moduleWords (marksWith ws (mostBlocks + k)) ≡ take moduleWords ws
-  unfolding marksWith
-  take-same = take-set-le moduleWords ws ((mostBlocks + k) / 32) _ (omega arith)
-
-  drop-with : drop moduleWords (marksWith ws (mostBlocks + k)) ≡ marksWith (drop moduleWords ws) k
-  unfolding marksWith
-  drop-with =
-      let q : (mostBlocks + k) / 32 ≡ moduleWords + k / 32 = omega arith in
-      let r : (mostBlocks + k) % 32 ≡ k % 32 = omega arith in
-      rw (q, r, drop-set-add moduleWords ws (k / 32) (bitOr (getD ws (moduleWords + k / 32) 0) (2 ^ (k % 32))), getD-drop moduleWords ws (k / 32) 0)
-
-  marked-first : k < mostBlocks → isMarked (take moduleWords ws) k ≡ isMarked ws k
-  unfolding isMarked
-  marked-first h = rw (getD-take moduleWords ws (k / 32) 0 (omega arith))
-
-  marked-later : isMarked (drop moduleWords ws) k ≡ isMarked ws (mostBlocks + k)
-  unfolding isMarked
-  marked-later =
-      let q : (mostBlocks + k) / 32 ≡ moduleWords + k / 32 = omega arith in
-      let r : (mostBlocks + k) % 32 ≡ k % 32 = omega arith in
-      rw (q, r, getD-drop moduleWords ws (k / 32) 0)
-
 clear-take : (n j m : ℕ) → clearFrom n (take j (replicate m 0)) ≡ true
 unfolding clearFrom
 clear-take n zero m = refl
@@ -165,41 +130,77 @@ drop-clear zero m = (m, refl)
 drop-clear (suc j) zero = (0, refl)
 drop-clear (suc j) (suc m) = drop-clear j m
 
--- clear words keep to any numbers of blocks
-pub within-fresh : (ns : List ℕ) (m : ℕ) → marksWithin ns (replicate m 0) ≡ true
-unfolding marksWithin
-within-fresh [] m = clear-zero 0 m
-within-fresh (n ∷ ns) m = let d = drop-clear moduleWords m in joint _ _ (clear-take n moduleWords m) (rw (d .1) (within-fresh ns (d .0)))
+-- a module has w words, so 32 * w marks: those of the first module, and those after them
+module _ (w : ℕ) where
+  abbrev pub markIn : (place block : ℕ) → ℕ
+  markIn i b = 32 * w * i + b
 
--- and so do words with one more mark, that of a block
-pub within-with : (ns ws : List ℕ) (i b : ℕ) → i < length ns → b < getD ns i 0 → b < mostBlocks → marksWithin ns ws ≡ true → marksWithin ns (marksWith ws (markOf i b)) ≡ true
-unfolding marksWithin
-within-with [] ws i b u v h e = absurd (omega arith)
-within-with (n ∷ ns) ws zero b u v h e =
-    let f = both (clearFrom n (take moduleWords ws)) (marksWithin ns (drop moduleWords ws)) e in
-    let p : markOf 0 b ≡ b = omega arith in
-    rw (p, take-with ws b h, drop-same ws b h) (joint _ _ (clear-with n (take moduleWords ws) b v (f .0)) (f .1))
-within-with (n ∷ ns) ws (suc i) b u v h e =
-    let f = both (clearFrom n (take moduleWords ws)) (marksWithin ns (drop moduleWords ws)) e in
-    let p : markOf (suc i) b ≡ mostBlocks + markOf i b = omega arith in
-    rw (p, take-same ws (markOf i b), drop-with ws (markOf i b)) (joint _ _ (f .0) (within-with ns (drop moduleWords ws) i b (omega arith) v h (f .1)))
+  module _ (ws : List ℕ) (k : ℕ) where
+    take-with : k < 32 * w → take w (marksWith ws k) ≡ marksWith (take w ws) k
+    unfolding marksWith
+    take-with h =
+        let l : k / 32 < w = omega arith in
+        take-set-lt w ws (k / 32) _ l ∙ ap (λ (x : ℕ). set (take w ws) (k / 32) (bitOr x (2 ^ (k % 32)))) (sym (getD-take w ws (k / 32) 0 l))
 
--- "MARKS PAST A LAST BLOCK ARE ZERO": a mark that is set is that of a module which there is, and of one of its blocks
-pub within-means : (ns ws : List ℕ) (k : ℕ) → marksWithin ns ws ≡ true → isMarked ws k ≡ true → (k / mostBlocks < length ns) × (k % mostBlocks < getD ns (k / mostBlocks) 0)
-unfolding marksWithin
-within-means [] ws k e m = let h = clear-means 0 ws k e m in absurd (omega arith)
-within-means (n ∷ ns) ws k e m =
-    let f = both (clearFrom n (take moduleWords ws)) (marksWithin ns (drop moduleWords ws)) e in
-    elim (decLt k mostBlocks) [
-      | yes p ↦
-          let l = clear-means n (take moduleWords ws) k (f .0) (marked-first ws k p ∙ m) in
-          let q : k / mostBlocks ≡ 0 = omega arith in
-          let r : k % mostBlocks ≡ k = omega arith in
-          rw (q, r) (omega arith, l)
-      | no p ↦
-          let z : k ≡ mostBlocks + (k - mostBlocks) = omega arith in
-          let l = within-means ns (drop moduleWords ws) (k - mostBlocks) (f .1) (marked-later ws (k - mostBlocks) ∙ (rw z at m)) in
-          let q : k / mostBlocks ≡ suc ((k - mostBlocks) / mostBlocks) = omega arith in
-          let r : k % mostBlocks ≡ (k - mostBlocks) % mostBlocks = omega arith in
-          rw (q, r) (let u = l .0 in omega arith, l .1)
-    ]
+    drop-same : k < 32 * w → drop w (marksWith ws k) ≡ drop w ws
+    unfolding marksWith
+    drop-same h = drop-set-lt w ws (k / 32) _ (omega arith)
+
+    take-same : take w (marksWith ws (32 * w + k)) ≡ take w ws
+    unfolding marksWith
+    take-same = take-set-le w ws ((32 * w + k) / 32) _ (omega arith)
+
+    word-later : (32 * w + k) / 32 ≡ w + k / 32
+    word-later = omega arith
+
+    bit-later : (32 * w + k) % 32 ≡ k % 32
+    bit-later = omega arith
+
+    drop-with : drop w (marksWith ws (32 * w + k)) ≡ marksWith (drop w ws) k
+    unfolding marksWith
+    drop-with = rw (word-later, bit-later, drop-set-add w ws (k / 32) (bitOr (getD ws (w + k / 32) 0) (2 ^ (k % 32))), getD-drop w ws (k / 32) 0)
+
+    marked-first : k < 32 * w → isMarked (take w ws) k ≡ isMarked ws k
+    unfolding isMarked
+    marked-first h = rw (getD-take w ws (k / 32) 0 (omega arith))
+
+    marked-later : isMarked (drop w ws) k ≡ isMarked ws (32 * w + k)
+    unfolding isMarked
+    marked-later = rw (word-later, bit-later, getD-drop w ws (k / 32) 0)
+
+  -- clear words keep to any numbers of blocks
+  pub within-fresh : (ns : List ℕ) (m : ℕ) → marksWithin w ns (replicate m 0) ≡ true
+  unfolding marksWithin
+  within-fresh [] m = clear-zero 0 m
+  within-fresh (n ∷ ns) m = let d = drop-clear w m in joint _ _ (clear-take n w m) (rw (d .1) (within-fresh ns (d .0)))
+
+  -- and so do words with one more mark, that of a block
+  pub within-with : (ns ws : List ℕ) (i b : ℕ) → i < length ns → b < getD ns i 0 → b < 32 * w → marksWithin w ns ws ≡ true → marksWithin w ns (marksWith ws (markIn i b)) ≡ true
+  unfolding marksWithin
+  within-with [] ws i b u v h e = absurd (omega arith)
+  within-with (n ∷ ns) ws zero b u v h e =
+      let f = both (clearFrom n (take w ws)) (marksWithin w ns (drop w ws)) e in
+      let p : markIn 0 b ≡ b = omega arith in
+      rw (p, take-with ws b h, drop-same ws b h) (joint _ _ (clear-with n (take w ws) b v (f .0)) (f .1))
+  within-with (n ∷ ns) ws (suc i) b u v h e =
+      let f = both (clearFrom n (take w ws)) (marksWithin w ns (drop w ws)) e in
+      let p : markIn (suc i) b ≡ 32 * w + markIn i b = rw (mul-suc (32 * w) i) (omega arith) in
+      rw (p, take-same ws (markIn i b), drop-with ws (markIn i b)) (joint _ _ (f .0) (within-with ns (drop w ws) i b (omega arith) v h (f .1)))
+
+  -- "MARKS PAST A LAST BLOCK ARE ZERO": a mark that is set is that of a module which there is, and of one of its blocks
+  pub within-means : 0 < w → (ns ws : List ℕ) (k : ℕ) → marksWithin w ns ws ≡ true → isMarked ws k ≡ true → (k / (32 * w) < length ns) × (k % (32 * w) < getD ns (k / (32 * w)) 0)
+  unfolding marksWithin
+  within-means o [] ws k e m = let h = clear-means 0 ws k e m in absurd (omega arith)
+  within-means o (n ∷ ns) ws k e m =
+      let f = both (clearFrom n (take w ws)) (marksWithin w ns (drop w ws)) e in
+      elim (decLt k (32 * w)) [
+        | yes p ↦
+            let l = clear-means n (take w ws) k (f .0) (marked-first ws k p ∙ m) in
+            rw (div-eq-of-lt p, mod-eq-of-lt p) (omega arith, l)
+        | no p ↦
+            let g : 32 * w ≤ k = omega arith in
+            let z : 32 * w + (k - 32 * w) ≡ k = omega arith in
+            let l = within-means o ns (drop w ws) (k - 32 * w) (f .1) (marked-later ws (k - 32 * w) ∙ ap (isMarked ws) z ∙ m) in
+            let q : k / (32 * w) ≡ suc ((k - 32 * w) / (32 * w)) = div-eq-sub-div (omega arith) g ∙ omega arith in
+            rw (q, mod-eq-sub-mod g) (let u = l .0 in omega arith, l .1)
+      ]

@@ -4,7 +4,7 @@ use mathlib.Core.Path.{_≡_, refl, sym, _∙_}
 use mathlib.Core.Bool.{Bool, true, false, not, _&&_}
 use mathlib.Core.List.{List, map}
 use native.Mathlib.Omega.{arith}
-use lib.Dec.{eqb, leb}
+use lib.Dec.{eqb, leb, lit≤}
 use lib.ListN.{length, drop, length-map, length-set, length-replicate}
 use borrow.Author.Tests.{eq-eqb, ne-eqb, eqb-true, leb-true, not-true}
 use Rattle.wire.proofs.Laws.Tests.{both}
@@ -12,7 +12,7 @@ use Rattle.carousel_messages.specs.Limits.{mostModules, mostBlocks, beyond10, t
 use Rattle.carousel_messages.specs.Heard.{Announced, sizesOf, numbersOf}
 use Rattle.carousel_record.specs.declared.Carousel.{Carousel}
 use Rattle.carousel_record.specs.Blocks.{blocksOf}
-use Rattle.carousel_record.specs.Marks.{markWords, markOf, isMarked, marksWith, marksWithin}
+use Rattle.carousel_record.specs.Marks.{moduleWords, markWords, markOf, isMarked, marksWith, marksWithin}
 use Rattle.carousel_record.specs.Record.{Record, recordOf, moduleAt, sums, blockCount, sameNumbers, withinLimits, ruled, allUnused, ruledOf}
 use Rattle.carousel_record.specs.Changes.{afresh, marking}
 use Rattle.carousel_record.proofs.Laws.Tests.{joint}
@@ -29,7 +29,7 @@ pub record Kept (r : Record) : Type 0 where
   pub limits : beyond10 (r .announced .blockSize) (sizesOf (r .announced .modules)) ≡ false
   pub numbers : twice11 (numbersOf (r .announced .modules)) ≡ false
   pub running : r .starts ≡ sums 0 (sizesOf (r .announced .modules))
-  pub placed : marksWithin (countsOf (r .announced)) (r .marks) ≡ true
+  pub placed : marksWithin moduleWords (countsOf (r .announced)) (r .marks) ≡ true
 
 -- the limits, where there is a module
 within : (a : Announced) → 0 < length (a .modules)
@@ -41,7 +41,7 @@ pub kept : (r : Record) → 0 < length (r .announced .modules) → ruled r ≡ t
 unfolding ruled
 kept r some e =
     let a = r .announced in
-    let h = both (eqb (length (r .marks)) markWords && withinLimits a && sameNumbers (r .starts) (sums 0 (sizesOf (a .modules)))) (marksWithin (countsOf a) (r .marks)) e in
+    let h = both (eqb (length (r .marks)) markWords && withinLimits a && sameNumbers (r .starts) (sums 0 (sizesOf (a .modules)))) (marksWithin moduleWords (countsOf a) (r .marks)) e in
     let k = both (eqb (length (r .marks)) markWords && withinLimits a) (sameNumbers (r .starts) (sums 0 (sizesOf (a .modules)))) (h .0) in
     let l = both (eqb (length (r .marks)) markWords) (withinLimits a) (k .0) in
     let m = both (not (beyond10 (a .blockSize) (sizesOf (a .modules)))) (not (twice11 (numbersOf (a .modules)))) (sym (within a some) ∙ l .1) in
@@ -57,7 +57,7 @@ keeps r k =
 -- a record made afresh keeps the rule
 pub fresh-kept : (r : Record) (a : Announced) → beyond10 (a .blockSize) (sizesOf (a .modules)) ≡ false → twice11 (numbersOf (a .modules)) ≡ false → Kept (afresh r a)
 unfolding afresh
-fresh-kept r a l n = record { words = length-replicate {A = ℕ} markWords 0; limits = l; numbers = n; running = refl; placed = within-fresh (countsOf a) markWords }
+fresh-kept r a l n = record { words = length-replicate {A = ℕ} markWords 0; limits = l; numbers = n; running = refl; placed = within-fresh moduleWords (countsOf a) markWords }
 
 module _ (r : Record) (k : Kept r) where
   abbrev a : Announced
@@ -88,13 +88,13 @@ module _ (r : Record) (k : Kept r) where
       limits = k .limits;
       numbers = k .numbers;
       running = k .running;
-      placed = within-with (countsOf a) (r .marks) i b (let c = counts-length in omega arith) (rw (sized (λ z. blocksOf (a .blockSize) z) (a .modules) i u) v) number-small (k .placed);
+      placed = within-with moduleWords (countsOf a) (r .marks) i b (let c = counts-length in omega arith) (rw (sized (λ z. blocksOf (a .blockSize) z) (a .modules) i u) v) number-small (k .placed);
     }
 
   -- "MARKS PAST A LAST BLOCK ARE ZERO": a mark that is set is that of an announced module's block
   pub marks-mean : (m : ℕ) → isMarked (r .marks) m ≡ true → (m / mostBlocks < length (a .modules)) × (m % mostBlocks < blockCount a (m / mostBlocks))
   marks-mean m e =
-      let h = within-means (countsOf a) (r .marks) m (k .placed) e in
+      let h = within-means moduleWords (lit≤ tt) (countsOf a) (r .marks) m (k .placed) e in
       let l = h .0 in
       let c = counts-length in
       let u : m / mostBlocks < length (a .modules) = omega arith in

@@ -8,7 +8,8 @@ use std::os::fd::AsFd;
 
 use baseline::{Fate, Record, Stop, Taken};
 
-/// Bytes of standard input that are read, of the image, and sections that are taken at most.
+/// Bytes of standard input that are read, of the image, and sections that are taken at most. It is less than the
+/// library takes together: an announcement of more is "new", and its blocks are 15 (02, §8).
 const LIMIT: usize = 65_536;
 
 fn main() {

@@ -49,7 +49,7 @@ fn fifteen_image_of_no_bytes_one_short_exact_longer() {
     // The block itself would fit.
     assert_eq!(refused(&held(), &block, &[0; 400]), 15);
     assert_eq!(refused(&held(), &block, &[0; TOGETHER - 1]), 15);
-    for length in [TOGETHER, TOGETHER + 1, 65_536] {
+    for length in [TOGETHER, TOGETHER + 1, 262_144, 262_145] {
         let (mut record, mut image) = (held(), vec![0; length]);
         assert_eq!(record.step(&block, &mut image), Answer::Stored);
     }
@@ -80,6 +80,7 @@ fn sixteen_block_number_and_length() {
     for length in [0, 200, 400] {
         assert_eq!(block(5, 2, 3, length), 16);
         assert_eq!(block(5, 2, 256, length), 16);
+        assert_eq!(block(5, 2, 1_024, length), 16);
         assert_eq!(block(5, 2, 65_535, length), 16);
         // Module 6 divides evenly: no last block of 0 bytes.
         assert_eq!(block(6, 9, 2, length), 16);
@@ -93,10 +94,10 @@ fn stored_goes_to_its_place_and_sets_its_mark_alone() {
     let mut marks = record.marks;
     let mut expected = image.clone();
     for (module, version, number, begin, length, mark) in [
-        (6u16, 9, 1u16, 1_400, 400, 257),
+        (6u16, 9, 1u16, 1_400, 400, 1_025),
         (5, 2, 2, 800, 200, 2),
         (5, 2, 0, 0, 400, 0),
-        (6, 9, 0, 1_000, 400, 256),
+        (6, 9, 0, 1_000, 400, 1_024),
         (5, 2, 1, 400, 400, 1),
     ] {
         let data = vec![(mark % 200) as u8 + 1; length];
@@ -189,7 +190,7 @@ fn hand_out_and_missing_on_empty_and_broken_records() {
     let mut record = Record::empty();
     assert_eq!(record.handout_number(&[], 0), 13);
     assert_eq!(record.missing(0), Missing::Refused(13));
-    record.marks[127] = 1 << 31;
+    record.marks[1_023] = 1 << 31;
     assert_eq!(record.handout_number(&[], 0), 1);
     assert!(record.handout(&[1, 2], 0).is_empty());
     assert_eq!(record.missing(0), Missing::Refused(1));
@@ -201,20 +202,20 @@ fn missing_counts_and_finds_the_lowest_over_all_words() {
     let mut record = announced(&Announcement::new(
         7,
         1,
-        &[(1, 3, 0), (2, 256, 0), (3, 64, 0)],
+        &[(1, 3, 0), (2, 1_024, 0), (3, 64, 0)],
     ));
-    let mut image = vec![0; 323];
+    let mut image = vec![0; 1_091];
     assert_eq!(
         record.missing(2),
         Missing::Lacking {
-            count: 256,
+            count: 1_024,
             lowest: 0
         }
     );
-    for block in 0..256u16 {
+    for block in 0..1_024u16 {
         let bytes = Block::new(7, 2, 0, block, &[block as u8]).bytes();
         assert_eq!(record.step(&bytes, &mut image), Answer::Stored);
-        let expected = match 255 - usize::from(block) {
+        let expected = match 1_023 - usize::from(block) {
             0 => Missing::Whole,
             count => Missing::Lacking {
                 count,
@@ -230,7 +231,8 @@ fn missing_counts_and_finds_the_lowest_over_all_words() {
             lowest: 0
         }
     );
-    assert_eq!(record.handout(&image, 2), (0..=255).collect::<Vec<u8>>());
+    let stored: Vec<u8> = (0..1_024).map(|block| block as u8).collect();
+    assert_eq!(record.handout(&image, 2), stored);
     for block in (0..64u16).rev() {
         let count = usize::from(block) + 1;
         assert_eq!(record.missing(3), Missing::Lacking { count, lowest: 0 });
@@ -241,19 +243,11 @@ fn missing_counts_and_finds_the_lowest_over_all_words() {
 }
 
 #[test]
-fn a_block_number_past_255_never_aliases() {
-    let record = announced(&Announcement::new(7, 1, &[(1, 256, 0), (2, 256, 0)]));
-    let image = vec![0; 512];
-    assert_eq!(
-        refused(&record, &Block::new(7, 1, 0, 256, &[1]).bytes(), &image),
-        16
-    );
-    assert_eq!(
-        refused(
-            &record,
-            &Block::new(7, 1, 0, 0x0100 * 255, &[1]).bytes(),
-            &image
-        ),
-        16
-    );
+fn a_block_number_past_1023_never_aliases() {
+    let record = announced(&Announcement::new(7, 1, &[(1, 1_024, 0), (2, 1_024, 0)]));
+    let image = vec![0; 2_048];
+    for number in [1_024, 1_025, 1_279, 1_280, 2_047, 2_048, 0xFC00, 0xFFFF] {
+        let block = Block::new(7, 1, 0, number, &[1]).bytes();
+        assert_eq!(refused(&record, &block, &image), 16, "{number}");
+    }
 }

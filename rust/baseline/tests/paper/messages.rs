@@ -1,7 +1,7 @@
 //! Refusals 7 to 11.
 
 use crate::made::*;
-use baseline::{Answer, Record};
+use baseline::{Answer, Record, ALL_WORDS};
 
 fn step(section: &[u8]) -> u8 {
     match Record::empty().step(section, &mut []) {
@@ -107,15 +107,15 @@ fn seven_before_ten_and_ten_before_eleven() {
     assert_eq!(step(&announcement_of(&[&content[..], &[0]].concat())), 7);
     assert_eq!(step(&announcement_of(&content)), 10);
     assert_eq!(dii(1, &[(1, 1, 0), (1, 1, 0)]), 11);
-    // A count that runs past the end is 7, also far past sixteen.
-    let mut content = Announcement::new(7, 4, &[(1, 1, 0); 20]).content();
-    content[18..20].copy_from_slice(&21u16.to_be_bytes());
+    // A count that runs past the end is 7, also far past 32.
+    let mut content = Announcement::new(7, 4, &[(1, 1, 0); 36]).content();
+    content[18..20].copy_from_slice(&37u16.to_be_bytes());
     assert_eq!(step(&announcement_of(&content)), 7);
     content[18..20].copy_from_slice(&0xFFFFu16.to_be_bytes());
     assert_eq!(step(&announcement_of(&content)), 7);
-    content[18..20].copy_from_slice(&20u16.to_be_bytes());
+    content[18..20].copy_from_slice(&36u16.to_be_bytes());
     assert_eq!(step(&announcement_of(&content)), 10);
-    // A faulty module past the sixteenth is still 7.
+    // A faulty module past the 32nd is still 7.
     let place = content.len() - 2 - 1;
     content[place] = 3;
     assert_eq!(step(&announcement_of(&content)), 7);
@@ -135,14 +135,15 @@ fn ten_count_of_modules() {
     let modules = |count: u16| (0..count).map(|i| (i, 1, 0)).collect::<Vec<_>>();
     assert_eq!(dii(1, &modules(0)), 10);
     assert_eq!(dii(1, &modules(1)), 0);
-    assert_eq!(dii(1, &modules(16)), 0);
-    assert_eq!(dii(1, &modules(17)), 10);
+    assert_eq!(dii(1, &modules(32)), 0);
+    assert_eq!(dii(1, &modules(33)), 10);
     // As many as one section can frame.
     let most = Announcement::new(7, 1, &modules(506)).bytes();
     assert_eq!(most.len(), 3 + 43 + 8 * 506);
     assert_eq!(step(&most), 10);
-    // 17 with a number twice are 10, never 11.
-    assert_eq!(dii(1, &[(1, 1, 0); 17]), 10);
+    // 33 with a number twice are 10, never 11.
+    assert_eq!(dii(1, &[(1, 1, 0); 33]), 10);
+    assert_eq!(dii(1, &[(1, 1, 0); 32]), 11);
     // No module, and all else as in the empty record, is no "same".
     assert_eq!(step(&Announcement::new::<Announced>(0, 0, &[]).bytes()), 10);
 }
@@ -151,30 +152,28 @@ fn ten_count_of_modules() {
 fn ten_sizes() {
     assert_eq!(dii(400, &[(1, 0, 0)]), 10);
     assert_eq!(dii(400, &[(1, 1, 0), (2, 0, 0)]), 10);
-    assert_eq!(dii(4, &[(1, 1_024, 0)]), 0);
-    assert_eq!(dii(4, &[(1, 1_025, 0)]), 10);
-    assert_eq!(dii(4_066, &[(1, 65_536, 0)]), 0);
-    assert_eq!(dii(4_066, &[(1, 65_537, 0)]), 10);
-    assert_eq!(dii(4_066, &[(1, 256 * 4_066, 0)]), 10);
-    assert_eq!(dii(4_066, &[(1, 256 * 4_066 + 1, 0)]), 10);
+    assert_eq!(dii(4, &[(1, 4_096, 0)]), 0);
+    assert_eq!(dii(4, &[(1, 4_097, 0)]), 10);
+    assert_eq!(dii(4_066, &[(1, 262_144, 0)]), 0);
+    assert_eq!(dii(4_066, &[(1, 262_145, 0)]), 10);
     assert_eq!(dii(4_066, &[(1, u32::MAX, 0)]), 10);
     assert_eq!(dii(4_066, &[(1, u32::MAX, 0), (2, 2, 0)]), 10);
 }
 
 #[test]
 fn ten_sizes_together() {
-    let mut modules: Vec<_> = (0..16).map(|i| (i, 4_096, 0)).collect();
-    assert_eq!(dii(16, &modules), 0);
+    let mut modules: Vec<_> = (0..32).map(|i| (i, 8_192, 0)).collect();
+    assert_eq!(dii(8, &modules), 0);
     modules[3].1 += 1;
-    assert_eq!(dii(17, &modules), 10);
-    modules[9].1 -= 1;
-    assert_eq!(dii(17, &modules), 0);
+    assert_eq!(dii(9, &modules), 10);
+    modules[25].1 -= 1;
+    assert_eq!(dii(9, &modules), 0);
 }
 
 #[test]
 fn eleven_number_twice() {
-    for (first, second) in [(0, 1), (0, 15), (7, 8), (14, 15)] {
-        let mut modules: Vec<_> = (0..16).map(|i| (i * 3, 1, 0)).collect();
+    for (first, second) in [(0, 1), (0, 31), (15, 16), (30, 31)] {
+        let mut modules: Vec<_> = (0..32).map(|i| (i * 3, 1, 0)).collect();
         assert_eq!(dii(4, &modules), 0);
         modules[second].0 = modules[first].0;
         modules[second].2 = 9;
@@ -238,7 +237,7 @@ fn a_new_record_is_as_the_paper_lays_it_out() {
     assert_eq!(record.modules[1].number, 10);
     assert_eq!(record.modules[1].version, 2);
     assert!(record.modules[3..].iter().all(|module| module.size == 0));
-    assert_eq!(record.marks, [0; 128]);
+    assert_eq!(record.marks, [0; ALL_WORDS]);
 }
 
 #[test]

@@ -1,9 +1,12 @@
-//! A slow second reading of the carousel's rules, straight from the paper's table and 02, §6 and §9: every
+//! A slow second reading of the carousel's rules, straight from the paper's table and 02, §6, §8 and §9: every
 //! number is judged by a clause of its own over a section read into loose values, and the lowest that applies
 //! is given.
 
 use crate::made::plain;
-use baseline::{Answer, Module, Record, Refusal};
+use baseline::{Answer, Module, Record, Refusal, BLOCKS, MODULES, MOST_TOGETHER};
+
+/// The bits of a word of marks.
+const BITS: usize = 32;
 
 fn number(bytes: &[u8]) -> u64 {
     bytes
@@ -23,18 +26,15 @@ pub fn is_ruled(record: &Record) -> bool {
             && record.modules.iter().all(zero)
             && record.marks.iter().all(|&word| word == 0);
     }
-    if count > 16 {
+    if count > MODULES {
         return false;
     }
     let size = u64::from(record.block_size);
     let sizes: Vec<u64> = record.modules.iter().map(|m| u64::from(m.size)).collect();
-    let in_limits = (1..=4_066).contains(&size)
-        && sizes[..count].iter().all(|&z| z > 0 && z <= 256 * size)
-        && sizes[..count].iter().sum::<u64>() <= 65_536;
-    if !in_limits {
+    if !(1..=4_066).contains(&size) || !are_in_limits(&sizes[..count], size) {
         return false;
     }
-    for i in 0..16 {
+    for i in 0..MODULES {
         let module = &record.modules[i];
         if i >= count && !zero(module) {
             return false;
@@ -47,19 +47,37 @@ pub fn is_ruled(record: &Record) -> bool {
                 return false;
             }
         }
-        for b in 0..256u64 {
-            let has_block = i < count && b * size < sizes[i];
-            if !has_block && is_marked(record, i, b as usize) {
-                return false;
-            }
-        }
     }
-    true
+    let mut marked = all_marked(record);
+    marked.all(|(place, block)| place < count && block as u64 * size < sizes[place])
+}
+
+/// The limits of 10 for sizes: each, and all together.
+fn are_in_limits(sizes: &[u64], block_size: u64) -> bool {
+    let most = u64::from(BLOCKS) * block_size;
+    sizes.iter().all(|size| (1..=most).contains(size))
+        && sizes.iter().sum::<u64>() <= u64::from(MOST_TOGETHER)
+}
+
+/// Each mark that is set, as place and block.
+fn all_marked(record: &Record) -> impl Iterator<Item = (usize, usize)> + '_ {
+    let words = record.marks.iter().enumerate();
+    words
+        .filter(|(_, &word)| word != 0)
+        .flat_map(|(at, _)| BITS * at..BITS * (at + 1))
+        .map(|mark| (mark / BLOCKS as usize, mark % BLOCKS as usize))
+        .filter(|&(place, block)| is_marked(record, place, block))
+}
+
+/// The word and the bit of a mark.
+pub fn mark(place: usize, block: usize) -> (usize, u32) {
+    let mark = BLOCKS as usize * place + block;
+    (mark / BITS, 1 << (mark % BITS))
 }
 
 pub fn is_marked(record: &Record, place: usize, block: usize) -> bool {
-    let mark = 256 * place + block;
-    record.marks[mark / 32] >> (mark % 32) & 1 == 1
+    let (word, bit) = mark(place, block);
+    record.marks[word] & bit != 0
 }
 
 /// The tables of a rule, and its largest L.
@@ -148,13 +166,12 @@ fn announce(record: &Record, content: &[u8], image: &[u8]) -> (Answer, Record, V
     };
     let download = number(&content[..4]) as u32;
     let block_size = number(&content[4..6]);
-    let sizes = || modules.iter().map(|module| u64::from(module.size));
+    let sizes: Vec<u64> = modules.iter().map(|m| u64::from(m.size)).collect();
     if block_size == 0
         || block_size > 4_066
         || modules.is_empty()
-        || modules.len() > 16
-        || sizes().any(|size| size == 0 || size > 256 * block_size)
-        || sizes().sum::<u64>() > 65_536
+        || modules.len() > MODULES
+        || !are_in_limits(&sizes, block_size)
     {
         return refused(10);
     }
@@ -169,7 +186,7 @@ fn announce(record: &Record, content: &[u8], image: &[u8]) -> (Answer, Record, V
     fresh.count = modules.len() as u16;
     for (i, module) in modules.iter().enumerate() {
         fresh.modules[i] = *module;
-        fresh.modules[i].start = sizes().take(i).sum::<u64>() as u32;
+        fresh.modules[i].start = sizes[..i].iter().sum::<u64>() as u32;
     }
     let same = record.download == download
         && u64::from(record.block_size) == block_size
@@ -238,8 +255,8 @@ fn store(
         };
     }
     let (mut record, mut image) = (*record, image.to_vec());
-    let mark = 256 * place + block as usize;
-    record.marks[mark / 32] |= 1 << (mark % 32);
+    let (word, bit) = mark(place, block as usize);
+    record.marks[word] |= bit;
     image[begin..begin + data.len()].copy_from_slice(data);
     (Answer::Stored, record, image)
 }

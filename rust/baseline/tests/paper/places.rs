@@ -7,7 +7,7 @@ use std::process::{Command, Stdio};
 use crate::made::*;
 use crate::model::{broken, Rule, APPLICATION, CAROUSEL};
 use crate::random::{self, Dice};
-use crate::walks::print;
+use crate::walks::{print, PROGRAM};
 use baseline::{read, read_all, Answer, Fate, Record, Refusal, Stop, Taken};
 
 /// A call that checks a section, the table it is asked about, and its rule.
@@ -279,7 +279,7 @@ fn no_other_refusal_has_a_place() {
         assert_eq!(taken, Taken::Section { length, fate });
     }
     assert_eq!(record.step(&first.bytes(), &mut image[1..]), plain(15));
-    record.count = 17;
+    record.count = 33;
     // Also where 2 to 6 would apply.
     for section in [&first.bytes()[..], &[], &[0x3B, 0xB0], &[0; 3]] {
         assert_eq!(record.step(section, &mut image), plain(1));
@@ -439,7 +439,7 @@ fn take_passes_the_place_through() {
 }
 
 /// What the program itself prints for this input.
-fn program(stretch: &[u8]) -> String {
+pub fn program(stretch: &[u8]) -> String {
     let mut child = Command::new(env!("CARGO_BIN_EXE_nebosvar_baseline"))
         .stdin(Stdio::piped())
         .stdout(Stdio::piped())
@@ -511,7 +511,7 @@ fn the_program_prints_what_take_answers() {
                 stretch.extend(section);
             }
         }
-        stretch.truncate(65_536);
+        stretch.truncate(PROGRAM);
         let printed = program(&stretch);
         assert_eq!(printed, print(&stretch));
         text += &printed;

@@ -3,6 +3,7 @@
 use crate::made::*;
 use crate::model;
 use baseline::{read, read_all, Answer, Fate, Missing, Passage, Record, Stop, Taken};
+use baseline::{ALL_WORDS, MODULES};
 
 pub struct Dice(pub u64);
 
@@ -39,10 +40,10 @@ fn usual() -> Announcement {
 }
 
 fn dii(dice: &mut Dice) -> Vec<u8> {
-    let modules: Vec<_> = (0..dice.pick(&[0, 1, 2, 2, 2, 3, 16, 17]))
+    let modules: Vec<_> = (0..dice.pick(&[0, 1, 2, 2, 2, 3, 32, 33]))
         .map(|i| {
             let number = if dice.one_in(20) { 1 } else { i + 1 };
-            let size = dice.pick(&[1, 8, 9, 12, 65_536, 0]);
+            let size = dice.pick(&[1, 8, 9, 12, 262_144, 0]);
             (number, size, dice.pick(&[0, 0, 33]))
         })
         .collect();
@@ -63,7 +64,7 @@ fn dii(dice: &mut Dice) -> Vec<u8> {
 
 fn ddb(dice: &mut Dice) -> Vec<u8> {
     let data = vec![dice.pick(&[1, 1, 1, 2]); dice.pick(&[4, 4, 4, 4, 1, 1, 0, 5])];
-    let block = dice.pick(&[0, 1, 2, 0, 1, 2, 3, 256]);
+    let block = dice.pick(&[0, 1, 2, 0, 1, 2, 3, 256, 1_024]);
     // 0 and 32, 1 and 33 look alike in a section header.
     let (module, version) = dice.pick(&[(1, 0), (1, 0), (2, 33), (2, 33), (3, 0)]);
     let version = if dice.one_in(5) {
@@ -219,24 +220,24 @@ fn the_rule_agrees_with_the_model() {
     let mut dice = Dice(0x0DDB_A11C_0FFE_E123);
     let (mut kept, mut broken) = (0, 0);
     for _ in 0..4_000 {
-        let sizes = dice.pick(&[&[9, 8][..], &[1], &[1_024, 4, 1, 600], &[128; 16]]);
+        let sizes = dice.pick(&[&[9, 8][..], &[1], &[4_096, 4, 1, 600], &[128; MODULES]]);
         let modules: Vec<_> = (1..).zip(sizes).map(|(i, &size)| (i, size, 0)).collect();
         let mut record = announced(&Announcement::new(7, 4, &modules));
         if dice.one_in(5) {
             record = Record::empty();
         }
         for _ in 0..=dice.below(2) {
-            let place = dice.below(16);
+            let place = dice.below(MODULES);
             let small = dice.below(6) as u32;
             match dice.below(9) {
                 0 => record.download = small,
                 1 => record.block_size = small as u16,
-                2 => record.count = dice.pick(&[0, 1, 2, 3, 15, 16, 17, 0x0101]),
+                2 => record.count = dice.pick(&[0, 1, 2, 3, 31, 32, 33, 0x0101]),
                 3 => record.modules[place].number = small as u16,
-                4 => record.modules[place].size = dice.pick(&[0, 1, 8, 9, 65_536, u32::MAX]),
+                4 => record.modules[place].size = dice.pick(&[0, 1, 8, 9, 262_144, u32::MAX]),
                 5 => record.modules[place].version = small as u8,
                 6 => record.modules[place].start = dice.pick(&[0, 9, 1]),
-                7 => record.marks[dice.below(128)] ^= 1 << dice.below(32),
+                7 => record.marks[dice.below(ALL_WORDS)] ^= 1 << dice.below(32),
                 _ => record.marks[0] ^= 1 << dice.below(4),
             }
         }
@@ -254,8 +255,8 @@ fn the_rule_agrees_with_the_model() {
 fn hand_out_and_missing_agree_with_the_marks() {
     let mut dice = Dice(0xFEED_5EED_0BAD_F00D);
     for _ in 0..2_000 {
-        let size = 1 + dice.below(600) as u32;
-        let block_size = dice.pick(&[3, 4, 7, 100, 600]);
+        let size = 1 + dice.below(1_024) as u32;
+        let block_size = dice.pick(&[1, 1, 3, 4, 7, 100, 1_024]);
         let mut record = announced(&Announcement::new(
             7,
             block_size,
@@ -265,7 +266,8 @@ fn hand_out_and_missing_agree_with_the_marks() {
         let full = dice.one_in(3);
         for block in 0..blocks {
             if full || !dice.one_in(20) {
-                record.marks[8 + block / 32] |= 1 << (block % 32);
+                let (word, bit) = model::mark(1, block);
+                record.marks[word] |= bit;
             }
         }
         let clear: Vec<_> = (0..blocks)

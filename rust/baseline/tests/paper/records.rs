@@ -1,7 +1,7 @@
 //! The record's rule, broken in each way it names.
 
 use crate::made::*;
-use baseline::{Missing, Record, Stop, Taken};
+use baseline::{Missing, Record, Stop, Taken, ALL_WORDS, WORDS};
 
 fn held() -> Record {
     announced(&Announcement::new(7, 400, &[(5, 1_000, 2), (6, 800, 9)]))
@@ -48,7 +48,7 @@ fn the_empty_record_is_ruled_and_all_zero() {
         (record.download, record.block_size, record.count),
         (0, 0, 0)
     );
-    assert_eq!(record.marks, [0; 128]);
+    assert_eq!(record.marks, [0; ALL_WORDS]);
 }
 
 #[test]
@@ -58,11 +58,11 @@ fn with_none_all_is_zero() {
         |record| record.block_size = 1,
         |record| record.modules[0].number = 1,
         |record| record.modules[0].size = 1,
-        |record| record.modules[15].version = 1,
-        |record| record.modules[15].start = 1,
+        |record| record.modules[31].version = 1,
+        |record| record.modules[31].start = 1,
         |record| record.marks[0] = 1,
-        |record| record.marks[64] = 1 << 31,
-        |record| record.marks[127] = 1,
+        |record| record.marks[512] = 1 << 31,
+        |record| record.marks[1_023] = 1,
     ];
     for change in changes {
         let mut record = Record::empty();
@@ -72,14 +72,14 @@ fn with_none_all_is_zero() {
 }
 
 #[test]
-fn at_most_sixteen_modules() {
-    let sixteen: Vec<_> = (1..=16).map(|i| (i, 1, 0)).collect();
-    let mut record = announced(&Announcement::new(7, 4, &sixteen));
-    for count in [17, 18, 255, 256, 272, 65_535] {
+fn at_most_32_modules() {
+    let most: Vec<_> = (1..=32).map(|i| (i, 1, 0)).collect();
+    let mut record = announced(&Announcement::new(7, 4, &most));
+    for count in [31, 33, 34, 64, 255, 256, 288, 65_535] {
         record.count = count;
         is_broken(&record);
     }
-    record.count = 16;
+    record.count = 32;
     assert!(record.is_ruled());
 }
 
@@ -87,13 +87,16 @@ fn at_most_sixteen_modules() {
 fn limits_of_ten_hold() {
     breaks(|record| record.block_size = 0);
     breaks(|record| record.block_size = 4_067);
-    breaks(|record| record.block_size = 3); // 1,000 over 256 × 3
-    keeps(|record| record.block_size = 4);
+    keeps(|record| record.block_size = 1);
+    keeps(|record| (record.block_size, record.modules[1].size) = (1, 1_024));
+    breaks(|record| (record.block_size, record.modules[1].size) = (1, 1_025));
+    keeps(|record| (record.block_size, record.modules[1].size) = (3, 3_072));
+    breaks(|record| (record.block_size, record.modules[1].size) = (3, 3_073));
     keeps(|record| record.block_size = 4_066);
     breaks(|record| record.modules[1].size = 0);
-    keeps(|record| record.modules[1].size = 65_536 - 1_000);
-    breaks(|record| record.modules[1].size = 65_536 - 999);
-    breaks(|record| record.modules[1].size = 65_537);
+    keeps(|record| record.modules[1].size = 262_144 - 1_000);
+    breaks(|record| record.modules[1].size = 262_144 - 999);
+    breaks(|record| record.modules[1].size = 262_145);
     breaks(|record| record.modules[1].size = u32::MAX);
     breaks(|record| record.modules[1].size = u32::MAX - 999);
     breaks(|record| record.modules[0].size = 0);
@@ -121,13 +124,13 @@ fn starts_are_running_sums() {
 fn unused_entries_are_zero() {
     breaks(|record| record.count = 1);
     breaks(|record| record.count = 3);
-    for place in [2, 9, 15] {
+    for place in [2, 17, 31] {
         breaks(|record| record.modules[place].number = 1);
         breaks(|record| record.modules[place].size = 1);
         breaks(|record| record.modules[place].version = 1);
         breaks(|record| record.modules[place].start = 1);
-        breaks(|record| record.marks[8 * place] = 1);
-        breaks(|record| record.marks[8 * place + 7] = 1 << 31);
+        breaks(|record| record.marks[WORDS * place] = 1);
+        breaks(|record| record.marks[WORDS * place + WORDS - 1] = 1 << 31);
     }
     // A last entry that looks unused, but for the count.
     breaks(|record| record.modules[1].size = 0);
@@ -137,22 +140,22 @@ fn unused_entries_are_zero() {
 fn marks_past_a_last_block_are_zero() {
     // Three blocks and two.
     keeps(|record| record.marks[0] = 0b111);
-    keeps(|record| record.marks[8] = 0b11);
-    for mark in 3..256 {
+    keeps(|record| record.marks[WORDS] = 0b11);
+    for mark in 3..1_024 {
         breaks(|record| record.marks[mark / 32] = 1 << (mark % 32));
     }
-    for mark in 2..256 {
-        breaks(|record| record.marks[8 + mark / 32] = 1 << (mark % 32));
+    for mark in 2..1_024 {
+        breaks(|record| record.marks[WORDS + mark / 32] = 1 << (mark % 32));
     }
-    for blocks in [1, 31, 32, 33, 63, 64, 65, 255, 256] {
+    for blocks in [1, 31, 32, 33, 64, 255, 256, 257, 511, 768, 1_023, 1_024] {
         let record = announced(&Announcement::new(
             7,
             2,
             &[(1, 1, 0), (2, 2 * blocks - 1, 0)],
         ));
-        for mark in 0..256 {
+        for mark in 0..1_024 {
             let mut marked = record;
-            marked.marks[8 + mark / 32] = 1 << (mark % 32);
+            marked.marks[WORDS + mark / 32] = 1 << (mark % 32);
             assert_eq!(marked.is_ruled(), mark < blocks as usize);
         }
     }

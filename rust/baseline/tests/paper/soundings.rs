@@ -1,4 +1,4 @@
-//! The paper's soundings, in its order.
+//! The paper's soundings, in its order, moved by 02, §8.
 
 use crate::made::*;
 use baseline::table::{code_class, number_class, CodeClass, NumberClass};
@@ -60,14 +60,14 @@ fn size_65536_block_size_4066() {
 
 #[test]
 fn block_size_1() {
-    assert_eq!(dii(1, &[(1, 256, 0)]), Answer::New);
-    assert_eq!(dii(1, &[(1, 257, 0)]), plain(10));
+    assert_eq!(dii(1, &[(1, 1_024, 0)]), Answer::New);
+    assert_eq!(dii(1, &[(1, 1_025, 0)]), plain(10));
 }
 
 #[test]
 fn sizes_together() {
-    assert_eq!(dii(400, &[(1, 65_535, 0), (2, 1, 0)]), Answer::New);
-    assert_eq!(dii(400, &[(1, 65_536, 0), (2, 1, 0)]), plain(10));
+    assert_eq!(dii(400, &[(1, 262_143, 0), (2, 1, 0)]), Answer::New);
+    assert_eq!(dii(400, &[(1, 262_144, 0), (2, 1, 0)]), plain(10));
 }
 
 #[test]

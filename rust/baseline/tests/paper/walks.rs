@@ -4,11 +4,14 @@ use crate::made::*;
 use baseline::{Fate, Passage, Record, Refusal, Stop, Taken};
 use std::fmt::Write;
 
+/// The program's own limit, for its input, its image and its budget.
+pub const PROGRAM: usize = 65_536;
+
 /// What the program prints, by the request's words; `places` asks the program itself.
 pub fn print(stretch: &[u8]) -> String {
     let mut record = Record::empty();
-    let mut image = vec![0; 65_536];
-    let (mut at, mut index, mut budget) = (0, 0, 65_536);
+    let mut image = vec![0; PROGRAM];
+    let (mut at, mut index, mut budget) = (0, 0, PROGRAM);
     let mut text = String::from("index,answer,kind,place\n");
     loop {
         match record.take(&stretch[at..], &mut image, budget) {

@@ -19,8 +19,8 @@ use Rattle.carousel_record.proofs.rule.is_in_place.Tie as tie
 abbrev Inv-loop : tie.InvT-loop
 Inv-loop c n ms words i₀ i =
     (i ≤ n)
-    × (marksWithin (map (λ z. blocksOf (c .«block_size») z) (sizesOf (drop i (map listedIn (take n ms))))) (drop (moduleWords * i) words)
-    ≡ marksWithin (map (λ z. blocksOf (c .«block_size») z) (sizesOf (map listedIn (take n ms)))) words)
+    × (marksWithin moduleWords (map (λ z. blocksOf (c .«block_size») z) (sizesOf (drop i (map listedIn (take n ms))))) (drop (moduleWords * i) words)
+    ≡ marksWithin moduleWords (map (λ z. blocksOf (c .«block_size») z) (sizesOf (map listedIn (take n ms)))) words)
 
 abbrev μ-loop : tie.MeasureT-loop
 μ-loop c n ms words i₀ i = n - i

@@ -8,7 +8,7 @@ use lib.ListN.{length, take, length-map}
 use Rattle.carousel_messages.specs.Limits.{mostModules}
 use Rattle.carousel_record.specs.declared.Carousel.{Carousel}
 use Rattle.carousel_record.specs.Blocks.{blocksOf}
-use Rattle.carousel_record.specs.Marks.{markWords, marksWithin}
+use Rattle.carousel_record.specs.Marks.{moduleWords, markWords, marksWithin}
 use Rattle.carousel_messages.specs.Heard.{sizesOf}
 use Rattle.carousel_record.specs.Record.{announcedBy, startsBy, listedIn, startIn, sums, sameNumbers, withinLimits, ruled, ruledOf}
 use borrow.Author.Needs.{needs}
@@ -20,7 +20,7 @@ abbrev running : Carousel → Bool
 running c = sameNumbers (map startIn (take (c .count) (c .modules))) (sums 0 (sizesOf (map listedIn (take (c .count) (c .modules)))))
 
 abbrev placed : Carousel → Bool
-placed c = marksWithin (map (λ z. blocksOf (c .«block_size») z) (sizesOf (announcedBy c .modules))) (c .marks)
+placed c = marksWithin moduleWords (map (λ z. blocksOf (c .«block_size») z) (sizesOf (announcedBy c .modules))) (c .marks)
 
 all-words : (c : tie.Start) → length (c .args .c .marks) ≡ markWords
 all-words c = sym (length-map (c .args .c .marks) _) ∙ c .good .0 .1 .1 .1 .1 .1 .1 .0 .1 .0 .1
