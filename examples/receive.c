@@ -12,7 +12,10 @@
 static const char *const kinds[] = {"none", "table", "new", "same", "stored", "repeated"};
 static const char *const stops[] = {"taken", "end", "stuffing", "short", "budget", "state"};
 
-static uint8_t stretch[65536], image[NEBOSVAR_MOST_BYTES];
+/* What the paper's program reads, and its image. With an image of NEBOSVAR_MOST_BYTES no block would be refused with 15. */
+enum { READ = 65536, IMAGE = 65536 };
+
+static uint8_t stretch[READ], image[IMAGE];
 
 static size_t read_all(void)
 {

@@ -32,7 +32,7 @@ enum {
     NEBOSVAR_MALFORMED = 7,                  /* a length or fixed field inside does not fit, bytes are left over, or known contents malformed */
     NEBOSVAR_BAD_MESSAGE = 8,                /* first two message bytes or message number not as in the paper */
     NEBOSVAR_BAD_BLOCK_HEADER = 9,           /* DDB: extension is not the module number, or section number is not block number mod 256; section version isn't the module version mod 32 */
-    NEBOSVAR_BEYOND_LIMITS = 10,             /* DII: blockSize 0 or over 4,066; 0 or over 16 modules; a size 0 or over 256 * blockSize; sizes over 65,536 together */
+    NEBOSVAR_BEYOND_LIMITS = 10,             /* DII: blockSize 0 or over 4,066; 0 or over 32 modules; a size 0 or over 1,024 * blockSize; sizes over 262,144 together */
     NEBOSVAR_MODULE_TWICE = 11,              /* DII: module number twice */
     NEBOSVAR_NOT_ANNOUNCED = 12,             /* DDB: no announcement, or downloadId differs */
     NEBOSVAR_NO_MODULE = 13,                 /* module not announced */
@@ -81,11 +81,11 @@ enum {
 
 enum { /* limits */
     NEBOSVAR_LARGEST_BLOCK = 4066,
-    NEBOSVAR_MOST_MODULES = 16,
-    NEBOSVAR_MOST_BLOCKS = 256,  /* of a module */
-    NEBOSVAR_MOST_BYTES = 65536, /* of all modules together */
-    NEBOSVAR_MODULE_WORDS = 8,   /* of marks, for each module */
-    NEBOSVAR_MARK_WORDS = 128    /* of marks, for all */
+    NEBOSVAR_MOST_MODULES = 32,
+    NEBOSVAR_MOST_BLOCKS = 1024,                                        /* of a module */
+    NEBOSVAR_MOST_BYTES = 262144,                                       /* of all modules together: an image of so many is enough for every announcement */
+    NEBOSVAR_MODULE_WORDS = NEBOSVAR_MOST_BLOCKS / 32,                  /* of marks, for each module: 32 */
+    NEBOSVAR_MARK_WORDS = NEBOSVAR_MOST_MODULES * NEBOSVAR_MODULE_WORDS /* of marks, for all: 1,024 */
 };
 
 typedef struct {
@@ -95,8 +95,9 @@ typedef struct {
     uint32_t start; /* of its part in the image */
 } nebosvar_module;
 
-/* What was announced, and which blocks have come: mark 256 * place + block, 32 to a word, lowest bit first.
- * It may be copied, kept and lent again; its rule is looked at in every call. */
+/* What was announced, and which blocks have come: mark 1,024 * place + block, 32 to a word, lowest bit first.
+ * It may be copied, kept and lent again; its rule is looked at in every call. It is a struct of 4.6 KB (4,616 bytes): where a stack
+ * is small, keep it elsewhere, and pass it on by its address. */
 typedef struct {
     uint32_t download;
     uint16_t block_size;
@@ -140,7 +141,7 @@ typedef struct {
     uint8_t refusal;
 } nebosvar_lack;
 
-/* The record that one starts with: nothing announced. */
+/* The record that one starts with: nothing announced. It is answered by value, so all of its 4.6 KB are copied; once is enough. */
 nebosvar_record nebosvar_start(void);
 
 /* One section of the carousel (tables 0x3B, 0x3C). */

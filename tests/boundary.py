@@ -211,7 +211,7 @@ FIELD = re.compile(r"(?P<type>\w+) (?P<name>\w+)(?:\[(?P<count>\w+)\])?;")
 CALL = re.compile(r"^(\w+) (nebosvar_\w+)\((?P<inside>.*?)\);", re.M | re.S)
 PARAMETER = re.compile(r"(?P<type>(?:const )?\w+ \*?)(?P<name>\w+)(?=,|$)")
 ENUM = re.compile(r"enum \{(?P<inside>.*?)\}", re.S)
-CONSTANT = re.compile(r"NEBOSVAR_(?P<name>\w+) = (?P<value>\d+)")
+CONSTANT = re.compile(r"NEBOSVAR_(?P<name>\w+) = (?P<value>\d+|NEBOSVAR_\w+ [*/] (?:\d+|NEBOSVAR_\w+))(?=,|\s|$)")
 
 
 def header_field(m, numbers):
@@ -220,7 +220,8 @@ def header_field(m, numbers):
         assert int(m["count"]) == len(ARRAYS[m["name"]]), m[0]
         return [(n, type_, 1) for n in ARRAYS[m["name"]]]
     count = m["count"] or "1"
-    return [(m["name"], type_, int(numbers.get(count.removeprefix("NEBOSVAR_"), count)))]
+    count = numbers.get(count.removeprefix("NEBOSVAR_"), count)
+    return [(m["name"], type_, int(count) if str(count).isdecimal() else count)]
 
 
 def header_parameter(m):
@@ -237,11 +238,31 @@ def unread(text):
     yield re.sub(r"^#.*$|extern \"C\" \{|^\}$", "", rest, flags=re.M)
 
 
+def header_number(value, numbers):
+    """A constant's number. C reads downwards, so what follows from others follows from those above it; else it is told as it stands."""
+    try:
+        return eval(value.replace("NEBOSVAR_", "").replace("/", "//"), {}, numbers)
+    except NameError:
+        return value
+
+
+def header_constants(text):
+    """By enum; and the numbers of all."""
+    enums, numbers = [], {}
+    for enum in ENUM.finditer(text):
+        enums.append([])
+        for m in CONSTANT.finditer(enum["inside"]):
+            number = header_number(m["value"], numbers)
+            enums[-1].append((m["name"], number))
+            if number != m["value"]:
+                numbers[m["name"]] = number
+    return enums, numbers
+
+
 def header(raw):
     text = blank(raw)
     left = [u for u in unread(text) if u.strip(" \n,;")]
-    constants = [[(m["name"], int(m["value"])) for m in CONSTANT.finditer(e["inside"])] for e in ENUM.finditer(text)]
-    numbers = dict(c for e in constants for c in e)
+    constants, numbers = header_constants(text)
     constants += [[(name, 2**64 - 1 if value == "SIZE_MAX" else value)] for name, value in re.findall(r"^#define (?:NEBOSVAR_)?(\w+) (.+)$", text, re.M)]
     structs = {s[2]: [f for m in FIELD.finditer(s["inside"]) for f in header_field(m, numbers)] for s in STRUCT.finditer(text)}
     calls = {c[2]: ([header_parameter(m) for m in PARAMETER.finditer(c["inside"])], c[1]) for c in CALL.finditer(text)}
@@ -294,7 +315,16 @@ def others(raw):
         ("    uint8_t tag;\n", "    uint8_t tag;\n    uint8_t extra;\n"),
         ("    NEBOSVAR_CLASS_OTHER = 3,\n", ""),
         ("    NEBOSVAR_CLASS_OTHER = 3,\n", "    NEBOSVAR_CLASS_OTHER = 3,\n    NEBOSVAR_CLASS_MORE = 5,\n"),
-        ("nebosvar_module modules[NEBOSVAR_MOST_MODULES]", "nebosvar_module modules[NEBOSVAR_MODULE_WORDS]"),
+        ("nebosvar_module modules[NEBOSVAR_MOST_MODULES]", "nebosvar_module modules[NEBOSVAR_MARK_WORDS]"),
+        ("uint32_t marks[NEBOSVAR_MARK_WORDS]", "uint32_t marks[NEBOSVAR_MODULE_WORDS]"),
+        ("NEBOSVAR_MOST_BLOCKS / 32", "NEBOSVAR_MOST_BLOCKS / 16"),
+        ("NEBOSVAR_MOST_BLOCKS / 32", "NEBOSVAR_MOST_BYTES / 32"),
+        ("NEBOSVAR_MOST_MODULES * NEBOSVAR_MODULE_WORDS", "NEBOSVAR_MOST_BLOCKS * NEBOSVAR_MODULE_WORDS"),
+        ("NEBOSVAR_MOST_MODULES * NEBOSVAR_MODULE_WORDS", "NEBOSVAR_MOST_MODULES * NEBOSVAR_MORE_WORDS"),
+        ("NEBOSVAR_MOST_BLOCKS = 1024,", "NEBOSVAR_MOST_BLOCKS = 256,"),
+        ("NEBOSVAR_MOST_MODULES = 32,", "NEBOSVAR_MOST_MODULES = 16,"),
+        ("NEBOSVAR_MOST_BYTES = 262144,", "NEBOSVAR_MOST_BYTES = 65536,"),
+        ("a size 0 or over 1,024 * blockSize", "a size 0 or over 256 * blockSize"),
         ("uint8_t language[3];", "uint8_t language[3], spare;"),
         ("    uint8_t bound;\n", "    uint8_t bound : 1;\n"),
         ("uint8_t *image, size_t room, size_t budget);\n\n/* Where", "uint8_t *image, size_t room, size_t budget, ...);\n\n/* Where"),
@@ -335,15 +365,24 @@ def rust_type(t):
     return (pointer or "") + (snake(name) if name[0].isupper() else name)
 
 
+def rust_limits():
+    """The limits as the Rust crate gives them, in its order; one may follow from those above it."""
+    numbers = {}
+    for name, value in re.findall(r"^pub const (\w+): usize = ([^;]+);", (RUST / "limits.rs").read_text(), re.M):
+        numbers[name] = eval(value.replace("/", "//"), {}, numbers)
+    return numbers
+
+
 def rust():
     """The structs and calls of the Rust crate's declarations."""
+    numbers = rust_limits()
     text = "".join(blank((RUST / f).read_text()) for f in ("ffi.rs", "record.rs", "drift.rs"))
     structs = {}
     for name, inside in re.findall(r"#\[repr\(C\)\][^{]*pub struct (\w+) \{(.*?)\}", text, re.S):
         fields = structs[snake(name)] = []
         for n, t in re.findall(r"pub (\w+): ([^,\n]+),", inside):
-            one, count = re.fullmatch(r"\[?(\w+)(?:; (\d+)\])?", t).groups()
-            fields += [(m, one, 1) for m in ARRAYS[n]] if n in ARRAYS else [(n, rust_type(one), int(count or 1))]
+            one, count = re.fullmatch(r"\[?(\w+)(?:; (\w+)\])?", t).groups()
+            fields += [(m, one, 1) for m in ARRAYS[n]] if n in ARRAYS else [(n, rust_type(one), numbers.get(count) or int(count or 1))]
     calls = {}
     for name, parameters, answer in re.findall(r"pub fn (nebosvar_\w+)\((.*?)\) -> (\w+);", text, re.S):
         calls[name] = [(n, rust_type(t)) for n, t in re.findall(r"(\w+): ([^,\n]+?)(?=,|$)", parameters)], rust_type(answer)

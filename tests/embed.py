@@ -46,9 +46,13 @@ def compare_rust(numbers):
         named = {n: k for n, k in numbers.items() if n.split("_")[0] in enums and n != "KIND_NONE"}
         assert set(told) == set(named.items()), set(told) ^ set(named.items())
     assert boundary.rust_places() == {n: numbers[n] for n in ("COMMON", "NOWHERE")}, boundary.rust_places()
+    assert list(boundary.rust_limits().items()) == list(boundary.limits().items()), (boundary.rust_limits(), boundary.limits())
     words, printed = boundary.short_words(), boundary.rust_words()
     assert len(words) == 28 and words == printed, set(words.items()) ^ set(printed.items())
-    print("embed.py: the Rust crate has the same structs and calls, the same number for each of %d cases, and the same words for %d refusals" % (len(set(taken)), len(words)))
+    print(
+        "embed.py: the Rust crate has the same structs and calls, the same number for each of %d cases, the same %d limits, and the same words for %d refusals"
+        % (len(set(taken)), len(boundary.rust_limits()), len(words))
+    )
 
 
 def compare_readme():

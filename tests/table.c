@@ -1,11 +1,19 @@
 /* What `inspect` prints (its lines: tests/test_inspect.py), over the archive: all that can be asked of each table by every call that
  * reads one, and of the record at the end. What no line shows is checked beside it; a fault is told, and ends the program with 1.
  * tests/embed.py compiles it and compares what it prints. */
+#include <stddef.h>
 #include <stdio.h>
 #include <stdlib.h>
 #include <unistd.h>
 
 #include "nebosvar.h"
+
+/* The record as the archive has it: 8 bytes, 32 entries of 16, and 1,024 words of marks. */
+_Static_assert(NEBOSVAR_MODULE_WORDS == 32 && NEBOSVAR_MARK_WORDS == 1024, "words of marks");
+_Static_assert(sizeof(nebosvar_module) == 16, "an entry");
+_Static_assert(offsetof(nebosvar_record, modules) == 8, "entries behind the numbers");
+_Static_assert(offsetof(nebosvar_record, marks) == 520, "marks behind the entries");
+_Static_assert(sizeof(nebosvar_record) == 4616, "nothing behind the marks");
 
 static const char *const kinds[] = {
     [NEBOSVAR_KIND_NONE] = "none", [NEBOSVAR_KIND_TABLE] = "table",   [NEBOSVAR_KIND_NEW] = "new",
@@ -27,7 +35,10 @@ static const char *const found[] = {
     [NEBOSVAR_FOUND_OWN] = "own", [NEBOSVAR_FOUND_COMMON] = "common", [NEBOSVAR_FOUND_UNRESOLVED] = "unresolved",
 };
 
-static uint8_t stretch[65536], image[NEBOSVAR_MOST_BYTES];
+/* What `inspect` reads, and its image. The program keeps to 65,536 bytes of each; a record's sizes together may be more, and are 15 then. */
+enum { READ = 65536, IMAGE = 65536 };
+
+static uint8_t stretch[READ], image[IMAGE];
 
 /* The section that is read. */
 static const uint8_t *section;

@@ -47,6 +47,9 @@ pub fn is_clear_from(words: &[u32], n: usize) -> bool
     let mut left = n;
     let mut i: usize = 0;
     while i < words.len() {
+        if left == 0 {
+            return is_zero(&words[i..]);
+        }
         if !is_word_clear(words[i], left) {
             return false;
         }
@@ -54,6 +57,19 @@ pub fn is_clear_from(words: &[u32], n: usize) -> bool
         i += 1;
     }
     true
+}
+
+// Whether no mark is set. Without an early return, so that it becomes vector code: the rule looks at most words this way.
+fn is_zero(words: &[u32]) -> bool
+    ensures { λ r. ⌜ r ≡ clearFrom 0 (now (words .entry)) ⌝ }
+{
+    let mut all: u32 = 0;
+    let mut k: usize = 0;
+    while k < words.len() {
+        all |= words[k];
+        k += 1;
+    }
+    all == 0
 }
 
 // Whether nothing is left of a word above its first n marks.

@@ -10,7 +10,7 @@ use nebosvar::drift::{self as ours, DriftList, Row};
 
 use crate::ROUNDS;
 
-/// The records of a list that fills the image, 65,536 bytes.
+/// The records of a list that fills the programs' image, 65,536 bytes.
 const FULL: usize = 5_461;
 /// Those of a list whose records are asked for by place: each time all are judged.
 const SHORT: usize = 500;

@@ -1,9 +1,10 @@
-//! `bench`: both receivers run over the same 64 MiB of sections, in three mixes; then both readers and writers go through
-//! a drift list. It ends with 1 when they do not leave the same; how fast they are is only told.
+//! `bench`: both receivers run over the same 64 MiB of sections, in three mixes; then each takes blocks by single steps; then
+//! both readers and writers go through a drift list. It ends with 1 when they do not leave the same; how fast they are is only told.
 
 mod lists;
 mod mixes;
 mod receiver;
+mod steps;
 
 use std::process::ExitCode;
 
@@ -26,6 +27,7 @@ fn main() -> ExitCode {
     let mut mixes = MIXES.iter();
     match mixes
         .try_for_each(|mix| measure(&mix()))
+        .and_then(|()| steps::measure())
         .and_then(|()| lists::measure())
     {
         Ok(()) => ExitCode::SUCCESS,

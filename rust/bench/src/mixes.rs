@@ -3,6 +3,7 @@
 use compare::random::Random;
 use compare::tables;
 use make::{Announcement, Block, Module};
+use nebosvar::{LARGEST_BLOCK, MOST_BLOCKS};
 
 /// The most bytes of a stretch: what the paper's program reads.
 const STRETCH: usize = 65_536;
@@ -12,8 +13,11 @@ const TOGETHER: usize = 64 << 20;
 const TABLE_LENGTH: usize = 1_021;
 /// The bytes of a block's section besides its data.
 const AROUND_DATA: usize = 30;
-/// The most blocks of a module.
-const MOST_BLOCKS: usize = 256;
+/// The blocks of a module, but for the last one's rest. A module may have more; with so many the mixes stay those that were
+/// measured before.
+const BLOCKS_EACH: usize = 256;
+
+const _: () = assert!(BLOCKS_EACH <= MOST_BLOCKS);
 
 /// Stretches of one kind.
 pub struct Mix {
@@ -25,7 +29,7 @@ pub struct Mix {
 pub const MIXES: [fn() -> Mix; 3] = [large_blocks, small_blocks, tables];
 
 fn large_blocks() -> Mix {
-    filled("blocks of 4,066", |place| carousel(place, 4_066, 1))
+    filled("blocks of 4,066", |place| carousel(place, LARGEST_BLOCK, 1))
 }
 
 fn small_blocks() -> Mix {
@@ -81,13 +85,13 @@ fn carousel(place: u64, block_size: usize, modules: usize) -> Vec<u8> {
     stretch
 }
 
-/// So many modules with so many blocks together, each but the last with as many as a module can have.
+/// So many modules with so many blocks together, each but the last with [`BLOCKS_EACH`].
 fn modules_of(modules: usize, blocks: usize, block_size: usize) -> Vec<Module> {
     let module = |place: usize| {
-        let left = blocks.saturating_sub(MOST_BLOCKS * place);
+        let left = blocks.saturating_sub(BLOCKS_EACH * place);
         Module {
             number: place as u16,
-            size: (left.min(MOST_BLOCKS) * block_size) as u32,
+            size: (left.min(BLOCKS_EACH) * block_size) as u32,
             version: 1,
         }
     };
@@ -114,7 +118,7 @@ mod tests {
 
     #[test]
     fn blocks_fill_a_stretch_and_are_all_stored() {
-        for (block_size, modules) in [(64, 3), (4_066, 1)] {
+        for (block_size, modules) in [(64, 3), (LARGEST_BLOCK, 1)] {
             let stretch = carousel(3, block_size, modules);
             let left = STRETCH - stretch.len();
             assert!(left < AROUND_DATA + block_size);

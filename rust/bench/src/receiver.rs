@@ -5,22 +5,47 @@ use std::time::{Duration, Instant};
 
 use crate::mixes::Mix;
 
-/// The room of an image: enough for every carousel.
-const ROOM: usize = 65_536;
+/// The room of an image, as the programs have it: enough for every carousel that is sent here.
+pub const ROOM: usize = 65_536;
 /// Enough sections for every stretch.
 const BUDGET: usize = 65_536;
 
 /// How far a run came: sections taken, bytes passed.
 type Passage = (usize, usize);
 
+/// What becomes of a block that is measured by itself.
+#[derive(Clone, Copy, PartialEq, Eq, Debug)]
+pub enum Fate {
+    Stored,
+    Repeated,
+    /// Refused with 14.
+    OtherVersion,
+    /// Refused with 5.
+    BadCrc,
+    /// Anything else.
+    Other,
+}
+
+impl Fate {
+    fn of_refusal(number: u8) -> Fate {
+        match number {
+            14 => Fate::OtherVersion,
+            5 => Fate::BadCrc,
+            _ => Fate::Other,
+        }
+    }
+}
+
 /// What both receivers can do.
-pub trait Receiver: Sized {
+pub trait Receiver: Copy {
     /// The record to start from.
     fn start() -> Self;
     /// Runs over a stretch.
     fn run(&mut self, stretch: &[u8], image: &mut [u8]) -> Passage;
     /// The length of the section at the head of a stretch, and whether it is accepted; none at a stop.
     fn take(&mut self, stretch: &[u8], image: &mut [u8]) -> Option<(usize, bool)>;
+    /// Takes one section of the carousel.
+    fn step(&mut self, section: &[u8], image: &mut [u8]) -> Fate;
 }
 
 impl Receiver for nebosvar::Record {
@@ -37,6 +62,15 @@ impl Receiver for nebosvar::Record {
         match nebosvar::Record::take(self, stretch, image, 1) {
             nebosvar::Taken::Section { length, fate } => Some((length, fate.is_ok())),
             nebosvar::Taken::Stopped(_) => None,
+        }
+    }
+
+    fn step(&mut self, section: &[u8], image: &mut [u8]) -> Fate {
+        match nebosvar::Record::step(self, section, image) {
+            Ok(nebosvar::Kind::Stored) => Fate::Stored,
+            Ok(nebosvar::Kind::Repeated) => Fate::Repeated,
+            Ok(_) => Fate::Other,
+            Err(refusal) => Fate::of_refusal(refusal.number()),
         }
     }
 }
@@ -57,6 +91,15 @@ impl Receiver for baseline::Record {
                 Some((length, !matches!(fate, baseline::Fate::Refused(_))))
             }
             baseline::Taken::Stopped(_) => None,
+        }
+    }
+
+    fn step(&mut self, section: &[u8], image: &mut [u8]) -> Fate {
+        match baseline::Record::step(self, section, image) {
+            baseline::Answer::Stored => Fate::Stored,
+            baseline::Answer::Repeated => Fate::Repeated,
+            baseline::Answer::Refused(refusal) => Fate::of_refusal(refusal.number),
+            _ => Fate::Other,
         }
     }
 }

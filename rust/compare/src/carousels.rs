@@ -1,16 +1,12 @@
 //! Carousels by chance: what is announced, the bytes of its modules, and sections of both, right and wrong.
 
+use crate::limits::{before, EDGES, EQUAL_SHARE, PROGRAM_IMAGE, SECTION_NUMBERS};
+use crate::limits::{LARGEST_BLOCK, MOST_BLOCKS, MOST_BYTES, MOST_MODULES};
 use crate::random::Random;
 use make::{Announcement, Block, Module, Section};
 
-/// The most bytes of all modules together.
-pub const MOST_TOGETHER: usize = 65_536;
 /// The largest blockSize.
-pub const MOST_BLOCK_SIZE: u16 = 4_066;
-/// The most blocks of a module.
-pub const MOST_BLOCKS: usize = 256;
-/// The most modules.
-pub const MOST_MODULES: usize = 16;
+const MOST_BLOCK_SIZE: u16 = LARGEST_BLOCK as u16;
 
 /// A carousel that a station could send.
 #[derive(Clone)]
@@ -26,22 +22,49 @@ pub struct Carousel {
 fn shape(random: &mut Random) -> (u16, Vec<u32>) {
     let size = random.within(1..=64);
     let few = random.within(1..=4);
+    let many = random.within(before::MOST_MODULES + 1..=MOST_MODULES);
     let mut sizes = |count: usize, most: usize| -> Vec<u32> {
         (0..count).map(|_| random.within(1..=most) as u32).collect()
     };
     match size {
-        // As many blocks as there can be, one byte short of them, and the sum at its limit.
+        // As many blocks as there can be, one byte short of them, and in every module: a mark for each bit.
         1 | 2 => (size as u16, vec![MOST_BLOCKS as u32 * size as u32; few]),
-        3 => (3, vec![767]),
-        4 => (400, vec![65_535, 1]),
-        5 => (256, vec![65_536]),
-        6 => (MOST_BLOCK_SIZE, vec![65_536]),
-        7 => (4_065, vec![4_096; MOST_MODULES]),
+        3 => (3, vec![3 * MOST_BLOCKS as u32 - 1]),
+        4 => (1, vec![MOST_BLOCKS as u32; many.max(few * 8)]),
+        // What the programs' image has room for, and a byte more.
+        5 => (MOST_BLOCK_SIZE, vec![PROGRAM_IMAGE as u32]),
+        6 => (256, vec![PROGRAM_IMAGE as u32, 1]),
+        7 if few == 1 => largest(random),
+        7 => (1, last_full()),
         8 => (MOST_BLOCK_SIZE, sizes(few, 16_000)),
-        9..=14 => (size as u16, sizes(MOST_MODULES, 2 * size)),
+        9 => (size as u16, sizes(MOST_MODULES, 2 * size)),
+        10 | 11 => (size as u16, sizes(many, 2 * size)),
         // Sizes that divide evenly.
         15..=24 => (size as u16, vec![size as u32 * few as u32; few]),
         _ => (size as u16, sizes(few, 5 * size)),
+    }
+}
+
+/// The last of all modules has as many blocks as there can be.
+fn last_full() -> Vec<u32> {
+    let mut sizes = vec![1; MOST_MODULES];
+    sizes[MOST_MODULES - 1] = MOST_BLOCKS as u32;
+    sizes
+}
+
+/// The sum at its limit. Such an image is dear to compare, so only few have one.
+fn largest(random: &mut Random) -> (u16, Vec<u32>) {
+    let most = MOST_BYTES as u32;
+    match random.below(5) {
+        0 => (400, vec![most - 1, 1]),
+        1 => ((MOST_BYTES / MOST_BLOCKS) as u16, vec![most]),
+        2 => (MOST_BLOCK_SIZE, vec![most]),
+        3 => (MOST_BLOCK_SIZE - 1, vec![EQUAL_SHARE; MOST_MODULES]),
+        // Every limit at once.
+        _ => (
+            (EQUAL_SHARE as usize / MOST_BLOCKS) as u16,
+            vec![EQUAL_SHARE; MOST_MODULES],
+        ),
     }
 }
 
@@ -100,10 +123,14 @@ impl Carousel {
         &rest[..rest.len().min(size)]
     }
 
-    /// A place and a block there.
+    /// A place and a block there; now and then the last place, and a block where a number goes round.
     pub fn any_block(&self, random: &mut Random) -> (usize, usize) {
-        let place = random.below(self.modules.len());
-        (place, random.below(self.blocks(place)))
+        let count = self.modules.len();
+        let place = random.below(count);
+        let place = random.pick(&[place, place, count - 1]);
+        let blocks = self.blocks(place);
+        let (any, edge) = (random.below(blocks), random.pick(&EDGES));
+        (place, random.pick(&[any, any, edge.min(blocks - 1)]))
     }
 
     /// One thing is announced otherwise, so that "same" must be told from "new" by every field.
@@ -118,7 +145,7 @@ impl Carousel {
             4 if module.size > 1 => module.size -= 1,
             5 => self.modules.rotate_left(1),
             6 if self.modules.len() > 1 => drop(self.modules.pop()),
-            7 if self.modules.len() < MOST_MODULES && self.total() < MOST_TOGETHER => {
+            7 if self.modules.len() < MOST_MODULES && self.total() < MOST_BYTES => {
                 let number = self.modules[0].number ^ 0x8000;
                 self.modules.push(Module {
                     number,
@@ -184,24 +211,31 @@ fn set_limit(random: &mut Random, announcement: &mut Announcement) {
     let modules = &mut announcement.modules;
     let place = random.below(modules.len().max(1));
     match random.below(6) {
-        0 => announcement.block_size = random.pick(&[0, 1, 4_066, 4_067, 0xFFFF]),
-        1 => *modules = same_size(random.pick(&[0, 1, 15, 16, 17, 40]), 1),
+        0 => {
+            announcement.block_size =
+                random.pick(&[0, 1, MOST_BLOCK_SIZE, MOST_BLOCK_SIZE + 1, 0xFFFF])
+        }
+        1 => *modules = same_size(random.pick(&[0, 1, 16, 17, 31, 32, 33, 40]), 1),
         2 => {
             if let Some(module) = modules.get_mut(place) {
-                module.size = random.pick(&[0, 1, most, most + 1, 65_536, 65_537, u32::MAX]);
+                let (all, image) = (MOST_BYTES as u32, PROGRAM_IMAGE as u32);
+                module.size =
+                    random.pick(&[0, 1, most, most + 1, image + 1, all, all + 1, u32::MAX]);
             }
         }
         3 => {
-            // Together 65,536, one more, or past what 32 bits can tell.
-            announcement.block_size = random.pick(&[16, 400, 4_066]);
-            *modules = same_size(16, 4_096);
-            let size = random.pick(&[4_095, 4_096, 4_097, u32::MAX - 61_439, u32::MAX]);
-            modules[place % 16].size = size;
+            // Together as many bytes as there can be, one more, or past what 32 bits can tell.
+            let share = EQUAL_SHARE;
+            let round = share.wrapping_mul(MOST_MODULES as u32 - 1).wrapping_neg();
+            announcement.block_size = random.pick(&[9, 400, MOST_BLOCK_SIZE]);
+            *modules = same_size(MOST_MODULES, share);
+            let size = random.pick(&[share - 1, share, share + 1, round, u32::MAX]);
+            modules[place % MOST_MODULES].size = size;
         }
         4 => {
             announcement.block_size = random.pick(&[255, 256, 257, 400]);
             *modules = same_size(2, 1);
-            modules[place % 2].size = random.pick(&[65_535, 65_536]);
+            modules[place % 2].size = random.pick(&[MOST_BYTES as u32 - 1, MOST_BYTES as u32]);
         }
         _ => {
             if let Some(&module) = modules.get(place) {
@@ -234,7 +268,9 @@ pub fn wrong_block(random: &mut Random, carousel: &Carousel) -> Section {
     match random.below(8) {
         0 => section.extension ^= 1 << random.below(16),
         1 => {
-            section.number = section.number.wrapping_add(random.pick(&[1, 255]));
+            // Beside the right one, or the upper half of a large number.
+            let beside = section.number.wrapping_add(random.pick(&[1, 255]));
+            section.number = random.pick(&[beside, beside, (block.number >> 8) as u8]);
             section.last = 255;
         }
         2 => section.version ^= 1 << random.below(5),
@@ -262,10 +298,11 @@ fn set_wrong(random: &mut Random, block: &mut Block, blocks: usize) {
         1 => block.module ^= 1 << random.below(16),
         2 => block.version ^= 1 << random.below(8),
         3 => {
-            // Past the last by one or more; by 256, so that the section number is that of a block.
+            // Past the last by one or more; so that the section number is that of a block; as a mark of the next module.
+            let number = usize::from(block.number);
             let past = blocks + random.below(400);
-            let round = usize::from(block.number) + MOST_BLOCKS * random.within(1..=200);
-            block.number = random.pick(&[blocks, past, round, 0xFFFF]) as u16;
+            let round = number + SECTION_NUMBERS * random.within(1..=200);
+            block.number = random.pick(&[blocks, past, round, number + MOST_BLOCKS, 0xFFFF]) as u16;
         }
         4 => block.number ^= 1,
         5 => drop(block.data.pop()),

@@ -6,6 +6,7 @@ use baseline::Refusal;
 use nebosvar::{Kind, Stop};
 
 use crate::fence::Edge;
+use crate::reached::{Reached, LIMITS};
 use crate::versions;
 
 /// The calls that can refuse.
@@ -53,6 +54,8 @@ pub struct Counts {
     fresh: [u64; VERSIONS.len()],
     handouts: u64,
     places: u64,
+    /// The limits of 02, §8.
+    pub reached: Reached,
 }
 
 impl Counts {
@@ -130,6 +133,7 @@ impl Counts {
         add(&mut self.headers, &other.headers);
         add(&mut self.stale, &other.stale);
         add(&mut self.fresh, &other.fresh);
+        add(&mut self.reached.0, &other.reached.0);
         for (counts, others) in self.refusals.iter_mut().zip(&other.refusals) {
             add(counts, others);
         }
@@ -137,11 +141,23 @@ impl Counts {
 
     /// The answers that came fewer times than this.
     pub fn rare(&self, least: u64) -> Vec<String> {
-        self.answers()
-            .into_iter()
-            .filter(|(_, count)| *count < least)
-            .map(|(answer, count)| format!("{answer}: {count}"))
-            .collect()
+        below(least, self.answers())
+    }
+
+    /// The limits that were reached fewer times than this.
+    pub fn rare_limits(&self, least: u64) -> Vec<String> {
+        below(least, self.limits())
+    }
+
+    /// Every limit, by name, and how often it was reached.
+    fn limits(&self) -> Vec<(String, u64)> {
+        let named = LIMITS.iter().map(|name| name.to_string());
+        named.zip(self.reached.0).collect()
+    }
+
+    /// The limits, as they are told.
+    pub fn told_limits(&self) -> String {
+        told(&self.limits())
     }
 
     /// Every answer, by name, and how often it came in all calls together.
@@ -167,6 +183,21 @@ fn add(counts: &mut [u64], others: &[u64]) {
     }
 }
 
+fn below(least: u64, counted: Vec<(String, u64)>) -> Vec<String> {
+    counted
+        .into_iter()
+        .filter(|(_, count)| *count < least)
+        .map(|(answer, count)| format!("{answer}: {count}"))
+        .collect()
+}
+
+fn told(counted: &[(String, u64)]) -> String {
+    let told = counted
+        .iter()
+        .map(|(name, count)| format!("{name} {count}"));
+    told.collect::<Vec<_>>().join(", ")
+}
+
 fn named(what: &str, names: &[&str], counts: &[u64]) -> Vec<(String, u64)> {
     names
         .iter()
@@ -176,7 +207,7 @@ fn named(what: &str, names: &[&str], counts: &[u64]) -> Vec<(String, u64)> {
 }
 
 impl Display for Counts {
-    /// A line for each refusal, a column for each call; then every other answer.
+    /// A line for each refusal, a column for each call; then every other answer; then the limits.
     fn fmt(&self, f: &mut fmt::Formatter<'_>) -> fmt::Result {
         write!(f, "refusal")?;
         for name in CALLS {
@@ -190,12 +221,8 @@ impl Display for Counts {
             }
             writeln!(f)?;
         }
-        let others = self.answers().split_off(REFUSALS);
-        let others: Vec<_> = others
-            .iter()
-            .map(|(answer, count)| format!("{answer} {count}"))
-            .collect();
-        write!(f, "{}", others.join(", "))
+        writeln!(f, "{}", told(&self.answers().split_off(REFUSALS)))?;
+        write!(f, "limits: {}", self.told_limits())
     }
 }
 
@@ -217,5 +244,17 @@ mod tests {
         }
         assert!(rare.contains(&"refusal 1: 0".to_string()));
         assert_eq!(rare.len(), 20 + 5 + 5 + 3 + 4 + 2 - 3);
+    }
+
+    #[test]
+    fn a_limit_that_is_reached_too_rarely_is_told() {
+        let mut counts = Counts::default();
+        counts.reached.0 = [2; LIMITS.len()];
+        counts.reached.0[3] = 1;
+        let mut twice = counts.clone();
+        twice.add(&counts);
+        assert_eq!(twice.rare_limits(2), [""; 0]);
+        assert_eq!(twice.rare_limits(3), [format!("{}: 2", LIMITS[3])]);
+        assert!(twice.to_string().ends_with(&twice.told_limits()));
     }
 }

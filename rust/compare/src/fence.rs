@@ -172,6 +172,7 @@ impl Lender {
 #[cfg(test)]
 mod tests {
     use super::*;
+    use crate::limits::{EQUAL_SHARE, MARK_WORDS, MOST_BLOCKS, MOST_BYTES, MOST_MODULES};
     use std::os::unix::process::ExitStatusExt;
     use std::process::Command;
 
@@ -230,6 +231,67 @@ mod tests {
         }
     }
 
+    const RECORD: usize = size_of::<nebosvar::Record>();
+
+    #[test]
+    #[ignore = "it ends its process: the test below has it done by another"]
+    fn goes_outside_the_largest() {
+        // SAFETY: none: a record that lacks its last word of marks, and an image that lacks its last byte.
+        unsafe {
+            match std::env::var("GOES").as_deref() {
+                Ok("record") => {
+                    let mut short = Fenced::new(Edge::Ends, RECORD);
+                    let at = short.put(&[0; RECORD - 4]).as_ptr();
+                    assert!((*at.cast::<nebosvar::Record>()).missing(7).is_err());
+                }
+                Ok("image") => {
+                    let (mut record, section, bytes) = last_block();
+                    let mut short = Fenced::new(Edge::Ends, MOST_BYTES);
+                    let at = short.put(&bytes[1..]).as_mut_ptr();
+                    let told = slice::from_raw_parts_mut(at, MOST_BYTES);
+                    assert!(record.step(&section, told).is_ok());
+                }
+                _ => at_both_edges(),
+            }
+        }
+    }
+
+    /// Every limit at once: a record that lacks only the last block of its last module, that block, and an image.
+    fn last_block() -> (nebosvar::Record, Vec<u8>, Vec<u8>) {
+        let last = MOST_MODULES - 1;
+        let module = |place: usize| (place as u16, EQUAL_SHARE, 0);
+        let modules: Vec<_> = (0..MOST_MODULES).map(module).collect();
+        let size = EQUAL_SHARE as usize / MOST_BLOCKS;
+        let mut record = nebosvar::Record::new();
+        let announcement = make::announcement(1, size as u16, &modules);
+        assert_eq!(record.step(&announcement, &mut []), Ok(nebosvar::Kind::New));
+        record.marks = [u32::MAX; MARK_WORDS];
+        record.marks[MARK_WORDS - 1] >>= 1;
+        let number = MOST_BLOCKS as u16 - 1;
+        let section = make::block(1, last as u16, 0, number, &vec![7; size]);
+        (record, section, vec![1; MOST_BYTES])
+    }
+
+    /// The largest record and the largest image are lent at both edges, and all of them is used.
+    fn at_both_edges() {
+        let (first, section, bytes) = last_block();
+        let last = MOST_MODULES as u16 - 1;
+        for edge in [Edge::Ends, Edge::Begins] {
+            let mut lent = [RECORD, MOST_BYTES, section.len()].map(|most| Fenced::new(edge, most));
+            let [record, image, block] = &mut lent;
+            let (record, image) = (record.put_value(first), image.put(&bytes));
+            let block = block.put(&section);
+            assert_eq!(record.step(block, image), Ok(nebosvar::Kind::Stored));
+            assert_eq!(record.step(block, image), Ok(nebosvar::Kind::Repeated));
+            assert_eq!(record.marks, [u32::MAX; MARK_WORDS]);
+            assert_eq!((image[MOST_BYTES - 1], record.missing(last)), (7, Ok(None)));
+            assert_eq!(
+                record.handout(image, last).map(<[u8]>::len),
+                Ok(EQUAL_SHARE as usize)
+            );
+        }
+    }
+
     fn after_table() -> Fenced {
         let mut table = Fenced::new(Edge::Ends, SHORT.len());
         table.put(&SHORT);
@@ -251,12 +313,29 @@ mod tests {
             ("buffer", Some(FAULT)),
             ("whole list", None),
         ] {
-            let mut other = Command::new(std::env::current_exe().unwrap());
-            other.args(["--exact", "fence::tests::goes_outside", "--ignored"]);
-            let done = other.env("GOES", how).output().unwrap();
-            assert_eq!(done.status.signal(), signal, "{how}");
-            assert_eq!(done.status.success(), signal.is_none(), "{how}");
+            ended("goes_outside", how, signal);
         }
+    }
+
+    #[test]
+    fn a_byte_outside_the_largest_ends_the_process() {
+        for (how, signal) in [
+            ("record", Some(FAULT)),
+            ("image", Some(FAULT)),
+            ("neither", None),
+        ] {
+            ended("goes_outside_the_largest", how, signal);
+        }
+    }
+
+    /// Another process that does this test ends so.
+    fn ended(test: &str, how: &str, signal: Option<i32>) {
+        let test = format!("fence::tests::{test}");
+        let mut other = Command::new(std::env::current_exe().unwrap());
+        other.args(["--exact", &test, "--ignored"]);
+        let done = other.env("GOES", how).output().unwrap();
+        assert_eq!(done.status.signal(), signal, "{how}");
+        assert_eq!(done.status.success(), signal.is_none(), "{how}");
     }
 
     #[test]

@@ -3,24 +3,29 @@
 //! reader and writer of drift lists beside the independent ones ([`lists`]); there the request's §1 decides.
 //!
 //! * Making: [`random`], sections by the crate `make`, [`tables`], [`carousels`], [`damage`], [`starts`] (records and
-//!   images to start from), [`stretches`] (all of it put together).
+//!   images to start from), [`stretches`] (all of it put together), [`limits`] (by which all of it goes), [`bounds`] (what
+//!   is at them, and not by chance).
 //! * Comparing: [`pair`] (both receivers side by side), [`walk`] (a whole stretch), [`reading`] (a table),
 //!   [`threads`] (all stretches), [`fence`] (for some of them, memory that may not be touched beside what is lent).
-//! * Telling: [`counts`] (what was answered how often), [`versions`] (of blocks, for the counts), [`difference`].
+//! * Telling: [`counts`] (what was answered how often), [`versions`] (of blocks, for the counts), [`reached`] (limits),
+//!   [`difference`].
 //!
 //! What the makers mean a section to be decides nothing: a section that was not spoilt as intended is still
 //! compared, and only the counts at the end say whether every answer was reached.
 
 #![deny(unsafe_code)] // but in `fence`
 
+pub mod bounds;
 pub mod carousels;
 pub mod counts;
 pub mod damage;
 pub mod difference;
 pub mod fence;
+pub mod limits;
 pub mod lists;
 pub mod pair;
 pub mod random;
+pub mod reached;
 pub mod reading;
 pub mod starts;
 pub mod stretches;

@@ -1,4 +1,4 @@
-//! `compare [STRETCHES [SEED]]`: both receivers over so many made stretches, and both readers and writers of drift lists
+//! `compare [STRETCHES [SEED]]`: both receivers at every limit and over so many made stretches, and both readers and writers of drift lists
 //! over so many made lists besides those at the bounds. It ends with 1 at a difference, and when an answer came too rarely
 //! for the comparison to mean much.
 
@@ -11,6 +11,10 @@ const STRETCHES: u64 = 20_000;
 const SEED: u64 = 0x4E65_626F_7376_6172;
 /// Each answer must have come so often, in a run over at least [`STRETCHES`].
 const LEAST: u64 = 100;
+/// Each limit must have been reached so often in such a run.
+const LEAST_OF_LIMITS: u64 = 50;
+/// The cases at the limits, which are always the same, must have reached each so often.
+const LEAST_AT_BOUNDS: u64 = 10;
 /// The same of drift lists.
 const LEAST_OF_LISTS: u64 = 300;
 
@@ -23,7 +27,9 @@ fn main() -> ExitCode {
         return ExitCode::from(2);
     };
     println!("compare: {stretches} stretches, seed {seed}");
-    let done = threads::compare(seed, stretches)
+    let done = threads::compare_bounds(seed)
+        .and_then(|(cases, counts)| conclude_bounds(cases, &counts))
+        .and_then(|()| threads::compare(seed, stretches))
         .and_then(|counts| conclude(&counts, stretches))
         .and_then(|()| lists::compare(seed, stretches))
         .and_then(|counts| conclude_lists(&counts, stretches));
@@ -36,10 +42,23 @@ fn main() -> ExitCode {
     }
 }
 
+/// Tells which limits were reached.
+fn conclude_bounds(cases: u64, counts: &Counts) -> Result<(), String> {
+    println!("at the limits: {}", counts.told_limits());
+    few(LEAST_AT_BOUNDS, &counts.rare_limits(LEAST_AT_BOUNDS))?;
+    let [ends, begins] = counts.fenced;
+    println!("compare: all that is lent ends at a page that may not be touched in {ends} cases at the limits, and begins after one in {begins}");
+    let sections = counts.sections;
+    println!("compare: {cases} cases at the limits, {sections} sections, 0 differences");
+    Ok(())
+}
+
 /// Tells what was reached. A short run need not reach everything.
 fn conclude(counts: &Counts, stretches: u64) -> Result<(), String> {
     println!("{counts}");
     enough(stretches, LEAST, &counts.rare(LEAST))?;
+    let rare = counts.rare_limits(LEAST_OF_LIMITS);
+    enough(stretches, LEAST_OF_LIMITS, &rare)?;
     let [ends, begins] = counts.fenced;
     println!("compare: all that is lent ends at a page that may not be touched in {ends} stretches, and begins after one in {begins}");
     let sections = counts.sections;
@@ -61,7 +80,14 @@ fn conclude_lists(counts: &lists::counts::Counts, stretches: u64) -> Result<(), 
 }
 
 fn enough(stretches: u64, least: u64, rare: &[String]) -> Result<(), String> {
-    if stretches < STRETCHES || rare.is_empty() {
+    if stretches < STRETCHES {
+        return Ok(());
+    }
+    few(least, rare)
+}
+
+fn few(least: u64, rare: &[String]) -> Result<(), String> {
+    if rare.is_empty() {
         return Ok(());
     }
     let rare = rare.join(", ");

@@ -325,13 +325,14 @@ fn their_stop(stop: baseline::Stop) -> Stop {
 mod tests {
     use super::*;
     use crate::carousels::Carousel;
+    use crate::limits::MARK_WORDS;
     use crate::random::Random;
     use crate::starts::announced_of;
 
     #[test]
     fn a_record_goes_over_and_back() {
         let mut record = announced_of(&Carousel::any(&mut Random::of(1, 1)));
-        record.marks[127] = 9;
+        record.marks[MARK_WORDS - 1] = 9;
         assert_eq!(theirs(&ours(&record)), record);
     }
 

@@ -6,10 +6,16 @@ use baseline::Record;
 
 use crate::carousels::{stale_block, wrong_block, Carousel};
 use crate::damage;
+use crate::limits::{EDGES, PROGRAM_IMAGE};
 use crate::random::Random;
 use crate::starts;
 use crate::tables;
 use make::BEFORE_LENGTH;
+
+/// The budget of the programs: more sections than a stretch has.
+const PROGRAM_BUDGET: usize = 65_536;
+/// The blocks of a module that are mostly sent in a row, at most.
+const ROW: usize = 20;
 
 /// What both receivers are lent.
 pub struct Case {
@@ -39,12 +45,12 @@ impl Case {
 /// Nothing announced, a carousel partly received, or a record that breaks its rule.
 fn start(random: &mut Random, carousel: &Carousel, image: &mut [u8]) -> Record {
     let kind = random.below(20);
-    if kind < 9 {
+    if kind < 8 {
         return Record::empty();
     }
     let mut record = starts::announced_of(carousel);
     starts::receive_some(random, &mut record, carousel, image);
-    if kind < 18 {
+    if kind < 17 {
         return record;
     }
     let clause = random.below(starts::CLAUSES);
@@ -59,7 +65,7 @@ fn budget(random: &mut Random, sections: usize) -> usize {
         2..=4 => sections,
         5..=7 => sections.saturating_sub(1),
         8 => usize::MAX,
-        _ => 65_536,
+        _ => PROGRAM_BUDGET,
     }
 }
 
@@ -87,7 +93,13 @@ fn stretch(random: &mut Random, carousel: &mut Carousel) -> Vec<u8> {
     if !random.one_in(5) {
         stretch.extend(carousel.announcement(random).section().bytes());
     }
-    for _ in 0..random.within(0..=24) {
+    // Comparing an image of the most bytes takes its time.
+    let most = if carousel.total() > PROGRAM_IMAGE + 1 {
+        6
+    } else {
+        24
+    };
+    for _ in 0..random.within(0..=most) {
         piece(random, carousel, &mut stretch);
     }
     finish(random, carousel, &mut stretch);
@@ -147,12 +159,16 @@ fn some_blocks(random: &mut Random, carousel: &Carousel, stretch: &mut Vec<u8>) 
     }
 }
 
-/// All blocks of a module, from the last or from the first; only rarely as many as there can be.
+/// All blocks of a module, from the last or from the first; of a module with many mostly a row of them, about a number that goes round.
 fn whole_module(random: &mut Random, carousel: &Carousel, stretch: &mut Vec<u8>) {
-    let place = random.below(carousel.modules.len());
-    let mut numbers: Vec<_> = (0..carousel.blocks(place)).collect();
-    if numbers.len() > 20 && !random.one_in(8) {
-        numbers.truncate(20);
+    let (place, _) = carousel.any_block(random);
+    let blocks = carousel.blocks(place);
+    let edge = random.pick(&EDGES).min(blocks - 1);
+    let first = edge.saturating_sub(ROW / 2);
+    let mut numbers: Vec<_> = (first..blocks.min(first + ROW)).collect();
+    // The more blocks there are, the rarer all of them.
+    if blocks <= ROW || random.below(blocks) < ROW {
+        numbers = (0..blocks).collect();
     }
     if random.one_in(2) {
         numbers.reverse();

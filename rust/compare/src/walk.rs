@@ -27,10 +27,14 @@ pub fn compare(case: &Case, edge: Option<Edge>, random: &mut Random, counts: &mu
         // A section may be lent twice over, or with a byte more.
         lender: Lender::new(edge, 2 * case.stretch.len() + 1),
     };
+    walk.counts.reached.lent(&case.record);
     let walked = walk.walk()?;
     walk.run(&start, walked)?;
     walk.split_run(&start, walked)
 }
+
+/// So many modules are asked for after a call, at most.
+const MOST_ASKED: usize = 4;
 
 struct Walk<'a> {
     case: &'a Case,
@@ -92,6 +96,9 @@ impl Walk<'_> {
         if let Ok((_, fate)) = &taken {
             self.counts.versions(section, fate);
             self.counts.header(section, fate);
+            let records = [self.before.record(), self.pair.record()];
+            let room = self.case.image.len();
+            self.counts.reached.taken(section, fate, records, room);
         }
         let kind = taken.ok().and_then(|(_, fate)| fate.ok());
         unchanged(&self.pair, &self.before, kind)?;
@@ -140,7 +147,8 @@ impl Walk<'_> {
         Ok(())
     }
 
-    /// The hand-out and the missing report of every announced module, and of a number that is not announced.
+    /// The hand-out and the missing report of every announced module, of many of the last one and some by chance, and of a
+    /// number that is not announced.
     fn modules(&mut self) -> Same {
         let record = self.pair.record();
         let count = usize::from(record.count).min(record.modules.len());
@@ -149,8 +157,14 @@ impl Walk<'_> {
         while numbers.contains(&other) {
             other = other.wrapping_add(1);
         }
-        for number in numbers[..count].iter().chain([&other]) {
-            self.pair.module(*number, self.counts)?;
+        self.pair.module(other, self.counts)?;
+        for asked in 0..count.min(MOST_ASKED) {
+            let place = match asked {
+                _ if count <= MOST_ASKED => asked,
+                0 => count - 1,
+                _ => self.random.below(count),
+            };
+            self.pair.module(numbers[place], self.counts)?;
         }
         Ok(())
     }

@@ -3,7 +3,7 @@
 //!
 //!     cargo run --example receive FILE
 
-use nebosvar::{Record, Refusal};
+use nebosvar::{Record, Refusal, MOST_BYTES};
 use std::io::Read;
 use std::{env, error, fs, io};
 
@@ -22,7 +22,7 @@ fn main() -> Result<(), Box<dyn error::Error>> {
 /// A line for each module, in announced order.
 pub fn hear(sections: &[u8]) -> Result<Vec<String>, Refusal> {
     let mut record = Record::new();
-    let mut image = vec![0; 65_536];
+    let mut image = vec![0; MOST_BYTES];
     record.run(sections, &mut image, usize::MAX);
 
     let mut lines = Vec::new();

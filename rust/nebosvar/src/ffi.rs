@@ -231,12 +231,12 @@ const _: () = {
     assert!(offset_of!(Module, size) == 4);
     assert!(offset_of!(Module, version) == 8);
     assert!(offset_of!(Module, start) == 12);
-    assert!(size_of::<Record>() == 776);
+    assert!(size_of::<Record>() == 4_616);
     assert!(offset_of!(Record, download) == 0);
     assert!(offset_of!(Record, block_size) == 4);
     assert!(offset_of!(Record, count) == 6);
     assert!(offset_of!(Record, modules) == 8);
-    assert!(offset_of!(Record, marks) == 264);
+    assert!(offset_of!(Record, marks) == 520);
     assert!(size_of::<Fate>() == 16);
     assert!(size_of::<Taken>() == 24);
     assert!(size_of::<Passage>() == 24);

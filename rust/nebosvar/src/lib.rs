@@ -76,12 +76,14 @@
 mod answer;
 pub mod drift;
 mod ffi;
+mod limits;
 mod proved;
 mod record;
 mod refusal;
 mod table;
 
 pub use answer::{Kind, Missing, Passage, Stop, Taken};
+pub use limits::{LARGEST_BLOCK, MARK_WORDS, MODULE_WORDS, MOST_BLOCKS, MOST_BYTES, MOST_MODULES};
 pub use record::{Module, Record};
 pub use refusal::Refusal;
 pub use table::{application, descriptor, extension, item, label, table};

@@ -2,6 +2,7 @@
 
 use crate::answer::{Kind, Missing, Passage, Stop, Taken};
 use crate::ffi;
+use crate::limits::{MARK_WORDS, MOST_MODULES};
 use crate::proved::{excluded, range};
 use crate::Refusal;
 
@@ -24,6 +25,8 @@ pub struct Module {
 /// It may be copied, kept and lent again. Its fields may be written, too: every call looks at the
 /// record's rule first, and refuses a record that breaks it (1; a run stops by [`Stop::State`]). Which
 /// image belongs to a record is the caller's to know.
+///
+/// It has 4,616 bytes, so a copy is no trifle: the calls take it by reference.
 #[repr(C)]
 #[derive(Clone, Copy, PartialEq, Eq, Debug)]
 pub struct Record {
@@ -31,13 +34,13 @@ pub struct Record {
     pub download: u32,
     /// Bytes of a block, but for a module's last.
     pub block_size: u16,
-    /// How many modules are announced: at most 16, and 0 in a record without an announcement.
+    /// How many modules are announced: at most 32 ([`MOST_MODULES`]), and 0 in a record without an announcement.
     pub count: u16,
     /// The modules, in announced order; all zero from `count` on.
-    pub modules: [Module; 16],
-    /// Mark 256 × i + b says that block b of the module at place i has come; a word's lowest bit is
+    pub modules: [Module; MOST_MODULES],
+    /// Mark 1,024 × i + b says that block b of the module at place i has come; a word's lowest bit is
     /// its first mark.
-    pub marks: [u32; 128],
+    pub marks: [u32; MARK_WORDS],
 }
 
 impl Record {
@@ -50,7 +53,8 @@ impl Record {
     /// Takes one section of the carousel: an announcement (table 0x3B) or a block (0x3C). It can
     /// refuse with 1 to 17.
     ///
-    /// An announcement never looks at the image; a block needs one of the announced sizes together.
+    /// An announcement never looks at the image; a block needs one of the announced sizes together. One of
+    /// [`MOST_BYTES`](crate::MOST_BYTES) is always enough.
     ///
     /// ```
     /// # use make::{announcement, block};

@@ -173,7 +173,7 @@ impl fmt::Display for Refusal {
             7 => "a length or fixed field inside does not fit, bytes are left over, or known contents malformed",
             8 => "first two message bytes or message number not as in the paper",
             9 => "DDB: extension is not the module number, or section number is not block number mod 256; section version isn't the module version mod 32",
-            10 => "DII: blockSize 0 or over 4,066; 0 or over 16 modules; a size 0 or over 256 × blockSize; sizes over 65,536 together",
+            10 => "DII: blockSize 0 or over 4,066; 0 or over 32 modules; a size 0 or over 1,024 × blockSize; sizes over 262,144 together",
             11 => "DII: module number twice",
             12 => "DDB: no announcement, or downloadId differs",
             13 => "module not announced",

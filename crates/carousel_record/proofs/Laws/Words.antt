@@ -1,15 +1,17 @@
 -- Words of marks one at a time, as the loops over them take them.
 use Prim.Native.Nat.{ℕ, zero, suc, _+_, _-_, _*_, _/_, _%_, _^_, _≤_, _<_}
-use mathlib.Core.Path.{_≡_}
-use mathlib.Core.Bool.{true, false}
+use mathlib.Core.Path.{_≡_, refl}
+use mathlib.Core.Bool.{Bool, true, false, _&&_}
 use mathlib.Core.List.{List}
 use native.Mathlib.Numerals.{add-one}
-use native.Mathlib.Nat.{one-mul, mod-eq-of-lt, div-zero, div-le-self}
+use native.Mathlib.Nat.{one-mul, mod-eq-of-lt, div-zero, div-one, div-le-self}
 use native.Mathlib.Omega.{arith}
 use lib.Dec.{eqb}
 use lib.Pow.{pow-lt}
+use lib.Bits.{bitOr, or-zero-l, or-add-and, and-le-r}
 use lib.ListN.{length, getD, drop, drop-of-length-le}
 use lib.Seq.{drop-cons}
+use borrow.Author.Tests.{ne-eqb, eqb-true, eqb-false}
 use Rattle.carousel_record.specs.Blocks.{blocksOf}
 use Rattle.carousel_record.specs.Marks.{clearFrom}
 
@@ -40,3 +42,29 @@ module _ (ws : List ℕ) (i n : ℕ) where
   pub word-done : length ws ≤ i → clearFrom n (drop i ws) ≡ true
   unfolding clearFrom
   word-done l = rw (drop-of-length-le ws l)
+
+-- words taken together: nothing is set in two of them exactly where nothing is in either
+or-none : (a b : ℕ) → eqb (bitOr a b) 0 ≡ (eqb a 0 && eqb b 0)
+or-none a b = go (eqb a 0) refl
+  where
+    go : (t : Bool) → eqb a 0 ≡ t → eqb (bitOr a b) 0 ≡ (t && eqb b 0)
+    go true e = rw (eqb-true a 0 e, or-zero-l b)
+    go false e = ne-eqb (bitOr a b) 0 (λ z. let p = or-add-and a b in let q = and-le-r a b in eqb-false a 0 e (omega arith))
+
+-- all those before word k in one, and the rest
+module _ (ws : List ℕ) (all k : ℕ) where
+  pub zero-next : k < length ws → (eqb (bitOr all (getD ws k 0)) 0 && clearFrom 0 (drop (k + 1) ws)) ≡ (eqb all 0 && clearFrom 0 (drop k ws))
+  unfolding clearFrom
+  zero-next l = rw (add-one k, drop-cons ws k 0 l, or-none all (getD ws k 0), div-one (getD ws k 0)) (grouped (eqb all 0))
+    where
+      grouped : (t : Bool) → (t && eqb (getD ws k 0) 0 && clearFrom 0 (drop (suc k) ws)) ≡ (t && (eqb (getD ws k 0) 0 && clearFrom 0 (drop (suc k) ws)))
+      grouped true = refl
+      grouped false = refl
+
+  pub zero-done : length ws ≤ k → (eqb all 0 && clearFrom 0 (drop k ws)) ≡ eqb all 0
+  unfolding clearFrom
+  zero-done l = rw (drop-of-length-le ws l) (alone (eqb all 0))
+    where
+      alone : (t : Bool) → (t && true) ≡ t
+      alone true = refl
+      alone false = refl

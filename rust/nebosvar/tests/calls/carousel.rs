@@ -3,6 +3,7 @@
 use crate::{block_7, block_9, drift, heard, DOWNLOAD};
 use make::{announcement, block};
 use nebosvar::{Kind, Missing, Module, Record, Refusal};
+use nebosvar::{LARGEST_BLOCK, MARK_WORDS, MODULE_WORDS, MOST_BLOCKS, MOST_BYTES, MOST_MODULES};
 
 #[test]
 fn the_first_record_is_all_zero() {
@@ -10,8 +11,8 @@ fn the_first_record_is_all_zero() {
         download: 0,
         block_size: 0,
         count: 0,
-        modules: [Module::default(); 16],
-        marks: [0; 128],
+        modules: [Module::default(); MOST_MODULES],
+        marks: [0; MARK_WORDS],
     };
     assert_eq!(Record::new(), zero);
     assert_eq!(Record::default(), zero);
@@ -19,7 +20,7 @@ fn the_first_record_is_all_zero() {
 
 #[test]
 fn an_announcement_makes_the_record_afresh() {
-    let mut modules = [Module::default(); 16];
+    let mut modules = [Module::default(); MOST_MODULES];
     modules[0] = Module {
         number: 7,
         size: 1000,
@@ -37,7 +38,7 @@ fn an_announcement_makes_the_record_afresh() {
         block_size: 400,
         count: 2,
         modules,
-        marks: [0; 128],
+        marks: [0; MARK_WORDS],
     };
 
     let mut record = Record::new();
@@ -50,7 +51,7 @@ fn an_announcement_makes_the_record_afresh() {
     let before = image.clone();
     let next = announcement(DOWNLOAD, 400, &[(7, 1000, 1)]);
     assert_eq!(record.step(&next, &mut image), Ok(Kind::New));
-    assert_eq!((record.count, record.marks), (1, [0; 128]));
+    assert_eq!((record.count, record.marks), (1, [0; MARK_WORDS]));
     assert_eq!(image, before);
 }
 
@@ -94,9 +95,9 @@ fn a_block_goes_to_its_place_and_is_marked() {
     bytes[800..1000].fill(3);
     assert_eq!((record, &image), (expected, &bytes));
 
-    // Block 0 of module 9, at place 1: from byte 1,000, mark 256, the first of word 8.
+    // Block 0 of module 9, at place 1: from byte 1,000, mark 1,024, the first of word 32.
     assert_eq!(record.step(&block_9(), &mut image), Ok(Kind::Stored));
-    expected.marks[8] = 1;
+    expected.marks[32] = 1;
     bytes[1000..1006].copy_from_slice(b"buoy 3");
     assert_eq!((record, &image), (expected, &bytes));
 
@@ -121,7 +122,7 @@ fn adaptation_bytes_are_no_data() {
 
 #[test]
 fn the_image_may_be_exact_or_longer() {
-    for room in [1006, 1007, 65_536] {
+    for room in [1006, 1007, 65_536, MOST_BYTES] {
         let (record, image) = heard(&[drift(), block_9()], room);
         assert_eq!(record.handout(&image, 9), Ok(&b"buoy 3"[..]));
     }
@@ -166,7 +167,7 @@ fn refusals_of_the_hand_out() {
     assert_eq!(record.handout(&[], 7), Err(Refusal::SHORT_IMAGE));
     // 1 before all.
     let mut broken = record;
-    broken.count = 17;
+    broken.count = 33;
     assert_eq!(broken.handout(&[], 8), Err(Refusal::BAD_RECORD));
     assert_eq!(Record::new().handout(&[], 0), Err(Refusal::NO_MODULE));
     // Each is of the record or the image, and has no place in a section.
@@ -197,7 +198,7 @@ fn missing_blocks() {
     assert_eq!(record.missing(9), lack(1, 0));
 
     assert_eq!(record.missing(8), Err(Refusal::NO_MODULE));
-    record.marks[127] = 1;
+    record.marks[1_023] = 1;
     assert_eq!(record.missing(7), Err(Refusal::BAD_RECORD));
     assert_eq!(record.missing(8), Err(Refusal::BAD_RECORD));
 }
@@ -218,32 +219,70 @@ fn the_paper_s_largest() {
     assert!(image[3 * 4066..4 * 4066].iter().all(|byte| *byte == 5));
     assert!(image[16 * 4066..].iter().all(|byte| *byte == 6));
 
-    // Size 256 in blocks of 1: every block's number.
-    let fine = announcement(1, 1, &[(7, 256, 0)]);
-    let (mut record, mut image) = heard(&[fine], 256);
-    for number in (0..256).rev() {
-        assert_eq!(
-            record.missing(7),
-            Ok(Some(Missing {
-                count: usize::from(number) + 1,
-                lowest: 0
-            }))
-        );
-        let section = block(1, 7, 0, number, &[!(number as u8)]);
+    // Size 262,144: 65 blocks, the last of 1,920 bytes, in an image that is just enough.
+    let larger = announcement(1, 4066, &[(7, 262_144, 0)]);
+    let (mut record, mut image) = heard(&[larger], MOST_BYTES);
+    assert_eq!(record.missing(7).unwrap().unwrap().count, 65);
+    let last = block(1, 7, 0, 64, &[6; 1920]);
+    assert_eq!(record.step(&last, &mut image), Ok(Kind::Stored));
+    assert_eq!(record.marks[..3], [0, 0, 1]);
+    assert!(image[64 * 4066..].iter().all(|byte| *byte == 6));
+}
+
+#[test]
+fn the_limits() {
+    assert_eq!((MOST_MODULES, MOST_BLOCKS), (32, 1_024));
+    assert_eq!((LARGEST_BLOCK, MOST_BYTES), (4_066, 262_144));
+    assert_eq!((MODULE_WORDS, MARK_WORDS), (32, 1_024));
+}
+
+#[test]
+fn every_block_of_the_finest_module() {
+    // Size 1,024 in blocks of 1: every block's number, under its section number mod 256.
+    let fine = announcement(1, 1, &[(7, 1_024, 0)]);
+    let (mut record, mut image) = heard(&[fine], 1_024);
+    let byte = |number: u16| (number ^ number >> 8) as u8;
+    for number in (0..1_024).rev() {
+        let lack = Missing {
+            count: usize::from(number) + 1,
+            lowest: 0,
+        };
+        assert_eq!(record.missing(7), Ok(Some(lack)));
+        let section = block(1, 7, 0, number, &[byte(number)]);
+        assert_eq!(section[6], number as u8);
         assert_eq!(record.step(&section, &mut image), Ok(Kind::Stored));
+        assert_eq!(record.step(&section, &mut image), Ok(Kind::Repeated));
     }
-    let expected: Vec<u8> = (0..=255).rev().collect();
+    let past = block(1, 7, 0, 1_024, &[byte(1_024)]);
+    assert_eq!(record.step(&past, &mut image), Err(Refusal::BAD_BLOCK));
+    let expected: Vec<u8> = (0..1_024).map(byte).collect();
     assert_eq!(record.handout(&image, 7), Ok(&expected[..]));
 }
 
 #[test]
-fn sixteen_modules() {
-    let modules: Vec<(u16, u32, u8)> = (0..16).map(|i| (100 + i, 4096, i as u8)).collect();
-    let (mut record, mut image) = heard(&[announcement(1, 4000, &modules)], 65_536);
-    assert_eq!(record.modules[15].start, 15 * 4096);
-    // Block 1 of the module at place 15: 96 bytes, mark 256 × 15 + 1, the second of word 120.
-    let section = block(1, 115, 15, 1, &[8; 96]);
+fn blocks_that_share_a_section_number() {
+    let fine = announcement(1, 1, &[(7, 1_024, 0)]);
+    let (mut record, mut image) = heard(&[fine], 1_024);
+    for (number, word) in [(0, 0), (256, 8), (512, 16), (768, 24)] {
+        let section = block(1, 7, 0, number, &[9]);
+        assert_eq!(section[6], 0);
+        assert_eq!(record.step(&section, &mut image), Ok(Kind::Stored));
+        assert_eq!(record.marks[word], 1);
+        assert_eq!(image[usize::from(number)], 9);
+    }
+    assert_eq!(record.missing(7).unwrap().unwrap().count, 1_020);
+}
+
+#[test]
+fn thirty_two_modules() {
+    let modules: Vec<(u16, u32, u8)> = (0..32).map(|i| (100 + i, 8_192, i as u8)).collect();
+    let (mut record, mut image) = heard(&[announcement(1, 8, &modules)], MOST_BYTES);
+    assert_eq!(record.modules[31].start, 31 * 8_192);
+    // Block 1,023 of the module at place 31: the last 8 bytes, mark 1,024 × 31 + 1,023, the last of word 1,023.
+    let section = block(1, 131, 31, 1_023, &[8; 8]);
     assert_eq!(record.step(&section, &mut image), Ok(Kind::Stored));
-    assert_eq!(record.marks[120], 0b10);
-    assert!(image[15 * 4096 + 4000..].iter().all(|byte| *byte == 8));
+    assert_eq!(record.marks[1_023], 1 << 31);
+    assert!(record.marks[..1_023].iter().all(|word| *word == 0));
+    assert!(image[MOST_BYTES - 8..].iter().all(|byte| *byte == 8));
+    assert_eq!(record.missing(131).unwrap().unwrap().count, 1_023);
 }

@@ -2,7 +2,7 @@
 
 use crate::{block_7, block_9, drift, heard, DOWNLOAD};
 use make::{announcement, block, closed, message, section, table, with};
-use nebosvar::{Kind, Record, Refusal};
+use nebosvar::{Kind, Record, Refusal, MARK_WORDS, MODULE_WORDS, MOST_MODULES};
 
 /// The step refuses, and changes nothing.
 fn refused(record: &Record, section: &[u8], image: &[u8], refusal: Refusal) {
@@ -78,8 +78,8 @@ fn numbers_and_words() {
 #[test]
 fn broken_records_1() {
     let (good, image) = heard(&[drift(), block_9()], 1006);
-    let breaks: [fn(&mut Record); 12] = [
-        |r| r.count = 17,
+    let breaks: [fn(&mut Record); 18] = [
+        |r| r.count = MOST_MODULES as u16 + 1,
         |r| r.count = 1, // the second module is past the last
         |r| r.count = 0, // with none, all is zero
         |r| r.block_size = 0,
@@ -89,8 +89,14 @@ fn broken_records_1() {
         |r| r.modules[1].start = 999,
         |r| r.modules[1].number = 7,
         |r| r.modules[2].version = 1,
-        |r| r.marks[0] = 0b1000, // block 3 of three
-        |r| r.marks[8] = 0b10,   // block 1 of one
+        |r| r.marks[0] = 0b1000,                 // block 3 of three
+        |r| r.marks[MODULE_WORDS] = 0b10,        // block 1 of one
+        |r| r.marks[MODULE_WORDS - 1] = 1 << 31, // block 1,023 of three
+        |r| r.marks[8] = 1,                      // block 256 of three
+        |r| r.marks[2 * MODULE_WORDS] = 1,       // a block of none
+        |r| r.marks[MARK_WORDS - 1] = 1 << 31,   // block 1,023 at place 31
+        |r| r.modules[MOST_MODULES - 1].number = 1,
+        |r| r.modules[16].size = 1,
     ];
     for change in breaks {
         let mut broken = good;
@@ -251,15 +257,19 @@ fn an_announcements_section_version_is_not_looked_at() {
 
 #[test]
 fn limits_10_and_twice_11() {
-    let many: Vec<(u16, u32, u8)> = (0..17).map(|number| (number, 1, 0)).collect();
+    let many: Vec<(u16, u32, u8)> = (0..33).map(|number| (number, 1, 0)).collect();
+    let each = |size| (0..32).map(|number| (number, size, 0)).collect::<Vec<_>>();
     for beyond in [
         announcement(1, 0, &[(7, 6, 0)]),
         announcement(1, 4067, &[(7, 6, 0)]),
         announcement(1, 400, &[]),
         announcement(1, 400, &many),
         announcement(1, 400, &[(7, 6, 0), (8, 0, 0)]),
-        announcement(1, 1, &[(7, 257, 0)]),
-        announcement(1, 400, &[(7, 65_536, 0), (8, 1, 0)]),
+        announcement(1, 1, &[(7, 1_025, 0)]),
+        announcement(1, 4066, &[(7, 262_145, 0)]),
+        announcement(1, 400, &[(7, 262_144, 0), (8, 1, 0)]),
+        announcement(1, 400, &[each(8_192), vec![(32, 1, 0)]].concat()),
+        announcement(1, 400, &[&each(8_192)[1..], &[(32, 8_193, 0)]].concat()),
         announcement(1, 4066, &[(7, u32::MAX, 0), (8, 1, 0)]),
         announcement(1, 0, &[(7, 6, 0), (7, 6, 0)]),
     ] {
@@ -268,8 +278,11 @@ fn limits_10_and_twice_11() {
     let twice = announcement(1, 400, &[(7, 6, 0), (8, 6, 0), (7, 5, 1)]);
     refused_always(&twice, Refusal::MODULE_TWICE);
     // The paper's soundings that are taken.
-    heard(&[announcement(1, 1, &[(7, 256, 0)])], 0);
-    heard(&[announcement(1, 400, &[(7, 65_535, 0), (8, 1, 0)])], 0);
+    heard(&[announcement(1, 1, &[(7, 1_024, 0)])], 0);
+    heard(&[announcement(1, 400, &[(7, 262_143, 0), (8, 1, 0)])], 0);
+    heard(&[announcement(1, 4066, &[(7, 262_144, 0)])], 0);
+    heard(&[announcement(1, 8, &each(8_192))], 0);
+    heard(&[announcement(1, 400, &many[..32])], 0);
 }
 
 #[test]
@@ -310,6 +323,27 @@ fn short_image_15() {
     let old = block(DOWNLOAD, 9, 1, 0, b"buoy 3");
     refused(&record, &old, short, Refusal::OTHER_VERSION);
     refused(&record, &block_7(3, 400, 1), short, Refusal::SHORT_IMAGE);
+}
+
+#[test]
+fn the_programs_image_is_short_of_a_larger_announcement() {
+    for (size, fate) in [
+        (65_536, Ok(Kind::Stored)),
+        (65_537, Err(Refusal::SHORT_IMAGE)),
+    ] {
+        let (mut record, mut image) = heard(&[announcement(1, 4000, &[(7, size, 0)])], 65_536);
+        assert_eq!(
+            record.step(&block(1, 7, 0, 0, &[5; 4000]), &mut image),
+            fate
+        );
+        let none = if size == 65_536 {
+            Refusal::INCOMPLETE
+        } else {
+            Refusal::SHORT_IMAGE
+        };
+        assert_eq!(record.handout(&image, 7), Err(none));
+        assert_eq!(record.handout(&image, 8), Err(Refusal::NO_MODULE));
+    }
 }
 
 #[test]

@@ -117,7 +117,7 @@ fn take_and_run_agree_and_budgets_add_up() {
 fn stops_in_their_order() {
     let (good, image) = heard(&[drift(), block_9()], 1006);
     let mut broken = good;
-    broken.marks[8] = 2;
+    broken.marks[nebosvar::MODULE_WORDS] = 2; // block 1 of one
     let whole = block_9();
     let short = &whole[..whole.len() - 1];
     for (stretch, budget, stop) in [

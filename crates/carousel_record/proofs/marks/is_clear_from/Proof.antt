@@ -1,10 +1,12 @@
 -- `carousel_record::marks::is_clear_from` meets its contract. The invariant: the words left have no mark from what is left of n on just where all have none from n on.
 use borrow.Author.Needs.{needs}
 use borrow.Author.Tests.{not-true, not-false}
-use mathlib.Core.Path.{_≡_, refl, sym, _∙_}
-use Prim.Native.Nat.{_-_, _≤_}
+use mathlib.Core.Path.{_≡_, refl, sym, ap, _∙_}
+use mathlib.Core.List.{List}
+use Prim.Native.Nat.{ℕ, _-_, _≤_}
 use native.Mathlib.Omega.{arith}
-use lib.ListN.{length, drop}
+use lib.ListN.{length, drop, length-drop}
+use lib.Seq.{take-all}
 use Rattle.carousel_record.specs.Marks.{clearFrom}
 use Rattle.carousel_record.proofs.Laws.Words.{word-off, word-next, word-done}
 use Rattle.carousel_record.proofs.marks.is_clear_from.Statement.{statement}
@@ -17,20 +19,42 @@ abbrev μ-loop : tie.MeasureT-loop
 μ-loop words n left₀ i₀ left i = length words - i
 
 -- the places that stand before a place, by name
-abbrev start-of-loop : tie.At-loop Inv-loop μ-loop → tie.Start Inv-loop μ-loop
-start-of-loop c = c .before .before
+abbrev given : tie.At-loop Inv-loop μ-loop → List ℕ
+given h = h .before .before .args .words .now
 
-abbrev start-of-then1 : tie.Then1 Inv-loop μ-loop → tie.Start Inv-loop μ-loop
-start-of-then1 c = start-of-loop (c .before .before .before .before)
-
-abbrev start-of-else1 : tie.Else1 Inv-loop μ-loop → tie.Start Inv-loop μ-loop
-start-of-else1 c = start-of-loop (c .before .before .before .before)
-
-abbrev loop-of-else1 : tie.Else1 Inv-loop μ-loop → tie.At-loop Inv-loop μ-loop
-loop-of-else1 c = c .before .before .before .before
+abbrev turn : tie.After-is-word-clear Inv-loop μ-loop → tie.At-loop Inv-loop μ-loop
+turn c = c .before .before .before .before
 
 loop-holds : tie.Need-loop-holds Inv-loop μ-loop
 loop-holds c = (omega arith, refl)
+
+mul-is-zero : tie.Need-mul-is-zero Inv-loop μ-loop
+mul-is-zero c = search needs
+
+sub-is-zero : tie.Need-sub-is-zero Inv-loop μ-loop
+sub-is-zero c = search needs
+
+part-is-zero-start : tie.Need-part-is-zero-start Inv-loop μ-loop
+part-is-zero-start c = search needs
+
+part-is-zero-end : tie.Need-part-is-zero-end Inv-loop μ-loop
+part-is-zero-end c = search needs
+
+is-zero-requires : tie.Need-is-zero-requires Inv-loop μ-loop
+is-zero-requires c κs = search needs
+
+-- nothing is left of n: the rest of the words is clear, or not
+returns : tie.Need-returns Inv-loop μ-loop
+returns c =
+    let t = c .before .before in
+    let h = t .before .before in
+    let l = h .loop in
+    let ws = given h in
+    let d = length-drop (l .i) ws in
+    c .is-zero .ensures
+    ∙ ap (λ (us : List ℕ). clearFrom 0 us) (take-all (length ws - l .i) (drop (l .i) ws) (omega arith))
+    ∙ ap (λ (m : ℕ). clearFrom m (drop (l .i) ws)) (sym (t .if1 .taken))
+    ∙ l .inv .1
 
 mul-is-word-clear : tie.Need-mul-is-word-clear Inv-loop μ-loop
 mul-is-word-clear c = search needs
@@ -41,11 +65,11 @@ shared-slice-read-is-word-clear c = search needs
 is-word-clear-requires : tie.Need-is-word-clear-requires Inv-loop μ-loop
 is-word-clear-requires c κs = search needs
 
-returns : tie.Need-returns Inv-loop μ-loop
-returns c =
-    let s = start-of-then1 c in
-    let l = c .before .before .before .before .loop in
-    sym (word-off (s .args .words .now) (l .i) (l .left) (omega arith) (sym (c .before .is-word-clear .ensures) ∙ not-true _ (c .if1 .taken))) ∙ l .inv .1
+returns-2 : tie.Need-returns-2 Inv-loop μ-loop
+returns-2 c =
+    let h = turn (c .before) in
+    let l = h .loop in
+    sym (word-off (given h) (l .i) (l .left) (omega arith) (sym (c .before .is-word-clear .ensures) ∙ not-true _ (c .if2 .taken))) ∙ l .inv .1
 
 after-word-requires : tie.Need-after-word-requires Inv-loop μ-loop
 after-word-requires c κs = search needs
@@ -58,19 +82,19 @@ loop-less c = search needs
 
 loop-again : tie.Need-loop-again Inv-loop μ-loop
 loop-again c =
-    let s = start-of-else1 (c .before) in
-    let l = loop-of-else1 (c .before) .loop in (
+    let w = c .before .before in
+    let h = turn w in
+    let l = h .loop in (
       omega arith,
       rw (c .after-word .ensures)
-          (word-next (s .args .words .now) (l .i) (l .left) (omega arith) (sym (c .before .before .is-word-clear .ensures)
-          ∙ not-false _ (c .before .if1 .left)) ∙ l .inv .1),
+          (word-next (given h) (l .i) (l .left) (omega arith) (sym (w .is-word-clear .ensures) ∙ not-false _ (c .before .if2 .left)) ∙ l .inv .1),
     )
 
-returns-2 : tie.Need-returns-2 Inv-loop μ-loop
-returns-2 c =
-    let s = c .before .before .before in
-    let l = c .before .loop in
-    sym (word-done (s .args .words .now) (l .i) (l .left) (omega arith)) ∙ l .inv .1
+returns-3 : tie.Need-returns-3 Inv-loop μ-loop
+returns-3 c =
+    let h = c .before in
+    let l = h .loop in
+    sym (word-done (given h) (l .i) (l .left) (omega arith)) ∙ l .inv .1
 
 pub is-clear-from-spec : {M : Type 1} → statement M
 is-clear-from-spec =
@@ -79,12 +103,18 @@ is-clear-from-spec =
     Inv-loop
     μ-loop
     loop-holds
+    mul-is-zero
+    sub-is-zero
+    part-is-zero-start
+    part-is-zero-end
+    is-zero-requires
+    returns
     mul-is-word-clear
     shared-slice-read-is-word-clear
     is-word-clear-requires
-    returns
+    returns-2
     after-word-requires
     add-i
     loop-less
     loop-again
-    returns-2)
+    returns-3)
