@@ -1,7 +1,7 @@
 -- BIGGER CHARTS (02 §8) in whole sections, from the empty record on: the limits from both sides, blocks above 255, and an image shorter than what is announced.
 use Prim.Native.Nat.{ℕ, _≤_, _<_}
-use mathlib.Core.Path.{_≡_, refl, ap, _∙_}
-use mathlib.Core.Bool.{Bool, true, false, _&&_}
+use mathlib.Core.Path.{_≡_, ap, _∙_}
+use mathlib.Core.Bool.{true, false, _&&_}
 use mathlib.Core.List.{List, [], _∷_}
 use native.Mathlib.Omega.{arith}
 use lib.Dec.{eqb}
@@ -25,9 +25,10 @@ use Rattle.carousel_record.specs.Refusals.{meets13, meets15}
 use Rattle.carousel_record.specs.Changes.{emptyRecord, entries, madeAfresh, withMark, overwrite}
 use Rattle.carousel_record.proofs.Laws.Places.{some-modules}
 use Rattle.carousel_step.specs.declared.Answer.the-variants as answer
-use Rattle.carousel_step.specs.Step.{meets12, meets14, meets16, blockRefusal, sameModules, sameAnnounced, refusing, stored}
-use Rattle.carousel_step.specs.Step.{matched, onArrived, onHeard, outcomeOf, imageAfter, StepOutcome, returning, steppedOf, imageOf}
-use Rattle.carousel_step.proofs.Laws.Outcomes.{announced-new}
+use Rattle.carousel_step.specs.Step.{meets12, meets14, meets16, blockRefusal, sameModules, sameAnnounced, refusing, new, stored}
+use Rattle.carousel_step.specs.Step.{matched, onArrived, onHeard, outcomeOf, steppedOf, imageOf}
+use Rattle.carousel_step.proofs.Laws.Bytes.{fails}
+use Rattle.carousel_step.proofs.Laws.Outcomes.{announced-new, stepped-is}
 use Rattle.carousel_step.proofs.Simulation.{empty-ruled}
 use Rattle.carousel_step.proofs.Soundings.{comes, left-ruled}
 
@@ -35,23 +36,19 @@ use Rattle.carousel_step.proofs.Soundings.{comes, left-ruled}
 differs : (d bs : ℕ) (ms : List Listed) → 0 < length ms → sameAnnounced (announcedBy emptyRecord) (record { download = d; blockSize = bs; modules = ms }) ≡ false
 unfolding sameAnnounced sameModules announcedBy emptyRecord
 differs d bs [] h = absurd (omega arith)
-differs d bs (m ∷ ms) h = never (eqb 0 d && eqb 0 bs)
-  where
-    never : (t : Bool) → (t && false) ≡ false
-    never true = refl
-    never false = refl
+differs d bs (m ∷ ms) h = fails (eqb 0 d && eqb 0 bs)
 
 pub first-new : (s image : List ℕ) (a : Announced) → heardOf s ≡ announced a → steppedOf emptyRecord s image ≡ record { answer = answer.New; state = madeAfresh emptyRecord a }
-unfolding steppedOf onHeard
+unfolding onHeard
 first-new s image a e =
     let d = differs (a .download) (a .blockSize) (a .modules) (some-modules (a .blockSize) (a .modules) (heard-limits s a e .0)) in
-    ap (λ (o : StepOutcome). returning emptyRecord o) (comes emptyRecord s image (announced a) empty-ruled e ∙ announced-new (recordOf emptyRecord) a d)
+    stepped-is emptyRecord s image (new a) (comes emptyRecord s image (announced a) empty-ruled e ∙ announced-new (recordOf emptyRecord) a d) .0
 
 -- and one that is refused by itself changes nothing in any record
 pub refused-alone : (c : Carousel) (s image : List ℕ) (n : ℕ) → ruledOf c ≡ true → heardOf s ≡ refusal (refused n)
     → steppedOf c s image ≡ record { answer = answer.Refused (refused n); state = c }
-unfolding steppedOf onHeard
-refused-alone c s image n r e = ap (λ (o : StepOutcome). returning c o) (comes c s image (refusal (refused n)) r e)
+unfolding onHeard
+refused-alone c s image n r e = stepped-is c s image (refusing (refused n)) (comes c s image (refusal (refused n)) r e) .0
 
 -- what the sections of the messages' soundings say
 abbrev pub toldOf : (blockSize : ℕ) → List Listed → Announced
@@ -115,12 +112,7 @@ module _ (image : List ℕ) where
   pub highest-block : 1024 ≤ length image
       → (steppedOf charted block1023 image ≡ record { answer = answer.Stored; state = withMark charted 1023 }) × (imageOf charted block1023 image ≡ overwrite image 1023 (0x42 ∷ []))
       × (steppedOf charted block1024 image ≡ record { answer = answer.Refused (refused 16); state = charted })
-  unfolding steppedOf imageOf
-  highest-block h = (
-    ap (λ (o : StepOutcome). returning charted o) (last-stored h),
-    ap (λ (o : StepOutcome). imageAfter image o) (last-stored h),
-    ap (λ (o : StepOutcome). returning charted o) (past-last h),
-  )
+  highest-block h = let p = stepped-is charted block1023 image _ (last-stored h) in (p .0, p .1, stepped-is charted block1024 image _ (past-last h) .0)
 
   widened-ruled : ruledOf widened ≡ true
   widened-ruled = left-ruled emptyRecord wide image _ empty-ruled (first-new wide image _ (hears .4))
@@ -138,9 +130,5 @@ module _ (image : List ℕ) where
   pub beyond-the-image : (steppedOf emptyRecord wide image ≡ record { answer = answer.New; state = widened })
       × (length image < 65537 → steppedOf widened wideBlock image ≡ record { answer = answer.Refused (refused 15); state = widened })
       × (65537 ≤ length image → steppedOf widened wideBlock image ≡ record { answer = answer.Stored; state = withMark widened 0 })
-  unfolding steppedOf
-  beyond-the-image = (
-    first-new wide image _ (hears .4),
-    λ h. ap (λ (o : StepOutcome). returning widened o) (too-wide h),
-    λ h. ap (λ (o : StepOutcome). returning widened o) (wide-enough h),
-  )
+  beyond-the-image =
+      (first-new wide image _ (hears .4), λ h. stepped-is widened wideBlock image _ (too-wide h) .0, λ h. stepped-is widened wideBlock image _ (wide-enough h) .0)

@@ -21,7 +21,8 @@ use Rattle.carousel_record.specs.Record.{Record, announcedBy, startsBy, recordO
 use Rattle.carousel_record.specs.Changes.{emptyRecord, entries, madeAfresh, withMark, afresh, marking, overwrite}
 use Rattle.carousel_step.specs.Step.{meets12, meets14, meets16, blockRefusal, bytesDiffer, sameModules, sameAnnounced, refusing, new, same, repeated, stored}
 use Rattle.carousel_record.specs.Refusals.{meets13, meets15}
-use Rattle.carousel_step.specs.Step.{matched, onArrived, onAnnounced, onHeard, outcomeOf, recordAfter, imageAfter, StepOutcome, returning, steppedOf, imageOf}
+use Rattle.carousel_step.specs.Step.{matched, onArrived, onAnnounced, onHeard, outcomeOf, recordAfter, imageAfter, steppedOf, imageOf}
+use Rattle.carousel_step.proofs.Laws.Outcomes.{stepped-is}
 use Rattle.carousel_step.proofs.Simulation.{outcome-ruled, empty-ruled, step-rule}
 
 -- download 5 of one module 7, version 1, of this size in blocks of this size; two modules; and a block of module 7
@@ -114,8 +115,7 @@ unfolding onHeard onAnnounced sameAnnounced announcedBy emptyRecord
 told-new = refl
 
 tells : steppedOf emptyRecord announcing image ≡ record { answer = answer.New; state = renewed }
-unfolding steppedOf
-tells = ap (λ (o : StepOutcome). returning emptyRecord o) (comes emptyRecord announcing image (announced told) empty-ruled hears-told ∙ told-new)
+tells = stepped-is emptyRecord announcing image _ (comes emptyRecord announcing image (announced told) empty-ruled hears-told ∙ told-new) .0
 
 carried-stored : onHeard (recordOf renewed) image (arrived carried) ≡ stored 0 0 (carried .bytes)
 unfolding onHeard onArrived matched blockRefusal firstMet meets12 meets13 meets14 meets15 meets16 placeIn total blocksOf blockLengthOf blockAt
@@ -133,8 +133,7 @@ puts : outcomeOf renewed abcd image ≡ stored 0 0 (carried .bytes)
 puts = comes renewed abcd image (arrived carried) renewed-ruled hears-carried ∙ carried-stored
 
 stores : steppedOf renewed abcd image ≡ record { answer = answer.Stored; state = holding }
-unfolding steppedOf
-stores = ap (λ (o : StepOutcome). returning renewed o) puts
+stores = stepped-is renewed abcd image _ puts .0
 
 holding-ruled : ruledOf holding ≡ true
 holding-ruled = left-ruled renewed abcd image _ renewed-ruled stores
@@ -159,12 +158,12 @@ pub sections : (steppedOf emptyRecord announcing image ≡ record { answer = ans
     × (steppedOf renewed abcd image ≡ record { answer = answer.Stored; state = holding }) × (imageOf renewed abcd image ≡ imaged)
     × (steppedOf holding abcd imaged ≡ record { answer = answer.Repeated; state = holding })
     × (steppedOf holding abcd image ≡ record { answer = answer.Refused (refused 17); state = holding })
-unfolding steppedOf imageOf overwrite
+unfolding overwrite
 sections = (
   tells,
-  ap (λ (o : StepOutcome). returning renewed o) (comes renewed announcing image (announced told) renewed-ruled hears-told ∙ told-same),
+  stepped-is renewed announcing image _ (comes renewed announcing image (announced told) renewed-ruled hears-told ∙ told-same) .0,
   stores,
-  ap (λ (o : StepOutcome). imageAfter image o) puts,
-  ap (λ (o : StepOutcome). returning holding o) (comes holding abcd imaged (arrived carried) holding-ruled hears-carried ∙ carried-repeated),
-  ap (λ (o : StepOutcome). returning holding o) (comes holding abcd image (arrived carried) holding-ruled hears-carried ∙ carried-other),
+  stepped-is renewed abcd image _ puts .1,
+  stepped-is holding abcd imaged _ (comes holding abcd imaged (arrived carried) holding-ruled hears-carried ∙ carried-repeated) .0,
+  stepped-is holding abcd image _ (comes holding abcd image (arrived carried) holding-ruled hears-carried ∙ carried-other) .0,
 )

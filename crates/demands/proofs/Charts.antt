@@ -28,8 +28,8 @@ use Rattle.carousel_record.specs.Refusals.{meets13, meets15}
 use Rattle.carousel_record.proofs.Laws.Places.{bytes-most, few-modules}
 use Rattle.carousel_record.proofs.Laws.Rule.{kept, marks-mean, ruled-says}
 use Rattle.carousel_step.specs.declared.Answer.the-variants as answer
-use Rattle.carousel_step.specs.Step.{meets12, meets14, blockRefusal, StepOutcome, refusing, onHeard, outcomeOf, returning, imageAfter, steppedOf, imageOf}
-use Rattle.carousel_step.proofs.Laws.Outcomes.{arrived-bad}
+use Rattle.carousel_step.specs.Step.{meets12, meets14, blockRefusal, refusing, onHeard, outcomeOf, steppedOf, imageOf}
+use Rattle.carousel_step.proofs.Laws.Outcomes.{arrived-bad, stepped-is}
 use Rattle.carousel_step.proofs.Simulation.{outcome-ruled}
 use Rattle.carousel_step.proofs.Charts as charts
 use Rattle.carousel_step.proofs.Charts.{charted, widened}
@@ -67,8 +67,7 @@ module _ (c : Carousel) (s image : List ℕ) (d : Arrived) (ruled : ruledOf c �
 
   pub beyond-the-image : length image < bytesOf (announcedBy c)
       → (steppedOf c s image ≡ record { answer = answer.Refused (refused 15); state = c }) × (imageOf c s image ≡ image)
-  unfolding steppedOf imageOf
-  beyond-the-image l = (ap (λ (o : StepOutcome). returning c o) (comes-to-15 l), ap (λ (o : StepOutcome). imageAfter image o) (comes-to-15 l))
+  beyond-the-image l = stepped-is c s image _ (comes-to-15 l)
 
 -- and an image of 262,144 bytes is never too short
 pub image-enough : (c : Carousel) (image : List ℕ) → ruledOf c ≡ true → 0 < length (announcedBy c .modules) → 262144 ≤ length image → meets15 (announcedBy c) (length image) ≡ false

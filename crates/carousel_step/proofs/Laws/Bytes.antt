@@ -13,7 +13,7 @@ use Rattle.carousel_record.specs.Record.{sameNumbers}
 use Rattle.carousel_step.specs.Step.{sameModules}
 
 -- a test and one that fails
-fails : (t : Bool) → (t && false) ≡ false
+pub fails : (t : Bool) → (t && false) ≡ false
 fails true = refl
 fails false = refl
 
