@@ -99,7 +99,7 @@ unfolding among
 among-back n [] f = refl
 among-back n (k ∷ ks) f = rw (ne-eqb k n (λ e. f (List·Memᴰ·head (sym e)))) (among-back n ks (λ m. f (List·Memᴰ·tail m)))
 
-distinct-there : (ks : List ℕ) → twice11 ks ≡ false → Distinct ks
+pub distinct-there : (ks : List ℕ) → twice11 ks ≡ false → Distinct ks
 unfolding twice11
 distinct-there [] e = tt
 distinct-there (k ∷ ks) e = let p = neither (among k ks) (twice11 ks) e in (among-there k ks (p .0), distinct-there ks (p .1))

@@ -51,7 +51,8 @@ pub struct Block {
     pub size: usize,
 }
 
-// A module as it is announced.
+// A module as it is announced. It has C's layout: programs in C hold it.
+#[repr(C)]
 pub struct Listed {
     pub number: u16,
     pub size: u32,

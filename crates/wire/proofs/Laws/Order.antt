@@ -1,11 +1,12 @@
 -- In a table whose numbers need not rise, the answer is the number of the first test that holds.
-use Prim.Native.Nat.{ℕ, _<_}
+use Prim.Native.Nat.{ℕ, _<_, _≤_}
 use mathlib.Core.Path.{_≡_, refl, ap}
 use mathlib.Core.Logic.{_↔_, _⊎_, inl, inr}
 use mathlib.Core.Bool.{Bool, true, false, cond}
 use mathlib.Core.List.{[], _∷_, _++_}
 use native.Mathlib.Omega.{arith}
-use Rattle.wire.specs.Tests.{Tests, firstMet}
+use Rattle.wire.specs.Tests.{Tests, firstMet, RisingFrom}
+use Rattle.wire.proofs.Laws.Tests.{clash}
 
 -- no test holds
 abbrev pub None : Tests → Type 0
@@ -74,3 +75,33 @@ first-means ts n = (there ts, λ q. back (q .0) (q .1) ts (q .2) (q .3))
         go : (us : Tests) → None us → First n (us ++ (n, true) ∷ vs)
         go [] h = inl (refl, refl)
         go (u ∷ us) h = inr (h .0, go us (h .1))
+
+-- IN A TABLE WHOSE NUMBERS RISE, n exactly where n's own test holds and none before it does
+above : (k : ℕ) (ts : Tests) → RisingFrom k ts → (n : ℕ) → 0 < n → n ≤ k → firstMet ts ≡ n → ⊥
+unfolding firstMet
+above k [] r n p l e = omega arith
+above k (t ∷ ts) r n p l e = go (t .1) e (λ f. above (t .0) ts (r .1) n p (omega (arith, r .0, l)) f)
+  where
+    go : (b : Bool) → cond b (t .0) (firstMet ts) ≡ n → (firstMet ts ≡ n → ⊥) → ⊥
+    go true e f = omega (arith, r .0, l, e)
+    go false e f = f e
+
+before : (k : ℕ) (us : Tests) (n : ℕ) (b : Bool) (vs : Tests) → RisingFrom k (us ++ (n, b) ∷ vs) → k < n
+before k [] n b vs r = r .0
+before k (u ∷ us) n b vs r = let h = before (u .0) us n b vs (r .1) in omega (arith, r .0, h)
+
+nth-from : (n : ℕ) (b : Bool) (vs : Tests) (k : ℕ) (us : Tests) → RisingFrom k (us ++ (n, b) ∷ vs) → (firstMet (us ++ (n, b) ∷ vs) ≡ n) ↔ (None us × (b ≡ true))
+unfolding firstMet
+nth-from n b vs k [] r = go b
+  where
+    go : (b : Bool) → (cond b n (firstMet vs) ≡ n) ↔ (Unit {0} × (b ≡ true))
+    go true = (λ e. (tt, refl), λ h. refl)
+    go false = (λ e. absurd (above n vs (r .1) n (omega (arith, r .0)) (omega arith) e), λ h. absurd (clash false (h .1) refl))
+nth-from n b vs k (u ∷ us) r = go (u .1) (nth-from n b vs (u .0) us (r .1))
+  where
+    go : (c : Bool) → (firstMet (us ++ (n, b) ∷ vs) ≡ n) ↔ (None us × (b ≡ true)) → (cond c (u .0) (firstMet (us ++ (n, b) ∷ vs)) ≡ n) ↔ (((c ≡ false) × None us) × (b ≡ true))
+    go true h = (λ e. let l = before (u .0) us n b vs (r .1) in absurd (omega (arith, l, e)), λ w. absurd (clash true refl (w .0 .0)))
+    go false h = (λ e. let w = h .0 e in ((refl, w .0), w .1), λ w. h .1 (w .0 .1, w .1))
+
+pub nth-exactly : (us : Tests) (n : ℕ) (b : Bool) (vs : Tests) → RisingFrom 0 (us ++ (n, b) ∷ vs) → (firstMet (us ++ (n, b) ∷ vs) ≡ n) ↔ (None us × (b ≡ true))
+nth-exactly us n b vs r = nth-from n b vs 0 us r

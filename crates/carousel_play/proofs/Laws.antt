@@ -1,0 +1,9 @@
+pub mod Framing
+pub mod Payload
+pub mod Limits
+pub mod Places
+pub mod Members
+pub mod Pieces
+pub mod Spots
+pub mod Chosen
+pub mod Refusals

@@ -1,0 +1,5 @@
+pub mod Laws
+pub mod Heard
+pub mod Exact
+pub mod Unique
+pub mod Soundings

@@ -1,0 +1,4 @@
+pub mod Bytes
+pub mod Rotation
+pub mod Calls
+pub mod Pieces
