@@ -1,7 +1,7 @@
 #!/usr/bin/env python3
-"""The calls that take the record behind a reference. Their theorems of one answer (proofs/Unique.antt) are over the equations of their contracts, written out by hand: here
+"""The calls that take a record behind a reference. Their theorems of one answer (proofs/Unique.antt) are over the equations of their contracts, written out by hand: here
 each premise is held to the contract's text (`ensures` in src/lib.rt), equation by equation, so that changing either alone fails. In the contract's words, `now (c .entry)` is
-the record c, that of a slice the slice, `now (c .exit)` is d, the record after, and `now (image .exit)` is l, the image after.
+the record c, that of a slice the slice, `now (c .exit)` is d, the record after, and `now (image .exit)` is l, the image after; so is `now (out .exit)`, the bytes written to.
 
 A premise may leave an equation of the contract out, since fewer leave more answers; which do, is said in LEFT_OUT. None may have one that the contract has not."""
 import re
@@ -48,7 +48,7 @@ def contract(source, name):
     """The equations of a call's contract, in the theorem's names."""
     said = re.search(r"\bfn %s\([^{]*?ensures \{ λ r\. ⌜(.*?)⌝ \}" % name, source, re.S)[1]
     said = re.sub(r"\(now \((\w+) \.entry\)\)", lambda m: {"stretch": "s", "section": "s"}.get(m[1], m[1]), said)
-    said = re.sub(r"now \((\w+) \.exit\)", lambda m: {"c": "d", "image": "l"}[m[1]], said)
+    said = re.sub(r"now \((\w+) \.exit\)", lambda m: {"c": "d", "image": "l", "out": "l"}[m[1]], said)
     return parts(bare(said), "×")
 
 
@@ -112,6 +112,10 @@ def tried():
         ("nebosvar", "nebosvar_missing", 1, "r ≡ lackOut (reportOf c number)", "(r ≡ lackOut (reportOf c number)) × (number ≡ 0)"),
         ("nebosvar", "nebosvar_step", 0, "Rattle.carousel_step.specs.Step.{imageOf}", "Rattle.carousel_step.specs.Other.{imageOf}"),
         ("nebosvar", "nebosvar_handout", 0, "partOut (now (c .entry)) (now (image .entry)) number)", "partOut (now (c .entry)) (now (image .entry)) 0)"),
+        ("nebosvar", "nebosvar_section_count", 0, "countedOut (countAnswer (now (playlist .entry)))", "countedOut (countAnswer p)"),
+        ("nebosvar", "nebosvar_write_section", 1, "× (l ≡ playedBytes identifier playlist image place out)", "× (l ≡ playedBytes identifier playlist image 0 out)"),
+        ("nebosvar", "nebosvar_write_section", 1, "→ (r ≡ r′) × (l ≡ l′)", "→ r ≡ r′"),
+        ("nebosvar", "nebosvar_write_section", 0, "place (length (now (out .entry)))))", "place (length (now (image .entry)))))"),
     ):
         both = list(texts(crate))
         assert old in both[which], (crate, old)

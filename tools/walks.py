@@ -1,5 +1,5 @@
 #!/usr/bin/env python3
-"""walks.py: writes the proofs of the entries that take the record behind a reference. walks.py --check tells whether the files are what it writes.
+"""walks.py: writes the proofs of the entries that take a record behind a reference. walks.py --check tells whether the files are what it writes.
 
 The prover covers no reference to a struct, so each of these functions needs a walk of its MIR, statement by statement. A walk goes by
 positions (local i of n lies at 2 (n - 1 - i)), which compute only where the code is known: no law can take it, but a program can write it.
@@ -8,17 +8,20 @@ Two shapes:
     &mut   { let s = CALLEE(*c, P..); *c = s.state; s.answer }      over CALLEE(c, P..) -> STEPPED, a struct of an answer and the record
     &      { CALLEE(*c, P..) }                                      over CALLEE(c, P..) -> ANSWER
 
-P are numbers, `&` (a &[u8]) and, in the first shape, one `&mut` (a &mut [u8]). In a row's equations h is the record, a1, a2, .. the numbers, (aN .now)
-a slice's bytes, r what the callee answers and zs the image after it. A row that does not fit its code or contract is refused by the prover.
+P are numbers, `&` (a &[u8]) and one `&mut` (a &mut [u8]), which the second shape may do without. The record is the carousel's, or what the row says. In a
+row's equations h is the record, a1, a2, .. the numbers, (aN .now) a slice's bytes, r what the callee answers and zs the bytes of the `&mut` after it. A row
+that does not fit its code or contract is refused by the prover.
 """
 import sys
 from pathlib import Path
 
 ROOT = Path(__file__).resolve().parent.parent
-RECORD = ("carousel_record", "Carousel")
+# the crate of the record, its type, and what it is called
+RECORD = ("carousel_record", "Carousel", "record")
+PLAYLIST = ("carousel_play", "Playlist", "playlist")
 
-# crate, entry, callee, shape, parameters, STEPPED or nothing, ANSWER (its crate; enum or struct) and its field in STEPPED if that is
-# not `answer`, the callee's equations, names to import
+# crate, entry, callee, shape, the record if it is not the carousel's, parameters, STEPPED or nothing, ANSWER (its crate; enum or struct) and its field in
+# STEPPED if that is not `answer`, the callee's equations, names to import
 ENTRIES = [
     dict(
         crate="carousel_step", entry="step_in", callee="step", shape="&mut", params="& &mut", stepped="Stepped", answer=("carousel_step", "Answer", "enum"),
@@ -56,6 +59,17 @@ ENTRIES = [
         fact="r ≡ lackOut (reportOf h a1)",
         use=[("carousel_handout", "Calls", "reportOf"), ("nebosvar", "Box", "lackOut")],
     ),
+    dict(
+        crate="nebosvar", entry="nebosvar_section_count", callee="section_count", shape="&", record=PLAYLIST, params="", stepped=None, answer=("nebosvar", "CountedOut", "struct"),
+        fact="r ≡ countedOut (countAnswer h)",
+        use=[("carousel_play", "Calls", "countAnswer"), ("nebosvar", "Play", "countedOut")],
+    ),
+    dict(
+        crate="nebosvar", entry="nebosvar_write_section", callee="write_section", shape="&", record=PLAYLIST, params="& u32 usize &mut", stepped=None,
+        answer=("nebosvar", "WrittenOut", "struct"),
+        fact="(r ≡ playedOut (playAnswer a2 h (a1 .now) a3 (length (a4 .now)))) × (zs ≡ playedBytes a2 h (a1 .now) a3 (a4 .now))",
+        use=[("carousel_play", "Calls", "playAnswer, playedBytes"), ("nebosvar", "Play", "playedOut")],
+    ),
 ]
 
 MOST = 170  # characters in a line
@@ -68,8 +82,8 @@ def nest(xs, end="tt"):
     return end
 
 
-def laid_out(head, xs, indent):
-    """A definition by a nested tuple: on one line, or as rt's formatter lays it out."""
+def laid_out(head, xs, indent, end=""):
+    """A nested tuple after a head: on one line, or as rt's formatter lays it out."""
 
     def lines(xs, indent, taken=0):
         whole = indent + nest(xs)
@@ -78,8 +92,9 @@ def laid_out(head, xs, indent):
         inner = lines(xs[1:], indent + "  ")
         return [indent + "(", "%s  %s," % (indent, xs[0])] + inner[:-1] + [inner[-1] + ",", indent + ")"]
 
-    whole = lines(xs, indent, len(head) + 3)
-    return ["%s%s = %s" % (indent, head, whole[0].strip())] + whole[1:]
+    whole = lines(xs, indent, len(head) + len(end))
+    whole[0] = indent + head + whole[0].strip()
+    return whole[:-1] + [whole[-1] + end]
 
 
 def listed(xs):
@@ -92,17 +107,18 @@ def dashed(name):
 
 class Walk:
     def __init__(self, row):
-        self.field = "answer"
+        self.field, self.record = "answer", RECORD
         self.__dict__.update(row)
         self.mutable = self.shape == "&mut"
         self.params = self.params.split()
         self.k = len(self.params)
         slices = [i for i, p in enumerate(self.params) if p[0] == "&"]
         self.image_at = self.params.index("&mut") if "&mut" in self.params else None
-        assert self.mutable == (self.image_at is not None)
+        self.lends = self.image_at is not None  # bytes to be written to
+        assert self.lends or not self.mutable
         self.life = {i: 1 + j for j, i in enumerate(slices)}  # parameter -> its lifetime's number
         self.lives = 1 + len(slices)
-        self.locals = self.k + (6 if self.mutable else 3)
+        self.locals = self.k + (6 if self.mutable else 5 if self.lends else 3)
         self.result = self.stepped or self.answer[1]
         self.laws = "EL" if self.answer[2] == "enum" else "LL"
 
@@ -164,7 +180,7 @@ class Walk:
         return base + 2 * (self.locals - 1 - i)
 
     def imports(self):
-        m = self.mutable
+        m, lends = self.mutable, self.lends
         widths = sorted({self.width(i) for i in range(self.k) if self.number(i)}, key=lambda w: int(w[1:]))
         numbers = sorted({p for p in self.params if p in BITS}, key=lambda p: (BITS[p], p))
         if self.lives > 1 and "u8" not in numbers:
@@ -190,11 +206,12 @@ class Walk:
         yield "contract.Monad.{Fun, fact}"
         yield "contract.Running.{givenOf, tables, tablesOf}"
         yield "types.Kit.{Given, ‵, raw, _⊛_, ⋆, some, later, _$_, _∵_, !, qed, by, move, keep, drop, use1, use2, split, join, pick}"
-        yield "types.Kit.{%sfsplit, fsplit3, fjoin, fjoin3, %sfeqI, suffices, frame, await, done}" % (("rewrite, ", "feqL, ") if m else ("", ""))
-        yield "types.Run.{look, look-raw, %sinit, forget, stop, hop, %sfrom, load, %sof-opd, and-then, no-more, assigns, land}" % (("store-raw, ", "fld, ", "addr, ") if m else ("", "", ""))
+        yield "types.Kit.{%sfsplit, fsplit3, fjoin, fjoin3, %sfeqI, suffices, frame, await, done}" % ("rewrite, " * m, "feqL, " * lends)
+        yield "types.Run.{look, look-raw, %sinit, forget, stop, hop, %sfrom, load, %sof-opd, and-then, no-more, assigns, land}" % ("store-raw, " * m, "fld, " * lends, "addr, " * lends)
         yield "types.Run.{returns, enter, alloc1, alloc0, params1, pass1, pass0, free1, free0}"
-        if m:
+        if lends:
             yield "types.Part.{agg, whole, sub, look-in}"
+        if m:
             yield "types.SemTy.{Body}"
         yield "sound.WpLaws.{FmC, fmOf, WpFn-mono}"
         yield "denote.RattleType.{owns}"
@@ -205,7 +222,7 @@ class Walk:
         yield "denote.Builtin.{%s}" % ", ".join(numbers)
         yield "denote.Ref.{%s%s}" % ("RefT, " if some_slice else "", "MutRef, ptr-vals, mut-tells" if m else "ShrRef, ptr-vals, shr-tells")
         if some_slice:
-            yield "denote.Slice.{sliceVal, ShrSlice, %sslice-vals, shr-slice-tells%s}" % (("MutSlice, finally, ", ", mut-slice-tells") if m else ("", ""))
+            yield "denote.Slice.{sliceVal, ShrSlice, %sslice-vals, shr-slice-tells%s}" % ("MutSlice, finally, " * lends, ", mut-slice-tells" * lends)
         yield "denote.Signature.{plain%s}" % (", shrSliceOf" if some_slice else "")
         yield "denote.Steps.{%s, owned, peeks, heard, nothing}" % ("only, opens, closes" if m else "looks, shuts")
         yield "denote.Struct.Steps.{spelt}"
@@ -218,15 +235,15 @@ class Walk:
         yield "denote.Triple.Entry.{Args, Vals, onEntry}"
         yield "denote.Triple.Spec.{Meets, tripleOf}"
         yield "denote.Triple.Table.{entered, cited}"
-        kept = ("stay-ref, gave-slice", "goes-ref, goes-gave-slice") if m else ("stay-none-ref", "goes-none-ref")
-        yield "denote.Triple.Walked.{says, Stays, %s, stay-dropped, walkOf, AllGo, goes-dropped, %s}" % kept
+        kept = ["%s%s" % (own, given * lends) for own, given in ((("stay-ref" if m else "stay-none-ref"), ", gave-slice"), (("goes-ref" if m else "goes-none-ref"), ", goes-gave-slice"))]
+        yield "denote.Triple.Walked.{says, Stays, %s, stay-dropped, walkOf, AllGo, goes-dropped, %s}" % tuple(kept)
         yield "denote.Triple.Walked.{Walks, ends-at, walked, walk-meets}"
         yield "denote.Exit.{yes}"
-        yield "%s.{%s}" % (self.specs(RECORD[0], "declared." + RECORD[1]), RECORD[1])
+        yield "%s.{%s}" % (self.specs(self.record[0], "declared." + self.record[1]), self.record[1])
         yield "%s.{%s}" % (self.specs(self.crate if self.stepped else self.answer[0], "declared." + self.result), self.result)
         for crate, module, names in self.use:
             yield "%s.{%s}" % (self.specs(crate, module), names)
-        for (crate, kind), short in ((RECORD, "T"),) + (((self.crate, self.stepped), "S"),) * m + ((self.answer[:2], "N"),):
+        for (crate, kind), short in ((self.record[:2], "T"),) + (((self.crate, self.stepped), "S"),) * m + ((self.answer[:2], "N"),):
             yield "%s as %s" % (self.proofs(crate, kind), short)
             yield "%s.Laws as %s′" % (self.proofs(crate, kind), short)
         callee, me = self.proofs(self.crate, self.callee), self.proofs(self.crate, self.entry)
@@ -241,14 +258,14 @@ class Walk:
 
     def fact_of(self, zs):
         if not self.mutable:
-            return "Fact r"
+            return "Fact r %s" % (zs if zs == "zs" else "(%s)" % zs) if self.lends else "Fact r"
         return "(r ≡ wanted) × (%s ≡ wantedImage)%s" % (zs, " × (%s)" % self.besides if hasattr(self, "besides") else "")
 
     def head(self):
         m = self.mutable
         verb = ("opened", "the state of what comes back is stored behind the reference, and the borrow is closed at it") if m else ("looked into", "and the borrow is shut again")
         yield "-- `%s::%s` meets its contract: a walk of its MIR. WRITTEN BY tools/walks.py: change its row there." % (self.crate, self.entry)
-        yield "-- The borrow of the record is %s, the record is copied out and passed to `%s` by value, %s." % (verb[0], self.callee, verb[1])
+        yield "-- The borrow of the %s is %s, the %s is copied out and passed to `%s` by value, %s." % (self.record[2], verb[0], self.record[2], self.callee, verb[1])
         yield "-- All that the proof knows of `%s` is that it meets its contract." % self.callee
         for line in self.imports():
             yield "use " + line
@@ -256,7 +273,7 @@ class Walk:
         stay = lambda i: "gave-slice (%d ∷ []) tt (plain (λ _. u8))" % self.life[i] if i == self.image_at else "stay-dropped (%s) yes" % self.slot(i)
         own = "stay-ref (0 ∷ []) tt (plain (λ _. T.the-row))" if m else "stay-none-ref (0 ∷ []) tt (plain (λ _. T.the-row)) yes"
         yield "abbrev stayed : Stays (me.ended .signature .params) (me.ended .kept)"
-        yield from laid_out("stayed", [own] + self.each(stay), "")
+        yield from laid_out("stayed = ", [own] + self.each(stay), "")
         yield ""
         yield "-- the contract that the proof cites"
         yield "abbrev Callee : {M : Type 1} (𝓤 : URA M) (H : Heap 𝓤) (A : Atoms 𝓤) (at-mem : Memory → SProp 𝓤) (run : Routine → Fun 𝓤) → Contract 𝓤"
@@ -270,8 +287,8 @@ class Walk:
         kappas, shares = self.kappas(0), self.shares(0)
         several = lambda c: " ".join([c] + ["%s%d" % (c, j) for j in range(1, self.lives)])
         yield self.GIVEN + " (%s : Lft) (%s : Share)" % (several("κ"), several("q"))
-        bound = " ".join("(a%d : %s)" % (i + 1, "ℕ" if self.number(i) else "RefT (List ℕ)") for i in range(self.k))
-        yield "    (b o : ℕ) (γ : GName) (h : %s) %s %s where" % (RECORD[1], bound, " ".join(self.each(self.fits)))
+        bound = " ".join(["(a%d : %s)" % (i + 1, "ℕ" if self.number(i) else "RefT (List ℕ)") for i in range(self.k)] + self.each(self.fits))
+        yield "    (b o : ℕ) (γ : GName) (h : %s) %swhere" % (self.record[1], bound and bound + " ")
         for i in sorted(self.life):
             yield "  abbrev s%d : Val" % (i + 1)
             yield "  s%d = sliceVal (a%d .ptr) (length (a%d .now))" % (i + 1, i + 1, i + 1)
@@ -282,11 +299,11 @@ class Walk:
         yield "  abbrev at : Vals me.signature " + kappas
         yield "  at = " + nest(["vptr b o ∷ []"] + self.each(lambda i: self.value(i) + " ∷ []"))
         yield ""
-        yield "  -- the record's machine value"
-        yield "  abbrev mach : %s → Val" % RECORD[1]
+        yield "  -- the %s's machine value" % self.record[2]
+        yield "  abbrev mach : %s → Val" % self.record[1]
         yield "  mach d = LL.val T.the-type T′.the-laws d"
         yield ""
-        yield "  typed : (d : %s) (v : Val) → Is T.the-row d (v ∷ []) → Holds (hasTy T′.mir v) × WT v" % RECORD[1]
+        yield "  typed : (d : %s) (v : Val) → Is T.the-row d (v ∷ []) → Holds (hasTy T′.mir v) × WT v" % self.record[1]
         yield "  typed d v is = LL.lawful T.the-type T′.the-laws 𝓤 H A W .typed d _ is .0"
         yield ""
         if self.mutable:
@@ -296,8 +313,8 @@ class Walk:
             yield "  abbrev wantedImage : List ℕ"
             yield "  wantedImage = " + self.image
         else:
-            yield "  abbrev Fact : %s → Type 0" % self.result
-            yield "  Fact r = " + self.fact
+            yield "  abbrev Fact : %s → %sType 0" % (self.result, "List ℕ → " * self.lends)
+            yield "  Fact r %s= %s" % ("zs " * self.lends, self.fact)
         yield ""
         lent = "((%s, %s, tt, a, at), tt)" % (kappas, shares)
         yield "  abbrev Post : Val → SProp 𝓤"
@@ -323,15 +340,17 @@ class Walk:
     def exits(self, lent):
         m = self.mutable
         if m:
-            had = ["‵ (fobs γ (T.the-row .coded .code (r .state)))", "‵ (fbor κ (Body (mem T.the-row) b o γ))", "‵ (flft κ q)", self.tokens(1), "‵ (finally u8 (a%d .name) zs)" % (self.image_at + 1)]
-            answer, names = "(r .%s)" % self.field, "zs e l"
+            had = ["‵ (fobs γ (T.the-row .coded .code (r .state)))", "‵ (fbor κ (Body (mem T.the-row) b o γ))", "‵ (flft κ q)", self.tokens(1)]
+            answer = "(r .%s)" % self.field
             said = "(ap (λ (s : {0}). s .{1}) (e .0), ap (λ (s : {0}). s .state) (e .0), e .1{2})".format(self.stepped, self.field, ", e .2" if hasattr(self, "besides") else "")
-            needs = "(zs : List ℕ) → %s → length zs ≡ length (a%d .now)" % (self.fact_of("zs"), self.image_at + 1)
-            last, tail = nest(["r .state"] + self.each(lambda i: "zs" if i == self.image_at else "tt")), nest(["tt"] + self.each(lambda i: "l" if i == self.image_at else "tt"))
         else:
             had = ["‵ (flft κ q)", "‵ (fres γ (T.the-row .coded .code h))", "‵ (fshr-bor κ (λ s. partAt T.the-row s h b o))", self.tokens(1)]
-            answer, names, said, needs = "r", "e", "e", "→ Fact r"
-            last = tail = nest(["tt"] * (1 + self.k))
+            answer, said = "r", "e"
+        names, needs = "e", "→ " + self.fact_of("zs")
+        if self.lends:
+            had.append("‵ (finally u8 (a%d .name) zs)" % (self.image_at + 1))
+            names, needs = "zs e l", "(zs : List ℕ) → %s → length zs ≡ length (a%d .now)" % (self.fact_of("zs"), self.image_at + 1)
+        last, tail = (nest([own] + self.each(lambda i: one if i == self.image_at else "tt")) for own, one in (("r .state" if m else "tt", "zs"), ("tt", "l")))
         yield "  exits : (r : %s) (v : Val) %s → Is N.the-row %s (v ∷ [])" % (self.result, needs, answer)
         yield "      → ent 𝓤 (⋆ 𝓤 H A (%s)) (Post v)" % listed(had)
         yield "  exits r v %s is =" % names
@@ -358,33 +377,34 @@ class Walk:
         spelt = "(LL.vals T.the-type T′.the-laws) (LL.tells T.the-type T′.the-laws)"
         to_record = "move ! (%d ∷ []) $ fsplit ! $ fsplit3 ! $ drop ! $ move ! (%d ∷ []) $ split ! $ move ! (%s) $" % (2 * n + 1, 2 * n + 3, "2 ∷ 3 ∷ 0 ∷ []" if m else "3 ∷ 0 ∷ []")
         if m:
-            yield "-- the borrow of the record is opened"
+            yield "-- the borrow of the %s is opened" % self.record[2]
             yield to_record
             yield "opens ! tt T.the-row {h = h} b o (λ vs. spelt ! %s %s fullShare h vs b o $" % (row, spelt)
         else:
-            yield "-- the borrow of the record is looked into"
+            yield "-- the borrow of the %s is looked into" % self.record[2]
             yield to_record
             yield "looks ! tt %s %s ((LL.copy T.the-type T′.the-copy) 𝓤 H A W) h b o (λ q′ vs." % (row, spelt)
             yield "spelt ! %s %s q′ h vs b o $" % (row, spelt)
         yield "move ! (1 ∷ []) $ peeks ! %s h (mach h ∷ []) (λ g. move ! (1 ∷ 0 ∷ []) $" % row
         if m:
-            yield "-- [the record's cell; what it owns; the open borrow; obs; auth; the slices' tokens; what the other parameters own;"
+            yield "-- [the %s's cell; what it owns; the open borrow; obs; auth; the slices' tokens; what the other parameters own;" % self.record[2]
             yield "-- the locals, last first, each with what ends it]"
         else:
-            yield "-- [a share of the record's cell; what it owns; what shuts it; the borrow; the slices' tokens; res;"
+            yield "-- [a share of the %s's cell; what it owns; what shuts it; the borrow; the slices' tokens; res;" % self.record[2]
             yield "-- what the other parameters own; the locals, last first, each with what ends it]"
         yield "assigns ! (of-opd ! (load ! (from ! (hop ! (look ! %d refl) (stop !))) (look-raw ! 0 refl)))" % self.at(7, 1)
         copy = k + 3 if m else k + 2
         yield "(from ! (stop !)) (init ! %d refl (typed h (mach h) g)) $" % self.at(7, copy)
-        if m:
-            image, place, part = self.at(7, self.image_at + 2), self.at(7, k + 4), self.at(7, k + 5)
+        if not m:
+            yield "shuts ! tt T.the-row q′ h (mach h ∷ []) b o $"
+        if self.lends:
+            base = 7 if m else 5
+            image, place, part = self.at(base, self.image_at + 2), self.at(base, copy + 1), self.at(base, copy + 2)
             yield "assigns ! (addr ! (from ! (fld ! refl (hop ! (look-in ! %d (sub ! 0 refl (whole !))) (stop !)))))" % image
             yield "(from ! (stop !)) (init ! %d refl (tt, tt)) $" % place
             yield "assigns ! (agg ! (and-then ! (load ! (from ! (stop !)) (look ! %d refl))" % place
             yield "(and-then ! (load ! (from ! (fld ! refl (stop !))) (look-in ! %d (sub ! 1 refl (whole !)))) (no-more !))))" % image
             yield "(from ! (stop !)) (init ! %d refl %s) $" % (part, self.well_typed(self.image_at))
-        else:
-            yield "shuts ! tt T.the-row q′ h (mach h ∷ []) b o $"
         yield from self.call(copy)
         yield from (self.back_stored() if m else self.back())
 
@@ -395,7 +415,7 @@ class Walk:
         joined = ("0 ∷ 7 ∷ []", "6 ∷ 0 ∷ []") if m else ("0 ∷ 5 ∷ []", "3 ∷ 0 ∷ []")
         yield "move ! (%s) $ fjoin ! $ move ! (%s) $ use2 W (raw (Callee 𝓤 H A at-mem run .pre to-callee)) goes-callee $" % joined
         base = 6 if m else 4
-        places = [self.at(base, copy)] + [self.at(base, k + 5 if i == self.image_at else i + 2) for i in range(k)]
+        places = [self.at(base, copy)] + [self.at(base, copy + 2 if i == self.image_at else i + 2) for i in range(k)]
         loads = "(no-more !)"
         for p in reversed(places):
             loads = "(and-then ! (load ! (from ! (stop !)) (look ! %d refl)) %s)" % (p, loads)
@@ -414,7 +434,11 @@ class Walk:
         yield "split ! $ move ! (1 ∷ []) $ heard ! (%s) (λ e." % self.fact_of(self.last_image())
 
     def last_image(self):
-        return "zs" + " .1" * (self.image_at + 1) + " .0" if self.mutable else ""
+        return "zs" + " .1" * (self.image_at + 1) + " .0" if self.lends else ""
+
+    def last_told(self):
+        yield "-- of what says the last values, %s" % ("the image's" if self.mutable else "those of the bytes that are lent to be written to")
+        yield "fsplit ! $ drop ! $ " * (self.image_at + 1) + "fsplit ! $ fsplit ! $ move ! (1 ∷ []) $ feqL ! (λ l."
 
     def freed(self, base):
         n = self.locals
@@ -425,8 +449,7 @@ class Walk:
         """The answer is taken apart, its record stored, the borrow closed."""
         k = self.k
         answer, state = "(LL.owed S.the-type S′.the-laws r (w ∷ []) is .0)", "(LL.owed S.the-type S′.the-laws r (w ∷ []) is .1 .0)"
-        yield "-- of what says the last values, the image's"
-        yield "fsplit ! $ drop ! $ " * (self.image_at + 1) + "fsplit ! $ fsplit ! $ move ! (1 ∷ []) $ feqL ! (λ l."
+        yield from self.last_told()
         yield "move ! (2 ∷ []) $ split ! $ move ! (1 ∷ []) $ peeks ! S.the-row (Is S.the-row) (shows 𝓤 H A S.the-row) r (w ∷ []) (λ is."
         whole = self.at(9, k + 2)
         yield "land ! (from ! (stop !)) (init ! %d refl (LL.lawful S.the-type S′.the-laws 𝓤 H A W .typed r _ is .0)) $" % whole
@@ -443,10 +466,16 @@ class Walk:
         yield "keep ! (0 ∷ 1 ∷ 2 ∷ 4 ∷ 5 ∷ []) $ by ! (exits r _ (%s) e l %s" % (self.last_image(), answer) + ")" * (self.locals + 9)
 
     def back(self):
-        yield "drop ! $ split ! $ move ! (1 ∷ []) $ peeks ! N.the-row (Is N.the-row) (shows 𝓤 H A N.the-row) r (w ∷ []) (λ is."
-        yield "land ! (from ! (stop !)) (init ! %d refl (LL.lawful N.the-type N′.the-laws 𝓤 H A W .typed r _ is .0)) $" % self.at(5, 0)
-        yield from self.freed(5)
-        yield "keep ! (2 ∷ 4 ∷ 3 ∷ 1 ∷ []) $ by ! (exits r _ e is" + ")" * (self.locals + 8)
+        if self.lends:
+            yield from self.last_told()
+        base, to_answer = (7, "move ! (2 ∷ [])") if self.lends else (5, "drop !")
+        yield "%s $ split ! $ move ! (1 ∷ []) $ peeks ! N.the-row (Is N.the-row) (shows 𝓤 H A N.the-row) r (w ∷ []) (λ is." % to_answer
+        yield "land ! (from ! (stop !)) (init ! %d refl (LL.lawful N.the-type N′.the-laws 𝓤 H A W .typed r _ is .0)) $" % self.at(base, 0)
+        yield from self.freed(base)
+        if self.lends:
+            yield "keep ! (4 ∷ 6 ∷ 5 ∷ 1 ∷ 2 ∷ []) $ by ! (exits r _ (%s) e l is" % self.last_image() + ")" * (self.locals + 9)
+        else:
+            yield "keep ! (2 ∷ 4 ∷ 3 ∷ 1 ∷ []) $ by ! (exits r _ e is" + ")" * (self.locals + 8)
 
     def tail(self):
         m, lives = self.mutable, self.lives
@@ -458,12 +487,12 @@ class Walk:
         yield "  walks C Λ fm known ="
         yield "      walked 𝓤 H A me.ended stayed (me.clauses 𝓤 H A at-mem run) (WpFn 𝓤 H C Λ code.function)"
         yield "      (λ κs. %s)" % nest(["ptr-vals"] + self.each(lambda i: "uint-vals " + self.width(i) if self.number(i) else "slice-vals"))
-        yield "      (λ κs. %s)" % nest(["%s (named 0) (κs .0) T.the-row" % ("mut-tells" if m else "shr-tells")] + self.each(self.tells))
+        yield from laid_out("(λ κs. ", ["%s (named 0) (κs .0) T.the-row" % ("mut-tells" if m else "shr-tells")] + self.each(self.tells), "      ", ")")
         part = lambda x, j: "(%s%s .0)" % (x, " .1" * j)
         yield "      (λ κs qs bounds a g are. via 𝓤 _ (fst∗ 𝓤 _ (emp 𝓤)) (walk 𝓤 H A W at-mem run"
         yield "      %s (a .0 .ptr .0) (a .0 .ptr .1) (a .0 .name) (a .0 .now)" % " ".join([part("κs", j) for j in range(lives)] + [part("qs", j) for j in range(lives)])
         bounds = ["(are%s .0%s)" % (" .1" * (i + 1), " .1" if self.number(i) else " .0 .1 .0") for i in range(self.k)]
-        yield "      %s C Λ fm known))" % " ".join([part("a", i + 1) for i in range(self.k)] + bounds)
+        yield "      %s))" % " ".join([part("a", i + 1) for i in range(self.k)] + bounds + ["C Λ fm known"])
         yield ""
         yield "  goes : AllGo 𝓤 H A W %d (me.signature .params) (me.ended .kept) stayed" % lives
 
@@ -473,7 +502,7 @@ class Walk:
             return "goes-dropped 𝓤 H A W %d (%s) yes (λ κs x f. refl)" % (lives, self.slot(i))
 
         own = "goes-ref 𝓤 H A W %d 0 tt (plain (λ _. T.the-row))" % lives if m else "goes-none-ref 𝓤 H A W %d (0 ∷ []) tt (plain (λ _. T.the-row)) yes" % lives
-        yield from laid_out("goes", [own] + self.each(go), "  ")
+        yield from laid_out("goes = ", [own] + self.each(go), "  ")
         yield ""
         yield "meets : {M : Type 1} (𝓤 : URA M) (H : Heap 𝓤) (A : Atoms 𝓤) → Given 𝓤 H A → (at-mem : Memory → SProp 𝓤) (run : Routine → Fun 𝓤) (𝓣 : Tables 𝓤 H)"
         yield "    → Triple 𝓤 (𝓣 .C %s) (Callee 𝓤 H A at-mem run)" % callee
@@ -529,6 +558,7 @@ def main():
         path = ROOT / "crates" / row["crate"] / "proofs" / row["entry"] / "Proof.antt"
         text = "\n".join(part for line in Walk(row).text() for part in broken(line)) + "\n"
         if sys.argv[1:] != ["--check"]:
+            path.parent.mkdir(exist_ok=True)
             path.write_text(text)
         elif path.read_text() != text:
             stale.append(str(path.relative_to(ROOT)))

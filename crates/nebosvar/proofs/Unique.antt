@@ -1,7 +1,8 @@
--- Each exported call leaves one answer, one record and one image.
+-- Each exported call leaves one answer, one record and one image, or one content of the bytes that it is lent to write to.
 use Prim.Native.Nat.{ℕ}
 use mathlib.Core.Path.{_≡_, sym, _∙_}
 use mathlib.Core.List.{List}
+use lib.ListN.{length}
 use contract.Lifetimes.{Lfts}
 use borrow.Fn.Kinds.{Dens, resT, endedOf}
 use denote.Triple.Clauses.{AtExit}
@@ -9,13 +10,18 @@ use Rattle.wire.proofs.Once.{OneAnswer}
 use Rattle.carousel_record.specs.declared.Carousel.{Carousel}
 use Rattle.carousel_step.specs.Step.{imageOf}
 use Rattle.carousel_handout.specs.Calls.{reportOf}
+use Rattle.carousel_play.specs.declared.Playlist.{Playlist}
+use Rattle.carousel_play.specs.Calls.{countAnswer, playAnswer, playedBytes}
 use Rattle.receiver.specs.Run.{imageTook, imageRan}
 use Rattle.nebosvar.specs.declared.FateOut.{FateOut}
 use Rattle.nebosvar.specs.declared.TakenOut.{TakenOut}
 use Rattle.nebosvar.specs.declared.PassageOut.{PassageOut}
 use Rattle.ait_numbers.specs.declared.PartOut.{PartOut}
 use Rattle.nebosvar.specs.declared.LackOut.{LackOut}
+use Rattle.nebosvar.specs.declared.CountedOut.{CountedOut}
+use Rattle.nebosvar.specs.declared.WrittenOut.{WrittenOut}
 use Rattle.nebosvar.specs.Box.{stepOut, takeOut, runOut, partOut, lackOut}
+use Rattle.nebosvar.specs.Play.{countedOut, playedOut}
 use Rattle.nebosvar.proofs.nebosvar_start.Kinds as nebosvar-start-kinds
 use Rattle.nebosvar.proofs.nebosvar_start.Reads as nebosvar-start-reads
 use Rattle.nebosvar.proofs.nebosvar_table.Kinds as nebosvar-table-kinds
@@ -99,3 +105,11 @@ nebosvar-handout c image number r r′ p q = p ∙ sym q
 
 pub nebosvar-missing : (c : Carousel) (number : ℕ) (r r′ : LackOut) → r ≡ lackOut (reportOf c number) → r′ ≡ lackOut (reportOf c number) → r ≡ r′
 nebosvar-missing c number r r′ p q = p ∙ sym q
+
+pub nebosvar-section-count : (playlist : Playlist) (r r′ : CountedOut) → r ≡ countedOut (countAnswer playlist) → r′ ≡ countedOut (countAnswer playlist) → r ≡ r′
+nebosvar-section-count playlist r r′ p q = p ∙ sym q
+
+pub nebosvar-write-section : (playlist : Playlist) (image : List ℕ) (identifier place : ℕ) (out l l′ : List ℕ) (r r′ : WrittenOut)
+    → (r ≡ playedOut (playAnswer identifier playlist image place (length out))) × (l ≡ playedBytes identifier playlist image place out)
+    → (r′ ≡ playedOut (playAnswer identifier playlist image place (length out))) × (l′ ≡ playedBytes identifier playlist image place out) → (r ≡ r′) × (l ≡ l′)
+nebosvar-write-section playlist image identifier place out l l′ r r′ p q = (p .0 ∙ sym (q .0), p .1 ∙ sym (q .1))

@@ -1,2 +1,3 @@
 pub mod Box
 pub mod Drift
+pub mod Play

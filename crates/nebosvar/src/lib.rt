@@ -2,10 +2,11 @@
 // is include/nebosvar.h, which names every number.
 //
 // Nothing is decided here. Each call is one of the library's, its answer laid out as a struct of
-// numbers; specs/Box.antt says how, of the drift list specs/Drift.antt, and of tables the specs/ of
-// crate `ait_numbers`.
+// numbers; specs/Box.antt says how, of the drift list specs/Drift.antt, of the shore player
+// specs/Play.antt, and of tables the specs/ of crate `ait_numbers`.
 
 mod drift;
+mod play;
 
 use ait_numbers::ApplicationOut;
 use ait_numbers::DescriptorOut;
@@ -16,10 +17,13 @@ use ait_numbers::PartOut;
 use ait_numbers::TableOut;
 use ait_numbers::spot_number;
 use carousel_handout::Report;
+use carousel_play::Playlist;
 use carousel_record::Carousel;
 use drift::fix_out;
 use drift::list_out;
 use drift::written_out;
+use play::counted_out;
+use play::played_out;
 use receiver::Fate;
 use receiver::What;
 ghost use mathlib.Core.Path.{_≡_};
@@ -31,9 +35,11 @@ ghost use Rattle.carousel_handout.specs.Calls.{handedOut, reportOf};
 ghost use Rattle.receiver.specs.Run.{imageTook, imageRan};
 ghost use Rattle.drift_list.specs.Answers.{listAnswer, fixAnswer, walkAnswer};
 ghost use Rattle.drift_list.specs.Writing.{draft, writeAnswer, writtenBytes};
+ghost use Rattle.carousel_play.specs.Calls.{countAnswer, playAnswer, playedBytes};
 ghost use Rattle.ait_numbers.specs.Reading.{tableOut, applicationOut, descriptorOut, itemAsked, itemOut, extensionOut, labelOut, scopeOf};
 ghost use Rattle.nebosvar.specs.Box.{fateOut, stepOut, whatOut, takeOut, runOut, partOut, lackOut};
 ghost use Rattle.nebosvar.specs.Drift.{listOut, fixOut, writtenOut};
+ghost use Rattle.nebosvar.specs.Play.{countedOut, playedOut};
 
 // What became of a section: its refusal, 0 for none, where it broke, and its kind.
 #[repr(C)]
@@ -88,10 +94,17 @@ pub struct FixOut {
     pub refusal: u8,
 }
 
-// The size of a drift list that was written; 0 on a refusal.
+// The size of what was written, a drift list or a section; 0 on a refusal.
 #[repr(C)]
 pub struct WrittenOut {
     pub size: usize,
+    pub refusal: u8,
+}
+
+// How many sections a rotation has; 0 on a refusal.
+#[repr(C)]
+pub struct CountedOut {
+    pub sections: usize,
     pub refusal: u8,
 }
 
@@ -285,6 +298,29 @@ pub extern "C" fn nebosvar_list_write(
     written_out(answer)
 }
 
+// How many sections one rotation of a playlist has.
+#[no_mangle]
+pub extern "C" fn nebosvar_section_count(playlist: &Playlist) -> CountedOut
+    ensures { λ r. ⌜ r ≡ countedOut (countAnswer (now (playlist .entry))) ⌝ }
+{
+    section_count(*playlist)
+}
+
+// Writes the section at a place of the rotation at the start of `out`.
+#[no_mangle]
+pub extern "C" fn nebosvar_write_section(
+    playlist: &Playlist,
+    image: &[u8],
+    identifier: u32,
+    place: usize,
+    out: &mut [u8],
+) -> WrittenOut
+    ensures { λ r. ⌜ (r ≡ playedOut (playAnswer identifier (now (playlist .entry)) (now (image .entry)) place (length (now (out .entry)))))
+        × (now (out .exit) ≡ playedBytes identifier (now (playlist .entry)) (now (image .entry)) place (now (out .entry))) ⌝ }
+{
+    write_section(*playlist, image, identifier, place, out)
+}
+
 fn step(c: Carousel, s: &[u8], image: &mut [u8]) -> SteppedOut
     ensures { λ r. ⌜ (r ≡ stepOut c (now (s .entry)) (now (image .entry))) × (now (image .exit) ≡ imageOf c (now (s .entry)) (now (image .entry))) ⌝ }
 {
@@ -364,6 +400,26 @@ fn missing(c: Carousel, number: u16) -> LackOut
             refusal: 0,
         },
     }
+}
+
+fn section_count(p: Playlist) -> CountedOut
+    ensures { λ r. ⌜ r ≡ countedOut (countAnswer p) ⌝ }
+{
+    counted_out(carousel_play::section_count(p))
+}
+
+fn write_section(
+    p: Playlist,
+    image: &[u8],
+    identifier: u32,
+    place: usize,
+    out: &mut [u8],
+) -> WrittenOut
+    ensures { λ r. ⌜ (r ≡ playedOut (playAnswer identifier p (now (image .entry)) place (length (now (out .entry)))))
+        × (now (out .exit) ≡ playedBytes identifier p (now (image .entry)) place (now (out .entry))) ⌝ }
+{
+    let answer = carousel_play::write_section(p, image, identifier, place, out);
+    played_out(answer)
 }
 
 fn fate_out(f: Fate) -> FateOut
