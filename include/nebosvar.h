@@ -1,13 +1,13 @@
-/* Nebosvar: the receiver of wheelhouse boxes. Link target/staticlib/libnebosvar.a (x86-64 Linux).
+/* Nebosvar: the receiver of wheelhouse boxes, and the player on shore. Link target/staticlib/libnebosvar.a (x86-64 Linux).
  *
- * Every call is proved to end with its one stated answer, whatever bytes, record and image it is lent:
- * there is nothing to check first. What C can not say is left to the caller: each pointer is to as many
+ * Every call is proved to end with its one stated answer, whatever bytes, record, playlist and image it is
+ * lent: there is nothing to check first. What C can not say is left to the caller: each pointer is to as many
  * bytes as its length says, or numbers (for a length of 0 it is not read); the record, the section and the
- * image of one call do not overlap, nor do the numbers of a list and the bytes it is written to; and nothing
- * else changes what is lent while the call runs. No call keeps a pointer, allocates, blocks or uses anything
- * but what it is lent.
+ * image of one call do not overlap, nor do the numbers of a list and the bytes it is written to, nor the bytes
+ * that a section is written to and the playlist or the image it is made from; and nothing else changes what is
+ * lent while the call runs. No call keeps a pointer, allocates, blocks or uses anything but what it is lent.
  *
- * A refusal (1 to 20, and 30 to 37, below) changes nothing: not the record, not the image, not the bytes to
+ * A refusal (1 to 21, and 30 to 37, below) changes nothing: not the record, not the image, not the bytes to
  * be written to. */
 #ifndef NEBOSVAR_H
 #define NEBOSVAR_H
@@ -20,7 +20,7 @@ extern "C" {
 #endif
 
 /* Refusals: the paper's numbers, in its words. A DII is an announcement, a DDB a block, an AIT an application table; L is the section's length.
- * From 30 on they are the drift list's, and 36 and 37 its writer's. */
+ * 21 is the shore player's. From 30 on they are the drift list's, and 36 and 37 its writer's. */
 enum {
     NEBOSVAR_ACCEPTED = 0,
     NEBOSVAR_BAD_RECORD = 1,                 /* record breaks its rule (carousel calls) */
@@ -43,6 +43,7 @@ enum {
     NEBOSVAR_NO_APPLICATION_DESCRIPTOR = 18, /* an application without exactly one 0x00 descriptor */
     NEBOSVAR_NO_PLACE = 19,                  /* no such place */
     NEBOSVAR_INCOMPLETE = 20,                /* module not complete */
+    NEBOSVAR_SHORT_BUFFER = 21,              /* a short buffer */
     NEBOSVAR_LIST_LENGTH = 30,               /* length */
     NEBOSVAR_LIST_COORDINATE = 31,           /* coordinate range */
     NEBOSVAR_LIST_MINUTE = 32,               /* minute */
@@ -82,10 +83,11 @@ enum {
 enum { /* limits */
     NEBOSVAR_LARGEST_BLOCK = 4066,
     NEBOSVAR_MOST_MODULES = 32,
-    NEBOSVAR_MOST_BLOCKS = 1024,                                        /* of a module */
-    NEBOSVAR_MOST_BYTES = 262144,                                       /* of all modules together: an image of so many is enough for every announcement */
-    NEBOSVAR_MODULE_WORDS = NEBOSVAR_MOST_BLOCKS / 32,                  /* of marks, for each module: 32 */
-    NEBOSVAR_MARK_WORDS = NEBOSVAR_MOST_MODULES * NEBOSVAR_MODULE_WORDS /* of marks, for all: 1,024 */
+    NEBOSVAR_MOST_BLOCKS = 1024,                                         /* of a module */
+    NEBOSVAR_MOST_BYTES = 262144,                                        /* of all modules together: an image of so many is enough for every announcement */
+    NEBOSVAR_MODULE_WORDS = NEBOSVAR_MOST_BLOCKS / 32,                   /* of marks, for each module: 32 */
+    NEBOSVAR_MARK_WORDS = NEBOSVAR_MOST_MODULES * NEBOSVAR_MODULE_WORDS, /* of marks, for all: 1,024 */
+    NEBOSVAR_LARGEST_SECTION = 4096                                      /* bytes to be written to: so many are enough for every section */
 };
 
 typedef struct {
@@ -334,7 +336,7 @@ typedef struct {
 } nebosvar_fix;
 
 typedef struct {
-    size_t size; /* of the list that was written, in bytes */
+    size_t size; /* of the list or the section that was written, in bytes */
     uint8_t refusal;
 } nebosvar_written;
 
@@ -355,6 +357,38 @@ nebosvar_found nebosvar_list_walk(const uint8_t *list, size_t length, size_t k);
  * 5 * count; then, at the first faulty record, with the lowest of 31, 32, 33 and 35 (34 can not come: the spare bits are not given); then
  * with 37. A refusal writes nothing, and what `out` has past the list stays as it was. */
 nebosvar_written nebosvar_list_write(uint32_t issue, uint32_t count, const int32_t *numbers, size_t length, uint8_t *out, size_t room);
+
+/* The shore player. From a playlist, which is an announcement, and an image that holds its modules one after another from byte 0, in
+ * announced order, it writes one rotation of the carousel: the announcement, then each block in order. Sections are asked for by place,
+ * from 0, which is the announcement's. On a refusal all other fields are 0. */
+
+/* A module as it is announced. */
+typedef struct {
+    uint16_t number;
+    uint32_t size;
+    uint8_t version;
+} nebosvar_listed;
+
+typedef struct {
+    uint32_t download;
+    uint16_t block_size;
+    uint16_t count;                                 /* of modules; more than NEBOSVAR_MOST_MODULES is refused with 10 */
+    nebosvar_listed modules[NEBOSVAR_MOST_MODULES]; /* entries from the count on are not looked at */
+} nebosvar_playlist;
+
+typedef struct {
+    size_t sections; /* of one rotation, the announcement among them */
+    uint8_t refusal;
+} nebosvar_counted;
+
+/* How many sections one rotation has (10, 11). */
+nebosvar_counted nebosvar_section_count(const nebosvar_playlist *playlist);
+
+/* Writes the section at a place of the rotation at the start of `out`, which has `room` bytes; `length` is that of the image. The
+ * identifier is the announcement's, with its low half as extension; a block does not look at it. It can refuse with 10 and 11; then, at
+ * every place, with 15 where the image is shorter than the sizes together; then with 19; then with 21. A refusal writes nothing, and what
+ * `out` has past the section stays as it was. */
+nebosvar_written nebosvar_write_section(const nebosvar_playlist *playlist, const uint8_t *image, size_t length, uint32_t identifier, size_t place, uint8_t *out, size_t room);
 
 #ifdef __cplusplus
 }

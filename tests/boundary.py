@@ -14,10 +14,10 @@ from second import ROOT
 CRATES = ROOT / "crates"
 RUST = ROOT / "rust" / "nebosvar" / "src"
 HEADER = ROOT / "include" / "nebosvar.h"
-SOURCES = [CRATES / c / "src" / "lib.rt" for c in ("nebosvar", "ait_numbers", "carousel_record")]
+SOURCES = [CRATES / c / "src" / "lib.rt" for c in ("nebosvar", "ait_numbers", "carousel_record", "carousel_messages", "carousel_play")]
 DRIFT = CRATES / "drift_list" / "src" / "lib.rt"
 ROWS = CRATES / "drift_list" / "specs" / "Writing.antt"
-LIMITS = [CRATES / c / "src" / f for c, f in (("carousel_messages", "limits.rt"), ("carousel_record", "marks.rt"))]
+LIMITS = [CRATES / c / "src" / f for c, f in (("carousel_messages", "limits.rt"), ("carousel_record", "marks.rt"), ("carousel_play", "lib.rt"))]
 
 # ---- names that differ, and why
 
@@ -38,10 +38,14 @@ STRUCTS = {
     "ListOut": "list",
     "FixOut": "found",
     "WrittenOut": "written",
+    "Listed": "listed",
+    "Playlist": "playlist",
+    "CountedOut": "counted",
 }
 RUST_STRUCTS = {"Row": "fix"}  # in Rust, `Fix` is a record that was read
 PARAMETERS = {"c": "record"}  # `record` is a word of the contracts' language
 LENGTHS = {"image": "room", "out": "room"}  # a slice is a pointer and a length; where it is written to, that has a name of its own
+READ = {"nebosvar_write_section": ["image"]}  # the shore's image is not written to
 ARRAYS = {"language": ["first", "second", "third"]}  # three fields are an array
 VARIANTS = {"KIND_REFUSED": "KIND_NONE"}  # the section's kind where it was refused
 WORDS = {"×": "*", "not as above": "not as in the paper"}  # of the paper's table, in a header
@@ -89,20 +93,20 @@ def source_structs(text):
         yield c_type(name), [field(*f) for f in re.findall(r"pub (\w+): ([^,\n]+),", inside)]
 
 
-def crossed(name, type_):
+def crossed(call, name, type_):
     """A parameter as C has it."""
     behind = re.fullmatch(r"&(mut )?(?:\[(u8|i32)\]|([A-Z]\w*))", type_)
     if not behind:
         return [(name, type_)]
     pointer = "*mut " if behind[1] else "*const "
     if behind[3]:
-        return [(PARAMETERS[name], pointer + c_type(behind[3]))]
-    return [(name, pointer + behind[2]), (LENGTHS.get(name, "length"), "usize")]
+        return [(PARAMETERS.get(name, name), pointer + c_type(behind[3]))]
+    return [(name, pointer + behind[2]), ("length" if name in READ.get(call, []) else LENGTHS.get(name, "length"), "usize")]
 
 
 def source_calls(text):
     for name, parameters, answer in re.findall(r"#\[no_mangle\]\s*pub extern \"C\" fn (\w+)\((.*?)\) -> (\w+)", text, re.S):
-        yield name, ([c for p in re.findall(r"(\w+): ([^,]+)", parameters) for c in crossed(p[0], p[1].strip())], c_type(answer))
+        yield name, ([c for p in re.findall(r"(\w+): ([^,]+)", parameters) for c in crossed(name, p[0], p[1].strip())], c_type(answer))
 
 
 def row(calls):
@@ -309,7 +313,7 @@ def swaps(raw):
 def others(raw):
     """Other wrong headers: (what is wrong, text)."""
     for old, new in (
-        ("const uint8_t *image", "uint8_t *image"),
+        ("const uint8_t *image, size_t room", "uint8_t *image, size_t room"),
         ("uint16_t application_type;", "uint32_t application_type;"),
         ("    uint8_t tag;\n", ""),
         ("    uint8_t tag;\n", "    uint8_t tag;\n    uint8_t extra;\n"),
@@ -345,7 +349,17 @@ def others(raw):
         ("NEBOSVAR_LIST_ROOM = 37  ", "NEBOSVAR_LIST_ROOM = 38  "),
         ("/* spare */", "/* minute */"),
         ("nebosvar_list nebosvar_list_read", "nebosvar_written nebosvar_list_read"),
-        ("uint8_t *out, size_t room", "const uint8_t *out, size_t room"),
+        ("size_t length, uint8_t *out, size_t room", "size_t length, const uint8_t *out, size_t room"),
+        ("size_t place, uint8_t *out, size_t room", "size_t place, const uint8_t *out, size_t room"),
+        ("const uint8_t *image, size_t length", "uint8_t *image, size_t length"),
+        ("const uint8_t *image, size_t length", "const uint8_t *image, size_t room"),
+        ("const nebosvar_playlist *playlist, ", "nebosvar_playlist *playlist, "),
+        ("const nebosvar_playlist *playlist);", "const nebosvar_record *playlist);"),
+        ("nebosvar_counted nebosvar_section_count", "nebosvar_written nebosvar_section_count"),
+        ("nebosvar_listed modules[NEBOSVAR_MOST_MODULES]", "nebosvar_module modules[NEBOSVAR_MOST_MODULES]"),
+        ("nebosvar_listed modules[NEBOSVAR_MOST_MODULES]", "nebosvar_listed modules[NEBOSVAR_MODULE_WORDS + 1]"),
+        ("NEBOSVAR_LARGEST_SECTION = 4096 ", "NEBOSVAR_LARGEST_SECTION = 4095 "),
+        ("NEBOSVAR_SHORT_BUFFER = 21,", "NEBOSVAR_SHORT_BUFFER = 22,"),
     ):
         assert raw.count(old) == 1, old
         yield "%r for %r" % (new, old), raw.replace(old, new)
@@ -368,7 +382,7 @@ def rust_type(t):
 def rust_limits():
     """The limits as the Rust crate gives them, in its order; one may follow from those above it."""
     numbers = {}
-    for name, value in re.findall(r"^pub const (\w+): usize = ([^;]+);", (RUST / "limits.rs").read_text(), re.M):
+    for name, value in re.findall(r"^pub const (\w+): usize = ([^;]+);", "".join((RUST / f).read_text() for f in ("limits.rs", "player.rs")), re.M):
         numbers[name] = eval(value.replace("/", "//"), {}, numbers)
     return numbers
 
@@ -376,7 +390,7 @@ def rust_limits():
 def rust():
     """The structs and calls of the Rust crate's declarations."""
     numbers = rust_limits()
-    text = "".join(blank((RUST / f).read_text()) for f in ("ffi.rs", "record.rs", "drift.rs"))
+    text = "".join(blank((RUST / f).read_text()) for f in ("ffi.rs", "record.rs", "drift.rs", "player.rs"))
     structs = {}
     for name, inside in re.findall(r"#\[repr\(C\)\][^{]*pub struct (\w+) \{(.*?)\}", text, re.S):
         fields = structs[snake(name)] = []

@@ -26,7 +26,7 @@ def compare_declarations():
     """The header and the Rust crate beside the source; and that the comparison finds every wrong header."""
     wanted, raw = boundary.source(), boundary.HEADER.read_text()
     found = list(boundary.faults(wanted, raw))
-    assert not found and len(wanted["calls"]) >= 16, "\n".join(found)
+    assert not found and len(wanted["calls"]) >= 18, "\n".join(found)
     counts = tuple(sum(map(len, part)) for part in (wanted["structs"].values(), (ps for ps, _ in wanted["calls"].values()), wanted["constants"]))
     print("embed.py: include/nebosvar.h has the source's %d calls, %d fields, %d parameters and %d constants" % (len(wanted["calls"]), *counts))
     declared = boundary.rust()
@@ -48,7 +48,7 @@ def compare_rust(numbers):
     assert boundary.rust_places() == {n: numbers[n] for n in ("COMMON", "NOWHERE")}, boundary.rust_places()
     assert list(boundary.rust_limits().items()) == list(boundary.limits().items()), (boundary.rust_limits(), boundary.limits())
     words, printed = boundary.short_words(), boundary.rust_words()
-    assert len(words) == 28 and words == printed, set(words.items()) ^ set(printed.items())
+    assert len(words) == 29 and words == printed, set(words.items()) ^ set(printed.items())
     print(
         "embed.py: the Rust crate has the same structs and calls, the same number for each of %d cases, the same %d limits, and the same words for %d refusals"
         % (len(set(taken)), len(boundary.rust_limits()), len(words))
