@@ -2,11 +2,12 @@
 use mathlib.Core.Path.{_≡_, refl}
 use lib.IntN.{pos, negsuc}
 use Rattle.text.specs.Text.{codes, digitsIn}
+use Rattle.text.specs.Digits.{allDigits, valueFrom}
 use Rattle.drift_list.specs.declared.Fix.{Fix}
 use Rattle.drift_list.specs.declared.State.the-variants as state
 use Rattle.drift_report.specs.declared.Asked.the-variants as asked
 use Rattle.drift_report.specs.Lines.{stateName, signedDecimal, padded, sideOf, position, fixLine}
-use Rattle.drift_report.specs.Argument.{allDigits, valueFrom, moduleAsked}
+use Rattle.drift_report.specs.Argument.{moduleAsked}
 
 -- west and south of zero by the least, and at the west end; the second day begins
 last-known : fixLine (record { buoy = 3; state = state.LastKnown; longitude = negsuc 107_999_998; latitude = negsuc 0; minute = 1_440 })

@@ -10,6 +10,8 @@ use Rattle.text.proofs.put_word.Kinds as word-kinds
 use Rattle.text.proofs.put_word.Reads as word-reads
 use Rattle.text.proofs.put_decimal.Kinds as decimal-kinds
 use Rattle.text.proofs.put_decimal.Reads as decimal-reads
+use Rattle.text.proofs.read_decimal.Kinds as read-kinds
+use Rattle.text.proofs.read_decimal.Reads as read-reads
 
 put : OneAnswer 2 put-kinds.ps put-kinds.r put-reads.Post
 put κs a x y s t p q = p .1 ∙ sym (q .1)
@@ -31,3 +33,6 @@ put-decimal κs a x y s t p q = p .1 ∙ sym (q .1)
 put-decimal-text : (κs : Lfts 1) (a : Dens κs decimal-kinds.ps) (x y : resT decimal-kinds.r κs .Denot) (s t : AtExit (endedOf 1 decimal-kinds.ps decimal-kinds.r) κs)
     → decimal-reads.Post κs a x s → decimal-reads.Post κs a y t → s .0 .now ≡ t .0 .now
 put-decimal-text κs a x y s t p q = p .0 ∙ sym (q .0)
+
+read-decimal : OneAnswer 1 read-kinds.ps read-kinds.r read-reads.Post
+read-decimal κs a x y s t p q = p ∙ sym q

@@ -1,13 +1,21 @@
-// Text in lent bytes: a piece, a word by its number, or a number in decimal digits, put at a place.
-// What there is no room for is left out. Nothing here is of DVB.
+// Text in lent bytes: a piece, a word by its number, or a number in decimal digits, put at a place,
+// where what there is no room for is left out; and a number read from its digits. Nothing here is of
+// DVB.
 //
-// The bytes are defined in specs/Text.antt.
+// The bytes are defined in specs/Text.antt, what digits say in specs/Digits.antt.
 ghost use mathlib.Core.Path.{_≡_};
 ghost use mathlib.Core.List.{_∷_, []};
 ghost use Prim.Native.Nat.{_≤_};
 ghost use lib.ListN.{length, set, drop};
 ghost use lib.Seq.{sets};
 ghost use Rattle.text.specs.Text.{reached, wordAt, decimal};
+ghost use Rattle.text.specs.Digits.{saidBy};
+
+// What digits say: a number, or nothing that could be one.
+pub enum Said {
+    Number(u32),
+    Nothing,
+}
 
 // Puts a piece of text at a place, and answers the place after it.
 pub fn put(out: &mut [u8], at: usize, piece: &[u8]) -> usize
@@ -51,6 +59,32 @@ pub fn put_decimal(out: &mut [u8], at: usize, n: u64) -> usize
     }
     let next = put_decimal(out, at, n / 10);
     put_byte(out, next, 48 + (n % 10) as u8)
+}
+
+// The number that one or more decimal digits say, if it is at most `most`. Leading zeros are taken.
+pub fn read_decimal(digits: &[u8], most: u32) -> Said
+    ensures { λ r. ⌜ r ≡ saidBy most (now (digits .entry)) ⌝ }
+{
+    if digits.len() == 0 {
+        return Said::Nothing;
+    }
+    let mut n: u64 = 0;
+    let mut i: usize = 0;
+    while i < digits.len() {
+        let d = digits[i];
+        if d < b'0' {
+            return Said::Nothing;
+        }
+        if b'9' < d {
+            return Said::Nothing;
+        }
+        n = n * 10 + (d - b'0') as u64;
+        if (most as u64) < n {
+            return Said::Nothing;
+        }
+        i += 1;
+    }
+    Said::Number(n as u32)
 }
 
 // Where word k begins.

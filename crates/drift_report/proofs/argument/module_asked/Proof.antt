@@ -1,108 +1,33 @@
--- `drift_report::argument::module_asked` meets its contract. The invariant: what is left is digits where all are, and says after n what all say.
-use borrow.Author.Needs.{needs}
-use Prim.Native.Nat.{_+_, _-_, _*_, _≤_, _<_}
-use mathlib.Core.Path.{_≡_, refl, sym, _∙_}
+-- `drift_report::argument::module_asked` meets its contract: it asks for what the digits say.
+use mathlib.Core.Path.{sym, ap, _∙_}
 use native.Mathlib.Omega.{arith}
-use lib.ListN.{length, drop, getD}
-use Rattle.drift_report.specs.Argument.{allDigits, valueFrom}
-use Rattle.drift_report.proofs.Laws.Asked.{value-from, left-none, low-ends, high-ends, digit-on, value-on, asks-empty, asks-other, asks-wide, asks-module}
+use borrow.Author.Needs.{needs}
+use Rattle.text.proofs.Laws.Said.{said-most}
+use Rattle.drift_report.proofs.Laws.Asked.{askedBy, asked-said}
 use Rattle.drift_report.proofs.argument.module_asked.Statement.{statement}
 use Rattle.drift_report.proofs.argument.module_asked.Tie as tie
 
-abbrev Inv-loop : tie.InvT-loop
-Inv-loop argument n₀ i₀ n i = (i ≤ length argument) × (n < 65536) × (allDigits (drop i argument) ≡ allDigits argument) × (valueFrom n (drop i argument) ≡ valueFrom 0 argument)
+read-decimal-requires : tie.Need-read-decimal-requires
+read-decimal-requires c κs = search needs
 
-abbrev μ-loop : tie.MeasureT-loop
-μ-loop argument n₀ i₀ n i = length argument - i
+enum-known-n : tie.Need-enum-known-n
+enum-known-n c = search needs
 
-returns : tie.Need-returns Inv-loop μ-loop
-returns c = asks-empty _ (c .if1 .taken)
+cast-t5 : tie.Need-cast-t5
+cast-t5 c =
+    let told = c .before in
+    let most = said-most _ _ _ (sym (told .n .given .1) ∙ told .before .before .read-decimal .ensures) in
+    omega (arith, most)
 
-loop-holds : tie.Need-loop-holds Inv-loop μ-loop
-loop-holds c = (omega arith, omega arith, refl, refl)
+enum-told : tie.Need-enum-told
+enum-told c = search needs
 
-shared-slice-read-d : tie.Need-shared-slice-read-d Inv-loop μ-loop
-shared-slice-read-d c = search needs
+returns : tie.Need-returns
+returns c = let told = c .before in ap askedBy (sym (told .n .given .1) ∙ told .before .before .read-decimal .ensures) ∙ sym (asked-said _)
 
-returns-2 : tie.Need-returns-2 Inv-loop μ-loop
-returns-2 c =
-    let head = c .before .before .before in
-    let l = head .loop in
-    let s = head .before .before .args .argument .now in
-    asks-other s (sym (l .inv .2) ∙ low-ends s (l .i) (omega arith) (c .if2 .taken))
-
-returns-3 : tie.Need-returns-3 Inv-loop μ-loop
-returns-3 c =
-    let head = c .before .before .before .before in
-    let l = head .loop in
-    let s = head .before .before .args .argument .now in
-    asks-other s (sym (l .inv .2) ∙ high-ends s (l .i) (omega arith) (c .if3 .taken))
-
-mul-n : tie.Need-mul-n Inv-loop μ-loop
-mul-n c = search needs
-
-cast-n : tie.Need-cast-n Inv-loop μ-loop
-cast-n c = search needs
-
-add-n : tie.Need-add-n Inv-loop μ-loop
-add-n c = search needs
-
-returns-4 : tie.Need-returns-4 Inv-loop μ-loop
-returns-4 c =
-    let b = c .before .before .before in let head = b .before .before in
-    let l = head .loop in
-    let s = head .before .before .args .argument .now in
-    let v = value-on s (l .i) (omega arith) (l .n) in
-    let m = value-from (l .n * 10 + (getD s (l .i) 0 - 48)) (drop (l .i + 1) s) in
-    asks-wide s (omega (arith, m, v, l .inv .3, c .if4 .taken))
-
-add-i : tie.Need-add-i Inv-loop μ-loop
-add-i c = search needs
-
-loop-less : tie.Need-loop-less Inv-loop μ-loop
-loop-less c = search needs
-
-loop-again : tie.Need-loop-again Inv-loop μ-loop
-loop-again c =
-    let digit = c .before in
-    let b = c .before .before .before in let head = b .before .before in
-    let l = head .loop in
-    let s = head .before .before .args .argument .now in
-    let h : l .i < length s = omega arith in (
-      omega arith,
-      c .if4 .left,
-      sym (digit-on s (l .i) h (c .before .before .if2 .left) (digit .if3 .left)) ∙ l .inv .2,
-      sym (value-on s (l .i) h (l .n)) ∙ l .inv .3,
-    )
-
-cast-t13 : tie.Need-cast-t13 Inv-loop μ-loop
-cast-t13 c = search needs
-
-returns-5 : tie.Need-returns-5 Inv-loop μ-loop
-returns-5 c =
-    let head = c .before in
-    let l = head .loop in
-    let s = head .before .before .args .argument .now in
-    let e = left-none (l .n) s (l .i) (omega arith) in
-    asks-module s (l .n) (head .before .if1 .left) (sym (l .inv .2) ∙ e .0) (sym (l .inv .3) ∙ e .1) (l .inv .1)
+returns-2 : tie.Need-returns-2
+returns-2 c = ap askedBy (sym (c .enum-told .given .1) ∙ c .before .before .read-decimal .ensures) ∙ sym (asked-said _)
 
 pub module-asked-spec : {M : Type 1} → statement M
 module-asked-spec =
-    tie.close
-    (tie.spec
-    Inv-loop
-    μ-loop
-    returns
-    loop-holds
-    shared-slice-read-d
-    returns-2
-    returns-3
-    mul-n
-    cast-n
-    add-n
-    returns-4
-    add-i
-    loop-less
-    loop-again
-    cast-t13
-    returns-5)
+    tie.close (tie.spec read-decimal-requires enum-known-n cast-t5 enum-told returns returns-2)
