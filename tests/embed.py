@@ -1,7 +1,8 @@
 #!/usr/bin/env python3
 """The C side: include/nebosvar.h declares what the source exports, by name, order, type and number (tests/boundary.py), and the C programs, compiled with
 every warning an error, print what the programs in Python print: examples/receive.c the paper's lines, and of each module what the receiver says;
-tests/table.c the lines of `inspect`; tests/list.c what tests/driftlist.py reads of a drift list, which it also writes again.
+tests/table.c the lines of `inspect`; tests/list.c what tests/driftlist.py reads of a drift list, which it also writes again; tests/play.c the
+sections that tests/player.py makes.
 
     embed.py          compare the declarations
     embed.py run      the same, then `make install` into a folder of its own, compile the programs with what pkg-config says of it, and run them"""
@@ -16,6 +17,7 @@ from pathlib import Path
 
 import boundary
 import driftlist
+import player
 import program
 import receiver
 import test_inspect
@@ -156,6 +158,62 @@ def check_lists(command):
     print("embed.py: tests/list.c reads what tests/driftlist.py does of %d drift lists, and writes the %d that are accepted again" % (sum(met.values()), met["issue"]))
 
 
+def playlists():
+    """What is announced, the image and the identifier: right, beyond the limits (10), a number twice (11), and an image of one byte less (15)."""
+    rnd = random.Random(1313)
+    for k in range(240):
+        size, count = rnd.choice([1, 2, 64, 1000, player.LARGEST]), rnd.choice([1, 2, 3, 7, player.MODULES])
+        sizes = [rnd.randint(1, 3 * size if count < 8 else size) for _ in range(count)]
+        numbers = rnd.sample(range(65_536), count)
+        if k % 4 == 1:
+            size, sizes, numbers = beyond(rnd, size, sizes, numbers)
+        if k % 4 == 2:
+            numbers, sizes = [*numbers[:-1], *[numbers[0]] * (2 if count == 1 else 1)], [*sizes, *[1] * (count == 1)]
+        modules = [player.Module(n, z, rnd.randrange(256)) for n, z in zip(numbers, sizes)]
+        image = rnd.randbytes(min(sum(sizes), player.TOGETHER))
+        yield player.Announced(rnd.getrandbits(32), size, modules), image[: len(image) - (k % 4 == 3)], rnd.getrandbits(32)
+
+
+def beyond(rnd, size, sizes, numbers):
+    """One of the limits passed: the blockSize, a size, how many modules, or the sizes together."""
+    more = rnd.sample(range(65_536), player.MODULES + 1)
+    last = sizes[:-1]
+    return rnd.choice([
+        (rnd.choice([0, player.LARGEST + 1]), sizes, numbers),
+        (size, [*last, rnd.choice([0, player.BLOCKS * size + 1])], numbers),
+        (size, [1] * len(more), more),
+        (size, [], []),
+        (player.LARGEST, [*last, player.TOGETHER + 1 - sum(last)], numbers),
+    ])
+
+
+def play_input(a, image, identifier):
+    """As tests/play.c reads it."""
+    head = player.packed((a.download, 32), (a.size, 16), (identifier, 32), (len(a.modules), 16))
+    return head + b"".join(player.packed((m.number, 16), (m.size, 32), (m.version, 8)) for m in a.modules[: player.MODULES]) + image
+
+
+def play_lines(a, image, identifier):
+    met = player.limits(a)
+    if met:
+        return ["refused,%d" % min(met)]
+    sections = [s.hex() for s in player.rotation(a, image.ljust(sum(m.size for m in a.modules), b"?"), identifier)]
+    short = player.call(a, image, identifier, 0, 4_096)[0]
+    return ["sections,%d" % len(sections), *(["refused,%d" % short] * len(sections) if short else sections)]
+
+
+def check_plays(command):
+    """What the second program makes of a playlist."""
+    met = dict.fromkeys(("sections", "refused,10", "refused,11", "refused,15"), 0)
+    for k, asked in enumerate(playlists()):
+        name, wanted = "playlist %d" % k, play_lines(*asked)
+        with program.file_of(play_input(*asked)) as stdin:
+            program.check_same(name, program.run_it(command, name, stdin), "".join(l + "\n" for l in wanted).encode())
+        met[next(m for m in reversed(met) if any(l.startswith(m) for l in wanted))] += 1
+    assert min(met.values()) >= 30, met
+    print("embed.py: tests/play.c writes the sections of tests/player.py for %d playlists, and refuses %d" % (met["sections"], sum(met.values()) - met["sections"]))
+
+
 def check_needs(archive):
     """The archive defines the exported functions and asks for nothing but these two of the C library."""
     symbols = subprocess.run(["nm", archive], check=True, capture_output=True, text=True).stdout.split("\n")
@@ -195,7 +253,7 @@ def install(prefix):
     """What `make install` puts there, and that the programs among it run."""
     subprocess.run(["make", "--silent", "-C", ROOT, "install", "PREFIX=%s" % prefix], check=True)
     put = {str(p.relative_to(prefix)) for p in prefix.rglob("*") if p.is_file()}
-    wanted = {"bin/receive", "bin/inspect", "bin/driftlist", "lib/libnebosvar.a", "lib/pkgconfig/nebosvar.pc", "include/nebosvar.h"}
+    wanted = {"bin/receive", "bin/inspect", "bin/driftlist", "bin/player", "lib/libnebosvar.a", "lib/pkgconfig/nebosvar.pc", "include/nebosvar.h"}
     assert put == wanted, put ^ wanted
     printed = subprocess.run(program.under_the_kit(prefix / "bin" / "receive"), input=program.EXAMPLE.stdin, capture_output=True, check=True).stdout
     assert printed == program.PRINTED, printed
@@ -211,6 +269,7 @@ def run_example():
         print("embed.py: the C example over %d modules" % check_modules(command))
         check_tables(compile_strictly(ROOT / "tests" / "table.c", prefix, Path(folder) / "table"))
         check_lists(compile_strictly(ROOT / "tests" / "list.c", prefix, Path(folder) / "list"))
+        check_plays(compile_strictly(ROOT / "tests" / "play.c", prefix, Path(folder) / "play"))
         subprocess.run([sys.executable, ROOT / "tests" / "program.py", "run", *command], check=True)
 
 
