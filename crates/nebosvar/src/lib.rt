@@ -1,5 +1,5 @@
-// What a program in C or Rust calls: numbers, byte slices and the record behind a pointer. The C side
-// is include/nebosvar.h, which names every number.
+// What a program in C or Rust calls: numbers, byte slices, and the record or a playlist behind a
+// pointer. The C side is include/nebosvar.h, which names every number.
 //
 // Nothing is decided here. Each call is one of the library's, its answer laid out as a struct of
 // numbers; specs/Box.antt says how, of the drift list specs/Drift.antt, of the shore player
