@@ -9,8 +9,9 @@
 //! * [`Record::handout`] and [`Record::missing`] answer about one module.
 //! * [`read`] and [`read_all`] read one application section ("The application section").
 //! * [`drift`] reads and writes a drift list, which is of a request of its own and not of the paper.
+//! * [`player`] writes the sections of a carousel, on shore (02, §13).
 //!
-//! Every refusal is a number of the paper's table "Numbers a call may answer", or of the drift list, and changes
+//! Every refusal is a number of the paper's table "Numbers a call may answer", or of a request, and changes
 //! neither the record nor the image nor the buffer. That of a section is a [`Refusal`], which says besides where
 //! it broke (02, §9).
 
@@ -21,6 +22,7 @@ mod ait;
 mod checksum;
 pub mod drift;
 mod message;
+pub mod player;
 mod reader;
 mod record;
 mod refusal;

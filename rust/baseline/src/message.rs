@@ -6,20 +6,22 @@ use crate::record::{Module, MODULES};
 use crate::refusal;
 use crate::section::{Frame, BODY};
 
+/// The first two bytes of every message.
+pub const BEGINNING: [u8; 2] = [0x11, 0x03];
 /// The message number of an announcement, in table 0x3B.
-const ANNOUNCEMENT: u16 = 0x1002;
+pub const ANNOUNCEMENT: u16 = 0x1002;
 /// The message number of a block, in table 0x3C.
-const BLOCK: u16 = 0x1003;
+pub const BLOCK: u16 = 0x1003;
 /// Bytes of the message header.
-const HEADER: usize = 12;
+pub const HEADER: usize = 12;
 /// The fixed fields of a block before its data.
-const BLOCK_FIELDS: usize = 6;
+pub const BLOCK_FIELDS: usize = 6;
 /// The bytes between blockSize and compatibility length, unread.
-const UNREAD: usize = 10;
+pub const UNREAD: usize = 10;
 /// How many section numbers a section header can tell.
-const SECTION_NUMBERS: u16 = 256;
+pub const SECTION_NUMBERS: u16 = 256;
 /// How many versions the five bits of a section header can tell.
-const SECTION_VERSIONS: u8 = 32;
+pub const SECTION_VERSIONS: u8 = 32;
 
 /// A framed announcement; its limits (refusals 10 and 11) are not judged yet.
 pub struct Announcement {
@@ -55,7 +57,7 @@ fn message(body: &[u8], number: u16) -> Result<(u32, &[u8]), u8> {
         .split_first_chunk::<HEADER>()
         .ok_or(refusal::MALFORMED)?;
     let &[protocol, kind, n0, n1, i0, i1, i2, i3, _, adaptation, m0, m1] = header;
-    if [protocol, kind] != [0x11, 0x03] || u16::from_be_bytes([n0, n1]) != number {
+    if [protocol, kind] != BEGINNING || u16::from_be_bytes([n0, n1]) != number {
         return Err(refusal::MESSAGE);
     }
     if usize::from(u16::from_be_bytes([m0, m1])) != rest.len() {

@@ -53,12 +53,12 @@ impl Module {
     };
 
     /// How many blocks it has: ceil(size / blockSize).
-    fn blocks(&self, block_size: u16) -> usize {
+    pub(crate) fn blocks(&self, block_size: u16) -> usize {
         self.size.div_ceil(u32::from(block_size)) as usize
     }
 
     /// Its part of the image.
-    fn part(&self) -> Range<usize> {
+    pub(crate) fn part(&self) -> Range<usize> {
         self.start as usize..self.start as usize + self.size as usize
     }
 }
@@ -341,9 +341,9 @@ fn is_carousel(table: u8) -> bool {
     matches!(table, section::ANNOUNCEMENT | section::BLOCK)
 }
 
-/// The limits of refusals 10 and 11, over an announcement's modules or a record's. More than 32 modules are for
-/// the caller to refuse.
-fn judge(block_size: u16, modules: &[Module]) -> Result<(), u8> {
+/// The limits of refusals 10 and 11, over the modules of an announcement, of a record or of what is to be played.
+/// More than 32 are for the caller to refuse.
+pub(crate) fn judge(block_size: u16, modules: &[Module]) -> Result<(), u8> {
     if block_size == 0 || block_size > MOST_BLOCK_SIZE || modules.is_empty() {
         return Err(refusal::LIMITS);
     }
@@ -377,7 +377,7 @@ fn has_twice(modules: &[Module]) -> bool {
 }
 
 /// Lays the modules one after another from byte 0. Their limits hold.
-fn set_starts(modules: &mut [Module]) {
+pub(crate) fn set_starts(modules: &mut [Module]) {
     let mut start = 0;
     for module in modules {
         module.start = start;

@@ -1,4 +1,5 @@
-//! The paper's "Numbers a call may answer", by name, and the refusal of a section, which says where it broke.
+//! The paper's "Numbers a call may answer" and those of the requests, by name, and the refusal of a section, which
+//! says where it broke.
 
 /// The refusal of a section. A call that takes none refuses by a bare number.
 #[derive(Clone, Copy, PartialEq, Eq, Debug)]
@@ -58,7 +59,7 @@ pub const DOWNLOAD: u8 = 12;
 pub const UNKNOWN_MODULE: u8 = 13;
 /// Version differs.
 pub const VERSION: u8 = 14;
-/// Image shorter than the record's sizes together.
+/// Image shorter than the sizes together, of a record or of what is to be played.
 pub const IMAGE: u8 = 15;
 /// Block number or block length wrong.
 pub const BLOCK: u8 = 16;
@@ -66,13 +67,15 @@ pub const BLOCK: u8 = 16;
 pub const DIFFERS: u8 = 17;
 /// An application without exactly one 0x00 descriptor.
 pub const DESCRIPTION: u8 = 18;
+/// No such place.
+pub const PLACE: u8 = 19;
 /// Module not complete.
 pub const INCOMPLETE: u8 = 20;
+/// Buffer shorter than the section (02, §13).
+pub const ROOM: u8 = 21;
 
 // The drift list.
 
-/// Place past the last record.
-pub const PLACE: u8 = 19;
 /// Under 4 bytes, or not 4 + 12 × count.
 pub const LIST_LENGTH: u8 = 30;
 /// Longitude or latitude out of its range.

@@ -22,10 +22,11 @@ const CURRENT: usize = 5;
 /// Where the section number stands; the last one follows.
 const NUMBER: usize = 6;
 /// Bytes before those that L counts.
-const BEFORE_LENGTH: usize = 3;
+pub const BEFORE_LENGTH: usize = 3;
 /// The least L: header bytes 3 to 7 and the CRC.
 const LEAST_LENGTH: usize = 9;
-const CRC_BYTES: usize = 4;
+/// The bytes of the CRC.
+pub const CRC_BYTES: usize = 4;
 
 /// A section that refusals 2 to 6 do not meet.
 pub struct Frame<'a> {
