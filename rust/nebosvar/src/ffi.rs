@@ -1,6 +1,7 @@
 //! The archive's structs and functions, as `include/nebosvar.h` has them.
 
 use crate::drift::Row;
+use crate::player::{Listed, Playlist};
 use crate::{Module, Record};
 use std::mem::{offset_of, size_of};
 
@@ -145,6 +146,12 @@ pub struct Written {
     pub refusal: u8,
 }
 
+#[repr(C)]
+pub struct Counted {
+    pub sections: usize,
+    pub refusal: u8,
+}
+
 extern "C" {
     pub fn nebosvar_start() -> Record;
     pub fn nebosvar_step(
@@ -222,6 +229,16 @@ extern "C" {
         out: *mut u8,
         room: usize,
     ) -> Written;
+    pub fn nebosvar_section_count(playlist: *const Playlist) -> Counted;
+    pub fn nebosvar_write_section(
+        playlist: *const Playlist,
+        image: *const u8,
+        length: usize,
+        identifier: u32,
+        place: usize,
+        out: *mut u8,
+        room: usize,
+    ) -> Written;
 }
 
 // The layout on x86-64.
@@ -250,6 +267,16 @@ const _: () = {
     assert!(size_of::<List>() == 6);
     assert!(size_of::<Found>() == 16);
     assert!(size_of::<Written>() == 16);
+    assert!(size_of::<Counted>() == 16);
+    assert!(size_of::<Listed>() == 12);
+    assert!(offset_of!(Listed, number) == 0);
+    assert!(offset_of!(Listed, size) == 4);
+    assert!(offset_of!(Listed, version) == 8);
+    assert!(size_of::<Playlist>() == 392);
+    assert!(offset_of!(Playlist, download) == 0);
+    assert!(offset_of!(Playlist, block_size) == 4);
+    assert!(offset_of!(Playlist, count) == 6);
+    assert!(offset_of!(Playlist, modules) == 8);
     // A row is its five numbers, in the writer's order, and nothing else.
     assert!(size_of::<Row>() == 5 * size_of::<i32>());
     assert!(offset_of!(Row, buoy) == 0);

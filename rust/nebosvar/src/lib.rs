@@ -2,9 +2,9 @@
 //! multiplex, section by section, and hands out a module once every block of it has come.
 //!
 //! [`Record`] is the carousel; [`table`] and the functions beside it read an application section; [`drift`]
-//! reads and writes the drift list, which is one of its modules. Each is one call of `libnebosvar.a` (x86-64
-//! Linux), which is proved to answer as the paper, the association's document 01, states, and its document 02
-//! of the drift list:
+//! reads and writes the drift list, which is one of its modules; [`player`] writes the sections of a carousel, on
+//! shore. Each is one call of `libnebosvar.a` (x86-64 Linux), which is proved to answer as the paper, the
+//! association's document 01, states, and its document 02 of the drift list and the player:
 //!
 //! * Any bytes, any record, any image: each call ends, with the one answer stated for them. There is
 //!   nothing to check first.
@@ -77,6 +77,7 @@ mod answer;
 pub mod drift;
 mod ffi;
 mod limits;
+pub mod player;
 mod proved;
 mod record;
 mod refusal;

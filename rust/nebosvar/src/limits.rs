@@ -3,7 +3,8 @@
 /// The largest block: blockSize is 1 to so many bytes.
 pub const LARGEST_BLOCK: usize = 4_066;
 
-/// The most modules of an announcement, and the entries of a [`Record`](crate::Record).
+/// The most modules of an announcement, and the entries of a [`Record`](crate::Record) or a
+/// [`Playlist`](crate::player::Playlist).
 pub const MOST_MODULES: usize = 32;
 
 /// The most blocks of a module.

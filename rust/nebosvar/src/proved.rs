@@ -29,7 +29,7 @@ mod tests {
     #[test]
     fn what_the_header_does_not_have_is_excluded() {
         let calls: [fn(); 16] = [
-            || assert!(Refusal::check(21, NOWHERE).is_ok()),
+            || assert!(Refusal::check(22, NOWHERE).is_ok()),
             || assert!(Refusal::check(29, NOWHERE).is_ok()),
             || assert!(Refusal::check(38, NOWHERE).is_ok()),
             || assert!(Refusal::check(21, 0).is_ok()),
@@ -61,7 +61,7 @@ mod tests {
     #[test]
     fn refusals_2_to_6_have_a_place_and_no_other_has() {
         for number in 0..=u8::MAX {
-            let known = matches!(number, 0..=20 | 30..=37);
+            let known = matches!(number, 0..=21 | 30..=37);
             let placed = matches!(number, 2..=6);
             let check = |place| Refusal::check(number, place).unwrap_or(());
             assert_eq!(is_excluded(|| check(NOWHERE)), placed || !known);

@@ -5,9 +5,9 @@ use crate::proved::excluded;
 use std::error::Error;
 use std::fmt;
 
-/// Why a call refused: a number from 1 to 20 of the paper's table, or from 30 to 37 of a drift list. Of several
-/// that apply it is the lowest, but for the table's one exception (a message's 8 goes before most cases of 7) and
-/// for drift lists, whose order is told in [`drift`](crate::drift).
+/// Why a call refused: a number from 1 to 20 of the paper's table, 21 of the [`player`](crate::player), or from 30 to
+/// 37 of a drift list. Of several that apply it is the lowest, but for the table's one exception (a message's 8 goes
+/// before most cases of 7) and for drift lists, whose order is told in [`drift`](crate::drift).
 ///
 /// ```
 /// use nebosvar::{Record, Refusal};
@@ -106,6 +106,8 @@ impl Refusal {
     pub const NO_PLACE: Refusal = Refusal::plain(19);
     /// 20: module not complete.
     pub const INCOMPLETE: Refusal = Refusal::plain(20);
+    /// 21: bytes to write to that are too few for the section.
+    pub const SHORT_BUFFER: Refusal = Refusal::plain(21);
     /// 30: a drift list under 4 bytes, or not of 4 + 12 × count.
     pub const LIST_LENGTH: Refusal = Refusal::plain(30);
     /// 31: a longitude or latitude out of its range.
@@ -137,7 +139,7 @@ impl Refusal {
         }
     }
 
-    /// The number, which is the paper's or the drift list's.
+    /// The number, which is the paper's or a request's.
     pub const fn number(self) -> u8 {
         self.number
     }
@@ -153,7 +155,7 @@ impl Refusal {
     pub(crate) fn check(number: u8, place: usize) -> Result<(), Refusal> {
         match (number, place) {
             (0, NOWHERE) => Ok(()),
-            (1 | 7..=20 | 30..=37, NOWHERE) => Err(Refusal::plain(number)),
+            (1 | 7..=21 | 30..=37, NOWHERE) => Err(Refusal::plain(number)),
             (_, NOWHERE) => excluded(),
             (2..=6, _) => Err(Refusal::at(number, place)),
             _ => excluded(),
@@ -184,6 +186,7 @@ impl fmt::Display for Refusal {
             18 => "an application without exactly one 0x00 descriptor",
             19 => "no such place",
             20 => "module not complete",
+            21 => "a short buffer",
             30 => "length",
             31 => "coordinate range",
             32 => "minute",

@@ -3,6 +3,8 @@
 use crate::made::*;
 
 const VERSION: usize = 5;
+/// Byte 5 of version 0: both reserved bits and current_next.
+const VERSION_0: u8 = 0xC1;
 const NUMBER: usize = 6;
 const LAST: usize = 7;
 
@@ -27,9 +29,9 @@ fn a_section_version_is_the_modules_mod_32_and_the_announcements_is_0() {
     for version in 0..=255 {
         let modules = [listed((9, 2, version))];
         let playlist = playlist(1, &modules);
-        assert_eq!(section(&playlist, 0)[VERSION], 0b11_00000_1);
+        assert_eq!(section(&playlist, 0)[VERSION], VERSION_0);
         let block = section(&playlist, 2);
-        assert_eq!(block[VERSION], 0b11_00000_1 | version % 32 * 2, "{version}");
+        assert_eq!(block[VERSION], VERSION_0 + 2 * (version % 32), "{version}");
         assert_eq!(block[22], version);
     }
     for (version, byte) in [(0, 0xC1), (31, 0xFF), (32, 0xC1), (33, 0xC3), (255, 0xFF)] {

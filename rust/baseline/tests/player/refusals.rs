@@ -54,14 +54,14 @@ impl Lent {
 #[test]
 fn of_all_sets_of_refusals_the_lowest() {
     for set in 0..1 << ALL.len() {
-        for place in 0..SECTIONS {
+        for (place, length) in LENGTHS.into_iter().enumerate() {
             let mut lent = Lent::at(place);
             let chosen = (0..ALL.len()).filter(|k| set >> k & 1 == 1);
             let refusals: Vec<u8> = chosen.map(|k| ALL[k]).collect();
             for &refusal in &refusals {
                 lent.spoil(refusal);
             }
-            let wanted = refusals.first().map_or(Ok(LENGTHS[place]), |&r| Err(r));
+            let wanted = refusals.first().map_or(Ok(length), |&refusal| Err(refusal));
             assert_eq!(lent.answer(), wanted, "{refusals:?} at {place}");
         }
     }
@@ -97,8 +97,8 @@ fn a_short_image_is_15_at_every_place() {
 
 #[test]
 fn a_place_past_the_last_is_19() {
-    for place in 0..SECTIONS {
-        assert_eq!(Lent::at(place).answer(), Ok(LENGTHS[place]));
+    for (place, length) in LENGTHS.into_iter().enumerate() {
+        assert_eq!(Lent::at(place).answer(), Ok(length));
     }
     let far = [65_536, 1 << 32, usize::MAX - 1, usize::MAX];
     for place in [SECTIONS, SECTIONS + 1].into_iter().chain(far) {

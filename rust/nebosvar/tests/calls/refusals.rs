@@ -23,7 +23,7 @@ fn refused_always(section: &[u8], refusal: Refusal) {
 const PLACE: usize = 2026;
 
 /// One of every number; those that have a place, at this one.
-const ALL: [Refusal; 28] = [
+const ALL: [Refusal; 29] = [
     Refusal::BAD_RECORD,
     Refusal::bad_size(PLACE),
     Refusal::bad_table(PLACE),
@@ -44,6 +44,7 @@ const ALL: [Refusal; 28] = [
     Refusal::NO_APPLICATION_DESCRIPTOR,
     Refusal::NO_PLACE,
     Refusal::INCOMPLETE,
+    Refusal::SHORT_BUFFER,
     Refusal::LIST_LENGTH,
     Refusal::LIST_COORDINATE,
     Refusal::LIST_MINUTE,
@@ -56,7 +57,7 @@ const ALL: [Refusal; 28] = [
 
 #[test]
 fn numbers_and_words() {
-    for (refusal, number) in ALL.iter().zip((1..=20).chain(30..)) {
+    for (refusal, number) in ALL.iter().zip((1..=21).chain(30..)) {
         assert_eq!(refusal.number(), number);
         let (place, at) = match number {
             2..=6 => (Some(PLACE), " at byte 2026"),
