@@ -1,6 +1,7 @@
 //! A difference between the receivers, or between what one did and what the paper lets it do.
 
 use std::fmt::{self, Debug, Display};
+use std::panic::{catch_unwind, AssertUnwindSafe};
 
 /// What differed, and both sides of it.
 #[derive(Debug)]
@@ -66,6 +67,18 @@ pub fn same_bytes(what: &str, ours: &[u8], theirs: &[u8]) -> Same {
     })
 }
 
+/// One that panics has given no answer: that is a difference too.
+pub fn caught(compare: impl FnOnce() -> Same) -> Same {
+    catch_unwind(AssertUnwindSafe(compare)).unwrap_or_else(|_| {
+        Err(Difference {
+            place: 0,
+            what: "a panic, told above".to_string(),
+            ours: "unknown".to_string(),
+            theirs: "unknown".to_string(),
+        })
+    })
+}
+
 /// Bytes as a difference shows them.
 pub fn hex(bytes: &[u8]) -> String {
     bytes.iter().map(|byte| format!("{byte:02x}")).collect()
@@ -83,5 +96,12 @@ mod tests {
             "place 7: image\nnebosvar: 5 bytes, at 1 626364\nbaseline: 5 bytes, at 1 426344"
         );
         assert!(same_bytes("image", b"abc", b"abc").is_ok());
+    }
+
+    #[test]
+    fn a_panic_is_a_difference() {
+        assert!(caught(|| Ok(())).is_ok());
+        let told = caught(|| panic!("as it is meant to")).unwrap_err();
+        assert_eq!(told.what, "a panic, told above");
     }
 }

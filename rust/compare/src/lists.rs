@@ -8,9 +8,8 @@ mod reading;
 mod writing;
 
 use std::fmt::{self, Display};
-use std::panic::{catch_unwind, AssertUnwindSafe};
 
-use crate::difference::{hex, Difference, Same};
+use crate::difference::{caught, hex, Same};
 use crate::fence::Edge;
 use crate::random::Random;
 use counts::Counts;
@@ -68,19 +67,11 @@ pub fn compare(seed: u64, by_chance: u64) -> Result<Counts, String> {
     Ok(counts)
 }
 
-/// One that panics has given no answer: that is a difference too.
+/// One case.
 fn compared(case: &Case, edge: Option<Edge>, random: &mut Random, counts: &mut Counts) -> Same {
-    let caught = catch_unwind(AssertUnwindSafe(|| match case {
+    caught(|| match case {
         Case::Read(list) => reading::compare(list, edge, random, counts),
         Case::Write(draft) => writing::compare(draft, edge, random, counts),
-    }));
-    caught.unwrap_or_else(|_| {
-        Err(Difference {
-            place: 0,
-            what: "a panic, told above".to_string(),
-            ours: "unknown".to_string(),
-            theirs: "unknown".to_string(),
-        })
     })
 }
 

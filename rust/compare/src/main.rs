@@ -1,11 +1,11 @@
-//! `compare [STRETCHES [SEED]]`: both receivers at every limit and over so many made stretches, and both readers and writers of drift lists
-//! over so many made lists besides those at the bounds. It ends with 1 at a difference, and when an answer came too rarely
-//! for the comparison to mean much.
+//! `compare [STRETCHES [SEED]]`: both receivers at every limit and over so many made stretches, both readers and writers of drift lists
+//! over so many made lists besides those at the bounds, and both players over a fourth as many announcements besides those at
+//! the limits. It ends with 1 at a difference, and when an answer came too rarely for the comparison to mean much.
 
 use std::process::ExitCode;
 
 use compare::counts::Counts;
-use compare::{lists, threads};
+use compare::{lists, plays, threads};
 
 const STRETCHES: u64 = 20_000;
 const SEED: u64 = 0x4E65_626F_7376_6172;
@@ -17,6 +17,10 @@ const LEAST_OF_LIMITS: u64 = 50;
 const LEAST_AT_BOUNDS: u64 = 10;
 /// The same of drift lists.
 const LEAST_OF_LISTS: u64 = 300;
+/// The same of the player's answers and of its limits.
+const LEAST_OF_PLAYS: u64 = 50;
+/// Of so many stretches one announcement is played: each is written into a hundred buffers.
+const STRETCHES_OF_A_PLAY: u64 = 4;
 
 fn main() -> ExitCode {
     let mut arguments = std::env::args().skip(1).map(|text| text.parse::<u64>());
@@ -32,7 +36,9 @@ fn main() -> ExitCode {
         .and_then(|()| threads::compare(seed, stretches))
         .and_then(|counts| conclude(&counts, stretches))
         .and_then(|()| lists::compare(seed, stretches))
-        .and_then(|counts| conclude_lists(&counts, stretches));
+        .and_then(|counts| conclude_lists(&counts, stretches))
+        .and_then(|()| plays::compare(seed, stretches / STRETCHES_OF_A_PLAY))
+        .and_then(|counts| conclude_plays(&counts, stretches));
     match done {
         Ok(()) => ExitCode::SUCCESS,
         Err(told) => {
@@ -76,6 +82,18 @@ fn conclude_lists(counts: &lists::counts::Counts, stretches: u64) -> Result<(), 
     println!(
         "compare: {read} drift lists read, {drafts} written into {buffers} buffers, 0 differences"
     );
+    Ok(())
+}
+
+/// The same of the player.
+fn conclude_plays(counts: &plays::counts::Counts, stretches: u64) -> Result<(), String> {
+    println!("{counts}");
+    enough(stretches, LEAST_OF_PLAYS, &counts.rare(LEAST_OF_PLAYS))?;
+    let [ends, begins] = counts.fenced;
+    println!("compare: all that is lent ends at a page that may not be touched for {ends} announcements, and begins after one for {begins}");
+    let (drafts, within, buffers) = (counts.drafts, counts.within, counts.buffers);
+    let (rotations, played) = (counts.rotations, counts.played);
+    println!("compare: {drafts} announcements played, {within} of them within the limits, into {buffers} buffers, and {rotations} rotations of {played} sections heard, 0 differences");
     Ok(())
 }
 

@@ -1,12 +1,11 @@
 //! All cases, shared among as many threads as the machine runs at once. A case depends on the seed and
 //! its number alone, so it does not matter which thread has it.
 
-use std::panic::{catch_unwind, AssertUnwindSafe};
 use std::thread;
 
 use crate::bounds;
 use crate::counts::Counts;
-use crate::difference::{hex, Difference, Same};
+use crate::difference::{caught, hex, Same};
 use crate::fence::Edge;
 use crate::random::Random;
 use crate::stretches::Case;
@@ -103,17 +102,7 @@ fn one(mut job: Job, counts: &mut Counts) -> Result<(), String> {
     })
 }
 
-/// A receiver that panics has given no answer: that is a difference too.
+/// What both make of one case.
 fn compared(case: &Case, edge: Option<Edge>, random: &mut Random, counts: &mut Counts) -> Same {
-    let caught = catch_unwind(AssertUnwindSafe(|| {
-        walk::compare(case, edge, random, counts)
-    }));
-    caught.unwrap_or_else(|_| {
-        Err(Difference {
-            place: 0,
-            what: "a panic, told above".to_string(),
-            ours: "unknown".to_string(),
-            theirs: "unknown".to_string(),
-        })
-    })
+    caught(|| walk::compare(case, edge, random, counts))
 }
