@@ -173,11 +173,11 @@ class Held:
 
 
 def check_spoilt(sections, folder):
-    """A bit turned in any byte of a section behind its length, and tshark says that the CRC is wrong: that it says so of none above means something."""
+    """A bit turned in a block's section, and tshark finds the CRC wrong: so it means something that it verifies those of the rotation."""
     s = next(s for s in sections if s[0] == 0x3C)
     spoilt = [s[:k] + bytes([s[k] ^ 1]) + s[k + 1 :] for k in (4, 5, 6, 7, 12, 16, len(s) - 5, len(s) - 1)]
     told = tshark(spoilt, folder)
-    return len(told) == len(spoilt) and not any(is_right(fields) for fields in told), len(spoilt)
+    return len(told) == len(spoilt) and not any(is_right(fields) for fields in told)
 
 
 def main():
@@ -190,11 +190,11 @@ def main():
             player.laid_out(folder, i.files)
             sections = cut(played(i, folder))
             told, wanted = tshark(sections, folder), list(meant(i))
-            right, spoilt = check_spoilt(sections, folder)
+            spoilt_found = check_spoilt(sections, folder)
         count += 1
         if not len(sections) == len(told) == len(wanted):
             held.faults.append("%s: %d sections, %d of them told, %d meant" % (i.name, len(sections), len(told), len(wanted)))
-        if not right:
+        if not spoilt_found:
             held.faults.append("%s: a turned bit is not told" % i.name)
         for place, (s, fields, fields_meant) in enumerate(zip(sections, told, wanted)):
             held.hold(i.name, place, s, fields, fields_meant)

@@ -2,6 +2,7 @@
 
 mod carousel;
 mod drift_list;
+mod player;
 #[allow(dead_code)]
 #[path = "../../examples/receive.rs"]
 mod receive;
