@@ -20,6 +20,7 @@ sys.path.insert(0, str(ROOT / "tests"))
 import player
 from second import crc
 
+PROGRAM = ROOT / "target" / "bin" / "player"
 PID = 0x123
 PACKET, HEAD = 188, 4
 READ = ["tshark", "-o", "mpeg_dsmcc.verify_crc:TRUE", "-o", "mpeg_sect.verify_crc:TRUE", "-T", "pdml", "-r"]
@@ -41,10 +42,9 @@ def rotations():
 
 def played(i, folder):
     """The rotation, by the program if there is one."""
-    program = player.built()
-    if not program[-1].exists():
+    if not PROGRAM.exists():
         return player.printed(i.arguments, folder)[0]
-    return subprocess.run([*program, *i.arguments], cwd=folder, stdout=subprocess.PIPE, check=True).stdout
+    return subprocess.run([*player.built(), *i.arguments], cwd=folder, stdout=subprocess.PIPE, check=True).stdout
 
 
 def cut(rotation):
@@ -182,7 +182,7 @@ def check_spoilt(sections, folder):
 
 def main():
     version = subprocess.run(["tshark", "--version"], stdout=subprocess.PIPE, stderr=subprocess.DEVNULL, text=True, check=True).stdout.split("\n")[0]
-    by = "target/bin/player" if player.built()[-1].exists() else "tests/player.py, as target/bin/player is not built"
+    by = "target/bin/player" if PROGRAM.exists() else "tests/player.py, as target/bin/player is not built"
     print("tshark.py: %s; rotations by %s" % (version, by))
     held, count = Held(), 0
     for i in rotations():

@@ -5,7 +5,6 @@ use std::fmt::{self, Display};
 use super::Draft;
 use crate::fence::Edge;
 use crate::limits::{LARGEST_BLOCK, MOST_BLOCKS, MOST_BYTES, MOST_MODULES, SECTION_NUMBERS};
-use make::BLOCK;
 use nebosvar::player::LARGEST_SECTION;
 
 /// The calls that can refuse.
@@ -110,8 +109,6 @@ pub struct Asked<'a> {
     pub image: usize,
     pub room: usize,
     pub place: usize,
-    /// What the buffer had after it.
-    pub out: &'a [u8],
     /// The length of this section, as it is told in a buffer that is long enough.
     pub length: Option<usize>,
 }
@@ -230,8 +227,8 @@ impl Counts {
         self.met(Limit::ExactBuffer, asked.room == length);
         self.met(Limit::LongerBuffer, asked.room > length);
         self.met(Limit::LargestSection, length == LARGEST_SECTION);
-        if asked.out[0] == BLOCK {
-            self.block(draft, asked.place - 1);
+        if let Some(block) = asked.place.checked_sub(1) {
+            self.block(draft, block);
         }
     }
 

@@ -240,7 +240,6 @@ impl<'a> Both<'a> {
             image: images,
             room: rooms,
             place,
-            out: &wanted,
             length,
         };
         counts.asked(&asked, &ours);
