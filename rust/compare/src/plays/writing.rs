@@ -103,36 +103,31 @@ fn unused(draft: &Draft, random: &mut Random) -> Listed {
     }
 }
 
-/// Every place of a short rotation; of a long one the first and last of each module. And places past the last.
+/// Every place of a short rotation; of a long one the chosen places of each module. And places past the last.
 fn places(draft: &Draft, sections: Result<usize, u8>) -> Vec<usize> {
     let Ok(sections) = sections else {
         return few_places(sections);
     };
-    let mut places: Vec<_> = if sections <= FEW {
+    let mut places = if sections <= FEW {
         (0..sections).collect()
     } else {
-        vec![0]
+        chosen_places(draft)
     };
-    if sections > FEW {
-        let mut begin = 1;
-        for blocks in draft.blocks() {
-            let end = begin + blocks;
-            let around = [
-                begin,
-                begin + 1,
-                begin + 255,
-                begin + 256,
-                begin + 257,
-                end - 1,
-            ];
-            places.extend(around.into_iter().filter(|&place| place < end));
-            begin = end;
-        }
-        places.sort_unstable();
-        places.dedup();
-    }
     places.extend([sections, sections + 1]);
     places.extend(FAR);
+    places
+}
+
+/// The announcement, and of each module the first blocks, those about which the section number goes round, and the last.
+fn chosen_places(draft: &Draft) -> Vec<usize> {
+    let (mut places, mut begin) = (vec![0], 1);
+    for blocks in draft.blocks() {
+        let mut chosen: Vec<_> = [0, 1, 255, 256, 257].into();
+        chosen.retain(|&block| block + 1 < blocks);
+        chosen.push(blocks - 1);
+        places.extend(chosen.iter().map(|block| begin + block));
+        begin += blocks;
+    }
     places
 }
 
