@@ -88,7 +88,7 @@ def announcement(a, identifier):
     content = 22 + 8 * len(a.modules)
     fields = header(0x3B, 21 + content, identifier % 2**16, 0, 0, 0) | message(0x1002, content)
     parts = {"transaction_id": identifier, "transaction_id_originator": identifier >> 30, "transaction_id_number": identifier % 2**30}
-    # tshark reads these parts of the message's number as if it were a session's
+    # tshark takes the message's number apart as that of a user-network message
     parts |= {"message_discriminator": 0, "message_scenario": 0x100, "message_type": 2}
     told = {"download_id": a.download, "block_size": a.size, "window_size": 0, "ack_period": 0, "private_data_length": 0}
     told |= {"carousel_download_window": 0, "carousel_download_scenario": 0, "compat_desc_len": 0, "module_count": len(a.modules)}
