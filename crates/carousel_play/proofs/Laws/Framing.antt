@@ -61,7 +61,7 @@ module _ (t x v n l : ℕ) (body : List ℕ) (ext : x < 2 ^ 16) (ver : v < 32) (
 
   pub section-body : bodyOf whole ≡ body
   unfolding frontBytes sectionBytes spelled
-  section-body = let k = section-long t x v n l body in take-at body (spelled 4 (crcOf front)) (length whole - 12) (omega arith)
+  section-body = let k = section-long t x v n l body in take-at body _ (length whole - 12) (omega arith)
 
   pub section-good : isTable Carousel t ≡ true → n ≤ l → GoodSection Carousel whole
   unfolding frontBytes sectionBytes spelled fieldAt
