@@ -7,7 +7,7 @@ use mathlib.Core.List.{List, [], _∷_, _++_, List·Memᴰ}
 use native.Mathlib.Omega.{arith}
 use lib.Dec.{ltb, eqb}
 use lib.ListN.{length, drop, length-map, length-take}
-use borrow.Author.Tests.{lt-ltb, le-ltb, ltb-true, ltb-false, eq-eqb, ne-eqb, not-true, not-false}
+use borrow.Author.Tests.{lt-ltb, le-ltb, ltb-true, ltb-false, eq-eqb, ne-eqb, eqb-true, not-true, not-false}
 use Rattle.wire.specs.Tests.{Tests, firstMet, holds, RisingFrom}
 use Rattle.wire.proofs.Laws.Tests.{neither, clash, lowest-met}
 use Rattle.wire.proofs.Laws.Order.{None, none-exactly, nth-exactly}
@@ -15,13 +15,17 @@ use Rattle.carousel_messages.specs.Limits.{largestBlock, mostModules, mostBlock
 use Rattle.carousel_messages.specs.Heard.{Announced, sizesOf, numbersOf}
 use Rattle.carousel_messages.specs.Good.{Distinct}
 use Rattle.carousel_messages.proofs.Good.{ten-exactly, distinct-there, distinct-back}
-use Rattle.carousel_record.specs.Record.{bytesOf}
+use Rattle.carousel_record.specs.Record.{moduleAt, bytesOf, blockCount}
 use Rattle.carousel_record.specs.Refusals.{meets15}
 use Rattle.carousel_play.specs.declared.Playlist.{Playlist}
 use Rattle.carousel_play.specs.declared.Counted.the-variants as counted
 use Rattle.carousel_play.specs.declared.Played.the-variants as played
-use Rattle.carousel_play.specs.Rotation.{sectionCount, sectionAt, KeepsLimits, Holding}
+use Rattle.carousel_play.specs.Bytes.{announcementBytes}
+use Rattle.carousel_play.specs.Rotation.{blocksTo, sectionCount, sectionAt, KeepsLimits, Holding}
 use Rattle.carousel_play.specs.Calls.{toPlay, limitTests, limitRefusal, playTests, playRefusal, countAnswer, playAnswer, playedBytes}
+use Rattle.carousel_play.proofs.Laws.Limits.{not-ten}
+use Rattle.carousel_play.proofs.Laws.Places.{places}
+use Rattle.carousel_play.proofs.Laws.Chosen.{announcement-size, section-size, chosen}
 
 -- what a test that is not met says, and so what one that is met says
 unmet : (b : Bool) {A : Type 0} → (b ≡ false) ↔ A → (b ≡ true) ↔ (A → ⊥)
@@ -200,3 +204,47 @@ module _ (id : ℕ) (p : Playlist) (image : List ℕ) (k : ℕ) (out : List ℕ)
 pub count-answers : (p : Playlist) → (limitRefusal p ≡ 0 → countAnswer p ≡ counted.Sections (sectionCount (toPlay p))) × ((limitRefusal p ≡ 0 → ⊥) → countAnswer p ≡ counted.Refused (limitRefusal p))
 unfolding countAnswer
 count-answers p = (λ h. rw (eq-eqb (limitRefusal p) 0 h), λ h. rw (ne-eqb (limitRefusal p) 0 h))
+
+-- a count is answered exactly where the limits are kept
+pub count-exactly : (p : Playlist) (n : ℕ) → (countAnswer p ≡ counted.Sections n) ↔ ((limitRefusal p ≡ 0) × (n ≡ sectionCount (toPlay p)))
+unfolding countAnswer
+count-exactly p n = (λ e. go (eqb (limitRefusal p) 0) refl e, λ h. count-answers p .0 (h .0) ∙ ap counted.Sections (sym (h .1)))
+  where
+    same : (m k : ℕ) → counted.Sections m ≡ counted.Sections k → m ≡ k
+    same m k e = cc
+
+    never : (m k : ℕ) → counted.Refused m ≡ counted.Sections k → ⊥
+    never m k e = let z : _≡_ {A = ℕ} 0 1 = cc in omega arith
+
+    go : (t : Bool) → eqb (limitRefusal p) 0 ≡ t → cond t (counted.Sections (sectionCount (toPlay p))) (counted.Refused (limitRefusal p)) ≡ counted.Sections n
+        → (limitRefusal p ≡ 0) × (n ≡ sectionCount (toPlay p))
+    go true t e = (eqb-true (limitRefusal p) 0 t, sym (same _ _ e))
+    go false t e = absurd (never _ _ e)
+
+-- and the announcement that is then played is within the limits
+pub keeps-limits : (p : Playlist) → InLimits p → Different p → KeepsLimits (toPlay p)
+unfolding toPlay
+keeps-limits p g d = record {
+  blockSome = g .blockSome;
+  blockMost = g .blockMost;
+  modulesSome = g .modulesSome;
+  modulesMost = let l = length-take (p .count) (p .modules) in omega (arith, l, g .modulesMost);
+  sizes = g .sizes;
+  together = g .together;
+  distinct = d;
+}
+
+-- A BUFFER OF 4,096 BYTES HAS ROOM for every section, and so is never refused with 21
+pub room-enough : (id : ℕ) (a : Announced) → KeepsLimits a → (image : List ℕ) → Holding a image → (k : ℕ) → k < sectionCount a → length (sectionAt id a image k) ≤ 4096
+room-enough id a ok image h k l = go (places a k l)
+  where
+    go : (k ≡ 0) ⊎ ((i : ℕ) × (b : ℕ) × (i < length (a .modules)) × (b < blockCount a i) × (k ≡ 1 + (blocksTo a i + b))) → length (sectionAt id a image k) ≤ 4096
+    go (inl z) =
+        let e = announcement-size id a (ok .modulesMost) in
+        let f : length (sectionAt id a image k) ≡ length (announcementBytes id a) = ap (λ (n : ℕ). length (sectionAt id a image n)) z in
+        omega (arith, e, f, ok .modulesMost)
+    go (inr (i, b, u, v, e)) =
+        let s = section-size a (not-ten a ok) i b u v (moduleAt a i) refl id image (blocksTo a i + b) refl h in
+        let c = chosen a (not-ten a ok) i b u v (moduleAt a i) refl .short in
+        let f : length (sectionAt id a image k) ≡ length (sectionAt id a image (1 + (blocksTo a i + b))) = ap (λ (n : ℕ). length (sectionAt id a image n)) e in
+        omega (arith, s, c, f)

@@ -14,3 +14,8 @@ pub mod Relays
 pub mod Drift
 pub mod Places
 pub mod Charts
+pub mod Played
+pub mod Taken
+pub mod Stretches
+pub mod Sent
+pub mod Player

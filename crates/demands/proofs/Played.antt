@@ -1,0 +1,212 @@
+-- What the box makes of a rotation's sections: the theorems of Player.antt, from demand 3.
+use Prim.Native.Nat.{ℕ, _*_, _≤_, _<_}
+use mathlib.Core.Path.{_≡_, refl, sym, ap, ap₂, subst, _∙_}
+use mathlib.Core.Bool.{true, false}
+use mathlib.Core.Logic.{_⊎_, inl, inr}
+use mathlib.Core.List.{List, [], _∷_, List·Memᴰ·head, List·Memᴰ·tail}
+use native.Mathlib.Omega.{arith}
+use lib.ListN.{length, take, drop}
+use lib.Seq.{drop-drop}
+use Rattle.wire.proofs.Laws.Tests.{clash}
+use Rattle.section.specs.Header.{headerOf}
+use Rattle.carousel_messages.specs.Heard.{Announced, Arrived, announced, arrived, heardOf}
+use Rattle.carousel_messages.specs.Good.{saidAnnouncement}
+use Rattle.carousel_record.specs.Record.{Record, announcedBy, moduleAt, placeOf, bytesOf, blockCount, blockLength, ruledOf}
+use Rattle.carousel_record.proofs.Laws.Places.{block-size-pos, some-modules, place-is}
+use Rattle.carousel_step.specs.declared.Answer.the-variants as answer
+use Rattle.carousel_step.specs.Step.{steppedOf}
+use Rattle.carousel_step.specs.Matching.{heardMatches, heardBytes}
+use Rattle.carousel_step.proofs.Matching.{matching-means}
+use Rattle.carousel_step.proofs.Steps.{new-changes, image-length}
+use Rattle.carousel_step.proofs.Simulation.{says-afresh}
+use Rattle.carousel_record.specs.Changes.{afresh}
+use Rattle.receiver.specs.declared.Fate.{Fate}
+use Rattle.receiver.specs.declared.Fate.the-variants as fate
+use Rattle.receiver.specs.Run.{Held, givenOf, given, walk}
+use Rattle.carousel_handout.specs.Calls.{handoutNumber, handedOut}
+use Rattle.demands.specs.Demand.{fates, Begun, isNew, noneNew, NoNew, told, modules, blocks, matches, sectionData, bytesIn, isComplete, Holds, Came, firstData, joinedBlocks}
+use Rattle.demands.proofs.Given.{given-steps, begun-ruled}
+use Rattle.demands.proofs.Lists.{joined-ext, joined-pieces, some-holds, holds-some}
+use Rattle.demands.proofs.Walks.{walk-stays}
+use Rattle.demands.proofs.Two.{new-accepted, kind-new}
+use Rattle.demands.proofs.Three.{completeness, content, handed-out, content-handed-out}
+use Rattle.carousel_play.specs.Bytes.{announcementBytes, startOf, shorePart, blockData, blockBytes}
+use Rattle.carousel_play.specs.Rotation.{Playable, Holding, IsBlock}
+use Rattle.carousel_play.proofs.Laws.Limits.{not-ten, not-eleven}
+use Rattle.carousel_play.proofs.Heard.{announcement-heard-as, announcement-well, data-long, theBlock, block-heard-as, block-well}
+
+module _ (id : ℕ) (a : Announced) (ok : Playable a) (image : List ℕ) (holds : Holding a image) where
+  -- a section of the rotation
+  abbrev pub Played : List ℕ → Type 0
+  Played s = (s ≡ announcementBytes id a) ⊎ IsBlock a image s
+
+  -- ITS ANNOUNCEMENT AGAIN, OR A BLOCK, IS NEVER "NEW" to a record that was told it
+  old : (x : Held) → told x ≡ a → (s : List ℕ) → Played s → isNew (givenOf (x .state) s (x .image) .fate) ≡ false
+  old x e s p = go (givenOf (x .state) s (x .image) .fate) refl
+    where
+      never : Played s → givenOf (x .state) s (x .image) .fate ≡ fate.New → ⊥
+      never (inl q) n =
+          let w = new-accepted (x .state) s (x .image) .0 (kind-new (x .state) s (x .image) .0 n) in
+          w .2 (e ∙ sym (ap saidAnnouncement q ∙ announcement-well id a ok .1))
+      never (inr q) n =
+          let w = new-accepted (x .state) s (x .image) .0 (kind-new (x .state) s (x .image) .0 n) in
+          let g = block-well a ok image holds (q .0) (q .1) (q .2) (q .3) .0 .formed .table in
+          let h = ap (λ (l : List ℕ). headerOf l .table) (q .4) in
+          omega (arith, w .1 .table, g, h)
+
+      go : (f : Fate) → givenOf (x .state) s (x .image) .fate ≡ f → isNew f ≡ false
+      go fate.New n = absurd (never p n)
+      go fate.Table n = refl
+      go fate.Same n = refl
+      go fate.Stored n = refl
+      go fate.Repeated n = refl
+      go (fate.Refused r) n = refl
+
+  pub no-new : (x : Held) → ruledOf (x .state) ≡ true → told x ≡ a → (ss : List (List ℕ)) → ((s : List ℕ) → Holds ss s → Played s) → NoNew x ss
+  unfolding fates noneNew walk
+  no-new x r e [] h = refl
+  no-new x r e (s ∷ ss) h =
+      let o = old x e s (h s (List·Memᴰ·head refl)) in
+      let one : NoNew x (s ∷ []) = rw o in
+      let m = some-modules (a .blockSize) (a .modules) (not-ten a (ok .keeps)) in
+      let k : 0 < modules x = rw e m in
+      let f = walk-stays x (s ∷ []) r k one in
+      rw o (no-new (given x s) (f .ruled) (f .same ∙ e) ss (λ t q. h t (List·Memᴰ·tail q)))
+
+  -- A BLOCK MATCHES ITSELF AND NO OTHER
+  module _ (n : ℕ) (room : bytesOf a ≤ n) where
+    pub matches-it : (i b : ℕ) (u : i < length (a .modules)) (v : b < blockCount a i) → heardMatches a n i b (heardOf (blockBytes a i b image)) ≡ true
+    matches-it i b u v =
+        matching-means a (not-eleven a (ok .keeps)) n i b u (heardOf (blockBytes a i b image)) .1 (
+          theBlock a ok image holds i b u v,
+          block-heard-as a ok image holds i b u v,
+          record { sameDownload = refl; itsNumber = refl; announcedVersion = refl; imageHolds = room; thisBlock = refl; oneOfIts = v; itsLength = data-long a ok image holds i b u v },
+        )
+
+    same-arrived : (c d : Arrived) → arrived c ≡ arrived d → c ≡ d
+    same-arrived c d e = cc
+
+    pub matches-only : (i b : ℕ) (u : i < length (a .modules)) (j q : ℕ) (w : j < length (a .modules)) (z : q < blockCount a j)
+        → heardMatches a n i b (heardOf (blockBytes a j q image)) ≡ true → (j ≡ i) × (q ≡ b)
+    matches-only i b u j q w z e =
+        let h = matching-means a (not-eleven a (ok .keeps)) n i b u (heardOf (blockBytes a j q image)) .0 e in
+        let d = same-arrived (theBlock a ok image holds j q w z) (h .0) (sym (block-heard-as a ok image holds j q w z) ∙ h .1) in
+        let k : moduleAt a j .number ≡ moduleAt a i .number = ap (λ (x : Arrived). x .number) d ∙ h .2 .itsNumber in (
+          sym (place-is (a .modules) j (not-eleven a (ok .keeps)) w) ∙ ap (placeOf a) k ∙ place-is (a .modules) i (not-eleven a (ok .keeps)) u,
+          ap (λ (x : Arrived). x .block) d ∙ h .2 .thisBlock,
+        )
+
+    pub matched-is : (i b : ℕ) (u : i < length (a .modules)) (s : List ℕ) → Played s → heardMatches a n i b (heardOf s) ≡ true → s ≡ blockBytes a i b image
+    unfolding heardMatches
+    matched-is i b u s (inl e) m =
+        let h : heardOf s ≡ announced a = ap heardOf e ∙ announcement-heard-as id a ok in
+        absurd (clash _ m (ap (heardMatches a n i b) h))
+    matched-is i b u s (inr (j, q, w, z, e)) m =
+        let k = matches-only i b u j q w z (ap (λ (l : List ℕ). heardMatches a n i b (heardOf l)) (sym e) ∙ m) in
+        e ∙ ap₂ (λ (x y : ℕ). blockBytes a x y image) (k .0) (k .1)
+
+    pub matched-data : (i b : ℕ) (u : i < length (a .modules)) (s : List ℕ) → Played s → heardMatches a n i b (heardOf s) ≡ true → sectionData s ≡ blockData a i b image
+    unfolding heardMatches heardBytes
+    matched-data i b u s (inl e) m =
+        let h : heardOf s ≡ announced a = ap heardOf e ∙ announcement-heard-as id a ok in
+        absurd (clash _ m (ap (heardMatches a n i b) h))
+    matched-data i b u s (inr (j, q, w, z, e)) m =
+        let k = matches-only i b u j q w z (ap (λ (l : List ℕ). heardMatches a n i b (heardOf l)) (sym e) ∙ m) in
+        let h : heardOf s ≡ arrived (theBlock a ok image holds j q w z) = ap heardOf e ∙ block-heard-as a ok image holds j q w z in
+        ap heardBytes h ∙ ap₂ (λ (x y : ℕ). blockData a x y image) (k .0) (k .1)
+
+  -- THE ANNOUNCEMENT, played to a record that keeps its rule and holds another announcement (or none), and an image of the box that is long enough
+  module _ (y : Held) (ruled : ruledOf (y .state) ≡ true) (other : announcedBy (y .state) ≡ a → ⊥) (room : Holding a (y .image)) where
+    abbrev pub begun-with : Held
+    begun-with = given y (announcementBytes id a)
+
+    answers-new : steppedOf (y .state) (announcementBytes id a) (y .image) .answer ≡ answer.New
+    answers-new =
+        let w = announcement-well id a ok in
+        new-accepted (y .state) (announcementBytes id a) (y .image) .1 (ruled, w .0, λ q. other (q ∙ w .1))
+
+    pub announcement-new : givenOf (y .state) (announcementBytes id a) (y .image) .fate ≡ fate.New
+    announcement-new = kind-new (y .state) (announcementBytes id a) (y .image) .1 answers-new
+
+    pub begun : Begun begun-with
+    begun = (y, announcementBytes id a, announcement-new, refl)
+
+    same-announced : (c d : Announced) → announced c ≡ announced d → c ≡ d
+    same-announced c d e = cc
+
+    pub told-it : told begun-with ≡ a
+    unfolding afresh
+    told-it =
+        let w = new-changes (y .state) (announcementBytes id a) (y .image) answers-new in
+        ap (λ (z : Held). announcedBy (z .state)) (given-steps y (announcementBytes id a))
+        ∙ ap announcedBy (w .state)
+        ∙ ap (λ (r : Record). r .announced) (says-afresh (y .state) (w .told))
+        ∙ same-announced (w .told) a (sym (w .heard) ∙ announcement-heard-as id a ok)
+
+    -- matching is by what was told
+    pub match-told : (i b : ℕ) (s : List ℕ) → matches begun-with i b s ≡ heardMatches a (length (begun-with .image)) i b (heardOf s)
+    match-told i b s = ap (λ (c : Announced). heardMatches c (length (begun-with .image)) i b (heardOf s)) told-it
+
+    pub long-enough : bytesOf a ≤ length (begun-with .image)
+    long-enough =
+        let e = ap (λ (z : Held). length (z .image)) (given-steps y (announcementBytes id a)) in
+        let f = image-length (y .state) (announcementBytes id a) (y .image) in
+        omega arith
+
+    -- THEOREM 4, of one module: a run of any sections after the announcement, in which no call answers "new" (quiet), whatever matches one of the module's blocks carries
+    -- the shore's data (agree), and every block of the module is held (every)
+    module _ (ss : List (List ℕ)) (quiet : NoNew begun-with ss) (i : ℕ) (there : i < length (a .modules))
+        (agree : (b : ℕ) (s : List ℕ) → Holds ss s → matches begun-with i b s ≡ true → sectionData s ≡ blockData a i b image)
+        (every : (b : ℕ) → b < blockCount a i → Holds ss (blockBytes a i b image)) where
+      among : i < modules begun-with
+      among = rw told-it there
+
+      came : (b : ℕ) → b < blockCount a i → Came begun-with i b ss
+      came b l = (blockBytes a i b image, every b l, match-told i b (blockBytes a i b image) ∙ matches-it (length (begun-with .image)) long-enough i b there l)
+
+      all-came : (b : ℕ) → b < blocks begun-with i → Came begun-with i b ss
+      all-came b l = came b (subst (λ (c : Announced). b < blockCount c i) told-it l)
+
+      -- the module is complete
+      pub played-complete : isComplete (walk begun-with ss) i ≡ true
+      played-complete = completeness begun-with begun i among ss quiet .1 all-came
+
+      first-is : (b : ℕ) → b < blockCount a i → firstData begun-with i ss b ≡ blockData a i b image
+      first-is b l =
+          let c = came b l in
+          let h = some-holds (λ s. matches begun-with i b s) ss (holds-some (λ s. matches begun-with i b s) ss (c .0) (c .1) (c .2)) in
+          h .3 ∙ agree b (h .0) (h .1) (h .2)
+
+      pieces : joinedBlocks (blockCount a i) (λ b. blockData a i b image) ≡ shorePart a image i
+      unfolding blockData shorePart
+      pieces =
+          joined-ext (blockCount a i) _ _ (λ b l. ap (take (blockLength a i b)) (sym (drop-drop (b * a .blockSize) (startOf a i) image)))
+          ∙ joined-pieces (a .blockSize) (moduleAt a i .size) (block-size-pos (a .blockSize) (a .modules) (not-ten a (ok .keeps))) (drop (startOf a i) image)
+
+      blocks-are : joinedBlocks (blocks begun-with i) (λ b. firstData begun-with i ss b) ≡ shorePart a image i
+      blocks-are =
+          ap (λ (c : Announced). joinedBlocks (blockCount c i) (λ b. firstData begun-with i ss b)) told-it
+          ∙ joined-ext (blockCount a i) _ _ first-is
+          ∙ pieces
+
+      -- and equal to the shore's
+      pub played-bytes : bytesIn (walk begun-with ss) i ≡ shorePart a image i
+      played-bytes = content begun-with begun i among ss quiet played-complete ∙ blocks-are
+
+      -- and is handed out as such
+      pub played-handed-out : let k = moduleAt a i .number in
+          (handoutNumber (walk begun-with ss .state) (walk begun-with ss .image) k ≡ 0) × (handedOut (walk begun-with ss .state) (walk begun-with ss .image) k ≡ shorePart a image i)
+      played-handed-out =
+          let k : moduleAt (told begun-with) i .number ≡ moduleAt a i .number = ap (λ (c : Announced). moduleAt c i .number) told-it in
+          let z = walk begun-with ss in (
+            ap (handoutNumber (z .state) (z .image)) (sym k) ∙ handed-out begun-with begun i among ss quiet .1 all-came,
+            ap (handedOut (z .state) (z .image)) (sym k) ∙ content-handed-out begun-with begun i among ss quiet played-complete ∙ blocks-are,
+          )
+
+    -- THEOREM 3: any sections of the rotation are such a run
+    module _ (ss : List (List ℕ)) (own : (s : List ℕ) → Holds ss s → Played s) where
+      pub own-quiet : NoNew begun-with ss
+      own-quiet = no-new begun-with (begun-ruled begun-with begun) told-it ss own
+
+      pub own-agree : (i b : ℕ) → i < length (a .modules) → (s : List ℕ) → Holds ss s → matches begun-with i b s ≡ true → sectionData s ≡ blockData a i b image
+      own-agree i b u s h m = matched-data (length (begun-with .image)) long-enough i b u s (own s h) (sym (match-told i b s) ∙ m)
