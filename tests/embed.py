@@ -60,9 +60,11 @@ def compare_rust(numbers):
 def compare_readme():
     """The examples that README shows are parts of those that the gate runs."""
     readme = (ROOT / "README.md").read_text()
-    for language, path in (("c", "examples/receive.c"), ("rust", "rust/nebosvar/examples/receive.rs")):
-        shown = re.search(r"```%s\n(.*?)```" % language, readme, re.S)[1]
-        assert shown in (ROOT / path).read_text(), "README shows another example than %s" % path
+    wanted = (("c", "examples/receive.c"), ("c", "examples/play.c"), ("rust", "rust/nebosvar/examples/receive.rs"))
+    shown = re.findall(r"```(c|rust)\n(.*?)```", readme, re.S)
+    assert [language for language, _ in shown] == [language for language, _ in wanted], shown
+    for (_, path), (_, text) in zip(wanted, shown):
+        assert text in (ROOT / path).read_text(), "README shows another example than %s" % path
     print("embed.py: README shows the examples that are run")
 
 
@@ -202,6 +204,18 @@ def play_lines(a, image, identifier):
     return ["sections,%d" % len(sections), *(["refused,%d" % short] * len(sections) if short else sections)]
 
 
+def check_player(command):
+    """The example that plays one module: a drift list, and what is refused, nothing and too much."""
+    for size in (100, 1, 4066, 4067, player.TOGETHER, 0, player.TOGETHER + 1):
+        data = bytes((7 * k + k // 256) % 256 for k in range(size))
+        a = player.Announced(2026, 4066, [player.Module(1, size, 3)])
+        met = player.limits(a)
+        wanted = (b"", b"refused,%d\n" % min(met)) if met else (b"".join(player.rotation(a, data, 0x80000002)), b"")
+        ran = subprocess.run(command, input=data, capture_output=True, check=True)
+        assert (ran.stdout, ran.stderr) == wanted, "examples/play.c writes another rotation of %d bytes" % size
+    print("embed.py: the C example that plays, on modules of 1 to %d bytes" % player.TOGETHER)
+
+
 def check_plays(command):
     """What the second program makes of a playlist."""
     met = dict.fromkeys(("sections", "refused,10", "refused,11", "refused,15"), 0)
@@ -270,6 +284,7 @@ def run_example():
         check_tables(compile_strictly(ROOT / "tests" / "table.c", prefix, Path(folder) / "table"))
         check_lists(compile_strictly(ROOT / "tests" / "list.c", prefix, Path(folder) / "list"))
         check_plays(compile_strictly(ROOT / "tests" / "play.c", prefix, Path(folder) / "play"))
+        check_player(compile_strictly(ROOT / "examples" / "play.c", prefix, Path(folder) / "player"))
         subprocess.run([sys.executable, ROOT / "tests" / "program.py", "run", *command], check=True)
 
 

@@ -1,15 +1,16 @@
 #!/usr/bin/env python3
-"""The captures of examples/, made by the second programs, and what README shows of them.
+"""The captures and modules of examples/, made by the second programs, and what README shows of them.
 
-    examples.py          compare the stored captures with what is made here, and README with what the second programs print of them
-    examples.py --write  the same, but first write the captures
-    examples.py built    the same, and run what README shows, `./run PROGRAM [ARGUMENT] < CAPTURE`
+    examples.py          compare the stored files with what is made here, and README with what the second programs print of them
+    examples.py --write  the same, but first write the files
+    examples.py built    the same, and run what README shows, `./run PROGRAM [ARGUMENT] < CAPTURE` and `./run player .. | ./run PROGRAM [ARGUMENT]`
 """
 import re
 import subprocess
 import sys
 
 import driftlist
+import player
 import program
 import test_inspect
 from receiver import byte5, ddb, dii
@@ -105,30 +106,56 @@ CAPTURES = {
 }
 
 
-def check_captures(write):
+# The same two modules as files, for the player
+MODULES = {"drift.list": DRIFT, "chart.bytes": CHART}
+
+
+def check_file(name, made, write):
+    path = ROOT / "examples" / name
+    if write:
+        path.write_bytes(made)
+    if path.read_bytes() != made:
+        sys.exit("%s is not what tests/examples.py makes: run it with --write and look at the change" % path)
+
+
+def check_files(write):
     for name, (sections, wanted) in CAPTURES.items():
-        made, path = b"".join(sections), ROOT / "examples" / name
+        made = b"".join(sections)
         assert program.told(program.program(made)) == wanted.split(), (name, program.told(program.program(made)))
-        if write:
-            path.write_bytes(made)
-        if path.read_bytes() != made:
-            sys.exit("%s is not what tests/examples.py makes: run it with --write and look at the change" % path)
+        check_file(name, made, write)
+    for name, module in MODULES.items():
+        check_file(name, contents(module), write)
 
 
-# ---- README: each `./run PROGRAM [ARGUMENT] < examples/CAPTURE` with what it prints below it
+# ---- README: each `./run PROGRAM [ARGUMENT] < examples/CAPTURE`, or `./run player .. | ./run PROGRAM [ARGUMENT]`, with what it prints below it
+
+COMMAND = re.compile(r"    \$ (?:\./run player (?P<played>[\w ./]+) \| )?\./run (?P<name>\w+)(?P<arguments>(?: \w+)*)(?: < (?P<capture>examples/\S+))?")
 
 
 def shown():
-    """Program, its arguments, capture and text of each command that README shows with what it prints; `...` stands for lines left out."""
+    """Each command that README shows with what it prints, and that text; `...` stands for lines left out."""
     lines = (ROOT / "README.md").read_text().splitlines()
     for n, line in enumerate(lines):
-        command = re.fullmatch(r"    \$ \./run (\w+)((?: \w+)*) < (examples/\S+)", line)
+        command = COMMAND.fullmatch(line)
         if command:
             text = []
             while n + 1 < len(lines) and lines[n + 1].startswith("    ") and not lines[n + 1].startswith("    $"):
                 n += 1
                 text.append(lines[n][4:])
-            yield command[1], command[2].split(), command[3], text
+            yield command, text
+
+
+def input_of(command, built):
+    """What the command's last program reads: a capture, or what the player writes, the second program's or, where it is built, its own."""
+    if command["capture"]:
+        return (ROOT / command["capture"]).read_bytes()
+    arguments = command["played"].split()
+    wanted, said = player.printed([a.encode() for a in arguments], ROOT)
+    assert said == b"", (arguments, said)
+    if built:
+        got = subprocess.run([ROOT / "run", "player", *arguments], stdout=subprocess.PIPE, check=True, cwd=ROOT).stdout
+        assert got == wanted, "./run player %s writes something else" % " ".join(arguments)
+    return wanted
 
 
 def agree(text, printed):
@@ -139,21 +166,24 @@ def agree(text, printed):
 
 def check_readme(built):
     commands = list(shown())
-    assert {c[0] for c in commands} == set(SECOND) and {c[2] for c in commands} == {"examples/" + n for n in CAPTURES}, commands
-    for name, arguments, capture, text in commands:
-        stdin = (ROOT / capture).read_bytes()
+    told = [c for c, _ in commands]
+    assert {c["name"] for c in told} == set(SECOND) and {c["capture"] for c in told if c["capture"]} == {"examples/" + n for n in CAPTURES}, told
+    assert {c["name"] for c in told if c["played"]} == {"inspect", "driftlist"}, told
+    for command, text in commands:
+        stdin, name, arguments = input_of(command, built), command["name"], command["arguments"].split()
         wanted = SECOND[name](arguments, stdin).decode()
-        assert agree(text, wanted), "README shows of ./run %s < %s what is not printed:\n%s" % (name, capture, wanted)
+        assert agree(text, wanted), "README shows of%s what is not printed:\n%s" % (command[0], wanted)
         if built:
             got = subprocess.run([ROOT / "run", name, *arguments], input=stdin, stdout=subprocess.PIPE, check=True).stdout.decode()
-            assert got == wanted, "./run %s < %s prints\n%s" % (name, capture, got)
+            assert got == wanted, "%s prints\n%s" % (command[0], got)
     return len(commands)
 
 
 def main():
-    check_captures("--write" in sys.argv)
+    check_files("--write" in sys.argv)
     built = "built" in sys.argv
-    print("examples: %d captures; README shows %d commands with what %s prints" % (len(CAPTURES), check_readme(built), "./run" if built else "the second program"))
+    shown_of = "./run" if built else "the second program"
+    print("examples: %d captures, %d modules; README shows %d commands with what %s prints" % (len(CAPTURES), len(MODULES), check_readme(built), shown_of))
 
 
 main()
