@@ -8,7 +8,7 @@ use native.Mathlib.Omega.{arith}
 use lib.Dec.{ltb, eqb}
 use lib.ListN.{length, drop, length-map, length-take}
 use borrow.Author.Tests.{lt-ltb, le-ltb, ltb-true, ltb-false, eq-eqb, ne-eqb, eqb-true, not-true, not-false}
-use Rattle.wire.specs.Tests.{Tests, firstMet, holds, RisingFrom}
+use Rattle.wire.specs.Tests.{Tests, holds, RisingFrom}
 use Rattle.wire.proofs.Laws.Tests.{neither, clash, lowest-met}
 use Rattle.wire.proofs.Laws.Order.{None, none-exactly, nth-exactly}
 use Rattle.carousel_messages.specs.Limits.{largestBlock, mostModules, mostBlocks, mostBytes, total, beyond10, twice11}

@@ -16,7 +16,7 @@ use Rattle.carousel_messages.specs.declared.Listed.{Listed}
 use Rattle.carousel_messages.specs.declared.CarouselTable.the-variants.{Announcements, Blocks}
 use Rattle.carousel_messages.specs.Limits.{largestBlock, mostModules, mostBlocks}
 use Rattle.carousel_messages.specs.Message.{messageIdentifierOf, payloadOf}
-use Rattle.carousel_messages.specs.Contents.{downloadOf, blockSizeOf, modulesOf, moduleNumberOf, moduleSizeOf, blockModuleOf, blockVersionOf, blockNumberOf, blockDataOf}
+use Rattle.carousel_messages.specs.Contents.{downloadOf, blockSizeOf, modulesOf, blockModuleOf, blockVersionOf, blockNumberOf, blockDataOf}
 use Rattle.carousel_messages.specs.Heard.{Announced, Arrived, announced, arrived, listedOf, noneListed, sizesOf, numbersOf, heardOf}
 use Rattle.carousel_messages.specs.Good.{Distinct, announcedSizes, announcedNumbers, GoodMessage, GoodModules, GoodAnnouncement, GoodBlock, saidAnnouncement, saidBlock}
 use Rattle.carousel_messages.proofs.Good.{announcement-says, block-says}

@@ -2,7 +2,7 @@
 use Prim.Native.Nat.{ℕ}
 use mathlib.Core.Path.{_≡_, refl}
 use mathlib.Core.List.{List, [], _∷_}
-use lib.ListN.{replicate, length}
+use lib.ListN.{replicate}
 use Rattle.wire.specs.Fields.{spelled}
 use Rattle.wire.specs.Items.{joined}
 use Rattle.section.specs.Crc.{crcBit, crcBits, crcFrom, crcOf}

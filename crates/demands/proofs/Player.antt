@@ -8,7 +8,7 @@
 -- The identifier is any number, for the box does not read it; nothing is asked of the bytes of either image. `walk`, `fates`, `NoNew`, `matches` are demand 3's words; `Ends`
 -- says of one module that it is complete, equal to the shore's, and handed out as such (specs/Shore.antt).
 use Prim.Native.Nat.{ℕ, _≤_, _<_}
-use mathlib.Core.Path.{_≡_, refl, sym, ap, subst, _∙_}
+use mathlib.Core.Path.{_≡_, sym, ap, subst, _∙_}
 use mathlib.Core.Bool.{true}
 use mathlib.Core.Logic.{_⊎_, inl, inr}
 use mathlib.Core.List.{List, [], _∷_, List·Memᴰ·tail, List·Memᴰ·cases-cons}
@@ -27,7 +27,7 @@ use Rattle.carousel_play.specs.declared.Counted.the-variants as counted
 use Rattle.carousel_play.specs.Bytes.{announcementBytes, shorePart, blockData, blockBytes}
 use Rattle.carousel_play.specs.Rotation.{blockSections, rotation, sectionCount, Playable, Holding}
 use Rattle.carousel_play.specs.Calls.{toPlay, countAnswer}
-use Rattle.carousel_play.proofs.Heard.{announcement-heard-as, announcement-well, theBlock, block-heard-as, block-well}
+use Rattle.carousel_play.proofs.Heard.{announcement-heard-as, announcement-well, block-heard-as, block-well}
 use Rattle.carousel_play.proofs.Laws.Members.{rotation-has, rotation-holds}
 use Rattle.carousel_play.proofs.Laws.Places.{rotation-long}
 use Rattle.receiver.specs.declared.Fate.the-variants as fate
@@ -43,7 +43,7 @@ use Rattle.drift_list.proofs.Round.{writtenList, written-then-read}
 use Rattle.demands.specs.Demand.{fates, NoNew, matches, sectionData, Holds, Call, called, tookBy, stepped}
 use Rattle.demands.specs.Shore.{Ends, Widths, sentBy}
 use Rattle.demands.proofs.Three.{calls-walk, steps-walk}
-use Rattle.demands.proofs.Played.{Played, begun-with, played-complete, played-bytes, played-handed-out, own-quiet, own-agree}
+use Rattle.demands.proofs.Played.{Played, played-complete, played-bytes, played-handed-out, own-quiet, own-agree}
 use Rattle.demands.proofs.Taken.{again-same, block-again, block-first, rotation-fates}
 use Rattle.demands.proofs.Stretches.{Cut, joined-run, joined-sections}
 use Rattle.demands.proofs.Sent.{playable, count-is, sent-is}

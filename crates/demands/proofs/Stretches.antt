@@ -1,18 +1,17 @@
 -- Whole sections laid end to end are taken one by one, each as it is.
 use Prim.Native.Nat.{ℕ, zero, suc, _+_, _*_, _%_, _/_, _^_, _≤_, _<_}
 use mathlib.Core.Path.{_≡_, refl, sym, ap, ap₂, _∙_}
-use mathlib.Core.Bool.{true}
 use mathlib.Core.List.{List, [], _∷_, _++_, List·Memᴰ·head, List·Memᴰ·tail}
 use native.Mathlib.Omega.{arith}
 use lib.ListN.{length, take, drop, length-append, List·getD-append}
 use lib.Seq.{take-at, drop-at}
 use borrow.Author.Tests.{eq-eqb, ne-eqb}
-use Rattle.wire.specs.Fields.{byteAt, fieldAt, twelveAt}
+use Rattle.wire.specs.Fields.{byteAt, fieldAt}
 use Rattle.wire.specs.Items.{joined}
 use Rattle.section.specs.Header.{lengthOf}
 use Rattle.receiver.specs.declared.Stop.{Stop}
 use Rattle.receiver.specs.declared.Stop.the-variants as stop
-use Rattle.receiver.specs.Run.{saidLength, wholeAt, stopAt, givenOf, imageGiven, RunOutcome, runAfter, runs, sectionsOf, Held, given, walk}
+use Rattle.receiver.specs.Run.{saidLength, wholeAt, givenOf, imageGiven, RunOutcome, runAfter, runs, sectionsOf, Held, given, walk}
 use Rattle.receiver.proofs.Laws.Places.{whole-few, whole-is, stop-end}
 use Rattle.receiver.proofs.Laws.Runs.{runs-stop, runs-next}
 use Rattle.demands.specs.Demand.{Holds}

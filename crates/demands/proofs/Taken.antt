@@ -2,7 +2,7 @@
 use Prim.Native.Nat.{ℕ, zero, suc, _≤_, _<_}
 use mathlib.Core.Path.{_≡_, refl, sym, ap, ap₂, subst, _∙_}
 use mathlib.Core.Bool.{Bool, true, false, cond}
-use mathlib.Core.Logic.{_⊎_, inl, inr}
+use mathlib.Core.Logic.{inl, inr}
 use mathlib.Core.List.{List, [], _∷_, _++_, append-assoc}
 use native.Mathlib.Omega.{arith}
 use lib.ListN.{length, take, drop, replicate, length-append, replicate-append-replicate}
@@ -11,7 +11,6 @@ use Rattle.carousel_messages.specs.Heard.{Announced, Arrived, heardOf}
 use Rattle.carousel_messages.specs.Good.{GoodBlock, saidBlock}
 use Rattle.carousel_record.specs.Record.{recordOf, announcedBy, bytesOf, blockCount, blockLength, blockAt, received, ruledOf}
 use Rattle.carousel_record.proofs.Laws.Places.{some-modules}
-use Rattle.carousel_step.specs.declared.Answer.the-variants as answer
 use Rattle.carousel_step.specs.Matching.{Matching, heardMatches}
 use Rattle.carousel_step.proofs.Views.{Slot, slot, hit}
 use Rattle.carousel_step.proofs.View.{slot-marked}
@@ -25,7 +24,7 @@ use Rattle.demands.proofs.Walks.{Stays, walk-stays, walk-view}
 use Rattle.demands.proofs.Two.{same-accepted, stored-accepted, repeated-accepted, kind-same, kind-stored, kind-repeated}
 use Rattle.carousel_play.specs.Bytes.{announcementBytes, blockData, blockBytes}
 use Rattle.carousel_play.specs.Rotation.{moduleSections, sectionsTo, blockSections, rotation, Playable, Holding}
-use Rattle.carousel_play.proofs.Laws.Limits.{not-ten, not-eleven}
+use Rattle.carousel_play.proofs.Laws.Limits.{not-ten}
 use Rattle.carousel_play.proofs.Heard.{announcement-well, data-long, theBlock, block-well}
 use Rattle.carousel_play.proofs.Laws.Members.{in-either, module-has, sections-have}
 use Rattle.demands.proofs.Played.{Played, no-new, matches-it, matches-only, matched-is, matched-data, begun-with, announcement-new, begun, told-it, long-enough}

@@ -10,7 +10,6 @@ use lib.Seq.{take-at}
 use Rattle.wire.specs.Fields.{sixteenAt, fieldAt, spelled}
 use Rattle.wire.proofs.Laws.Fields.{spelled-reads}
 use Rattle.section.specs.declared.Rules.the-variants.{Carousel}
-use Rattle.section.specs.Crc.{crcOf}
 use Rattle.section.specs.Header.{isTable, lengthOf, headerOf, bodyOf, extensionOf, versionOf}
 use Rattle.section.specs.Refusals.{GoodSection}
 use Rattle.section.proofs.Laws.Crc.{own-crc}

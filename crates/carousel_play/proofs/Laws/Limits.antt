@@ -1,9 +1,8 @@
 -- What an announcement within the limits gives, in the tests' words.
-use Prim.Native.Nat.{ℕ, _≤_, _<_}
 use mathlib.Core.Path.{_≡_}
 use mathlib.Core.Bool.{false}
 use native.Mathlib.Omega.{arith}
-use lib.ListN.{length, length-map}
+use lib.ListN.{length-map}
 use Rattle.carousel_messages.specs.Limits.{beyond10, twice11}
 use Rattle.carousel_messages.specs.Heard.{Announced, sizesOf, numbersOf}
 use Rattle.carousel_messages.proofs.Good.{ten-exactly, distinct-back}

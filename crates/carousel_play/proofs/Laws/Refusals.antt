@@ -1,7 +1,7 @@
 -- The refusals, each way that code finds them.
 use Prim.Native.Nat.{ℕ, _+_, _≤_, _<_}
 use mathlib.Core.Path.{_≡_, refl, sym, ap, _∙_}
-use mathlib.Core.Bool.{Bool, true, false, not, cond, _||_}
+use mathlib.Core.Bool.{Bool, true, false, not, cond}
 use mathlib.Core.List.{List, [], _∷_, _++_}
 use native.Mathlib.Omega.{arith}
 use lib.Dec.{eqb, ltb}
@@ -19,7 +19,7 @@ use Rattle.carousel_play.specs.declared.Playlist.{Playlist}
 use Rattle.carousel_play.specs.declared.Counted.the-variants as counted
 use Rattle.carousel_play.specs.declared.Played.the-variants as played
 use Rattle.carousel_play.specs.Rotation.{sectionCount, sectionAt}
-use Rattle.carousel_play.specs.Calls.{toPlay, limitTests, limitRefusal, playTests, playRefusal, countAnswer, playAnswer, playedBytes}
+use Rattle.carousel_play.specs.Calls.{toPlay, limitTests, limitRefusal, playRefusal, countAnswer, playAnswer, playedBytes}
 use Rattle.carousel_play.specs.Pieces.{laidSize, laidOver, refusalBefore}
 use Rattle.carousel_play.proofs.Laws.Pieces.{left-past}
 

@@ -1,13 +1,13 @@
 -- What the walk over modules to a place of the rotation keeps: the blocks before, and the bytes before.
 use Prim.Native.Nat.{ℕ, zero, suc, _+_, _-_, _*_, _≤_, _<_}
 use mathlib.Core.Path.{_≡_, refl, ap, _∙_}
-use mathlib.Core.List.{List, [], _∷_}
+use mathlib.Core.List.{List, [], _∷_, map}
 use native.Mathlib.Numerals.{add-one}
 use native.Mathlib.Omega.{arith}
-use lib.ListN.{length, getD, take, drop}
+use lib.ListN.{length, getD, length-map}
 use lib.Seq.{getD-take, length-take-le}
 use Rattle.carousel_messages.specs.declared.Listed.{Listed}
-use Rattle.carousel_messages.specs.Limits.{total}
+use Rattle.carousel_messages.specs.Limits.{mostModules}
 use Rattle.carousel_messages.specs.Heard.{Announced, noneListed, sizesOf}
 use Rattle.carousel_record.specs.Blocks.{blocksOf}
 use Rattle.carousel_record.specs.Record.{blockCount, moduleAt, sums}
@@ -82,9 +82,10 @@ blocks-none a = refl
 
 -- THE ENTRIES OF A PLAYLIST, as the modules of the announcement that it says
 module _ (p : Playlist) where
-  pub played-count : p .count ≤ length (p .modules) → length (toPlay p .modules) ≡ p .count
+  -- as many as are counted; the playlist's array has its 32 entries, however a machine holds them
+  pub played-count : {A : Type 0} (f : Listed → A) → length (map f (p .modules)) ≡ mostModules → p .count ≤ mostModules → length (toPlay p .modules) ≡ p .count
   unfolding toPlay
-  played-count h = length-take-le (p .count) (p .modules) h
+  played-count f e h = let l = length-map (p .modules) f in length-take-le (p .count) (p .modules) (omega arith)
 
   pub entry-is : (i : ℕ) → i < p .count → moduleAt (toPlay p) i ≡ getD (p .modules) i noneListed
   unfolding toPlay

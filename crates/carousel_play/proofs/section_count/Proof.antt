@@ -1,5 +1,5 @@
 -- `carousel_play::section_count` meets its contract.
-use mathlib.Core.Path.{_≡_, sym, _∙_}
+use mathlib.Core.Path.{sym, _∙_}
 use borrow.Author.Needs.{needs}
 use Rattle.carousel_play.proofs.Laws.Refusals.{kept, count-refused, count-told}
 use Rattle.carousel_play.proofs.section_count.Statement.{statement}

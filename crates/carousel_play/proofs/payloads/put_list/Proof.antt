@@ -1,13 +1,10 @@
 -- `carousel_play::payloads::put_list` meets its contract: six pieces, one after another.
-use mathlib.Core.Path.{_≡_, sym, ap, _∙_}
-use mathlib.Core.List.{List, [], _∷_, _++_}
-use native.Mathlib.Omega.{arith}
-use lib.ListN.{length, take, length-map}
-use Prim.Native.Nat.{ℕ}
+use mathlib.Core.Path.{_≡_, sym}
+use mathlib.Core.List.{[], _∷_}
+use lib.ListN.{length, take}
 use Rattle.wire.specs.Fields.{spelled}
 use Rattle.text.proofs.Laws.Written.{first, then, said}
-use Rattle.carousel_messages.specs.Limits.{mostModules}
-use Rattle.carousel_play.specs.Bytes.{modulesBytes, listBytes}
+use Rattle.carousel_play.specs.Bytes.{modulesBytes}
 use Rattle.carousel_play.specs.Calls.{toPlay}
 use Rattle.carousel_play.proofs.Laws.Spots.{played-count}
 use Rattle.carousel_play.proofs.Laws.Pieces.{list-pieces}
@@ -15,11 +12,8 @@ use borrow.Author.Needs.{needs}
 use Rattle.carousel_play.proofs.payloads.put_list.Statement.{statement}
 use Rattle.carousel_play.proofs.payloads.put_list.Tie as tie
 
-entries : (s : tie.Start) → length (s .args .p .modules) ≡ mostModules
-entries s = sym (length-map (s .args .p .modules) _) ∙ s .good .1 .1 .0 .1 .1 .1 .1 .1 .0 .1 .0 .1
-
 counted : (s : tie.Start) → s .args .p .count ≡ length (toPlay (s .args .p) .modules)
-counted s = let e = entries s in let f = s .pre in sym (played-count (s .args .p) (omega arith))
+counted s = sym (played-count (s .args .p) _ (s .good .1 .1 .0 .1 .1 .1 .1 .1 .0 .1 .0 .1) (s .pre))
 
 put-thirty-two-requires : tie.Need-put-thirty-two-requires
 put-thirty-two-requires c κs = search needs

@@ -1,9 +1,8 @@
 -- `carousel_play::sections::put_announcement` meets its contract: the payload at byte 20, and the section around it.
 use Prim.Native.Nat.{_+_, _*_}
-use mathlib.Core.Path.{_≡_, sym, _∙_}
+use mathlib.Core.Path.{_≡_, _∙_}
 use native.Mathlib.Omega.{arith}
-use lib.ListN.{length, length-map}
-use Rattle.carousel_messages.specs.Limits.{mostModules}
+use lib.ListN.{length}
 use Rattle.carousel_play.specs.Bytes.{listBytes, announcementBytes}
 use Rattle.carousel_play.specs.Calls.{toPlay}
 use Rattle.carousel_play.specs.Pieces.{framedBy}
@@ -14,14 +13,10 @@ use borrow.Author.Needs.{needs}
 use Rattle.carousel_play.proofs.sections.put_announcement.Statement.{statement}
 use Rattle.carousel_play.proofs.sections.put_announcement.Tie as tie
 
-entries : (s : tie.Start) → length (s .args .p .modules) ≡ mostModules
-entries s = sym (length-map (s .args .p .modules) _) ∙ s .good .1 .1 .0 .1 .1 .1 .1 .1 .0 .1 .0 .1
-
 its-length : (s : tie.Start) → length (listBytes (toPlay (s .args .p))) ≡ 22 + 8 * s .args .p .count
 its-length s =
-    let e = entries s in
     let f = s .pre .0 in
-    let g = played-count (s .args .p) (omega arith) in
+    let g = played-count (s .args .p) _ (s .good .1 .1 .0 .1 .1 .1 .1 .1 .0 .1 .0 .1) f in
     list-long (toPlay (s .args .p)) (omega arith) ∙ omega arith
 
 put-list-requires : tie.Need-put-list-requires

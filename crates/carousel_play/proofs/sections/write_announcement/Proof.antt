@@ -2,8 +2,7 @@
 use Prim.Native.Nat.{_+_, _*_}
 use mathlib.Core.Path.{_≡_, sym, _∙_}
 use native.Mathlib.Omega.{arith}
-use lib.ListN.{length, length-map}
-use Rattle.carousel_messages.specs.Limits.{mostModules}
+use lib.ListN.{length}
 use Rattle.carousel_play.specs.Bytes.{announcementBytes}
 use Rattle.carousel_play.specs.Calls.{toPlay}
 use Rattle.carousel_play.proofs.Laws.Spots.{played-count}
@@ -13,14 +12,10 @@ use borrow.Author.Needs.{needs}
 use Rattle.carousel_play.proofs.sections.write_announcement.Statement.{statement}
 use Rattle.carousel_play.proofs.sections.write_announcement.Tie as tie
 
-entries : (s : tie.Start) → length (s .args .p .modules) ≡ mostModules
-entries s = sym (length-map (s .args .p .modules) _) ∙ s .good .1 .1 .0 .1 .1 .1 .1 .1 .0 .1 .0 .1
-
 its-length : (s : tie.Start) → length (announcementBytes (s .args .identifier) (toPlay (s .args .p))) ≡ 46 + 8 * s .args .p .count
 its-length s =
-    let e = entries s in
     let f = s .pre in
-    let g = played-count (s .args .p) (omega arith) in
+    let g = played-count (s .args .p) _ (s .good .1 .1 .0 .1 .1 .1 .1 .1 .0 .1 .0 .1) f in
     announcement-size (s .args .identifier) (toPlay (s .args .p)) (omega arith) ∙ omega arith
 
 cast-if1 : tie.Need-cast-if1

@@ -1,17 +1,17 @@
 -- `carousel_play::sections::write_block` meets its contract: the block that the place chooses lies in the image, and is put where there is room.
 use Prim.Native.Nat.{ℕ, _+_, _-_, _*_, _%_, _≤_, _<_}
-use mathlib.Core.Path.{_≡_, sym, ap, _∙_}
+use mathlib.Core.Path.{_≡_, ap, _∙_}
 use mathlib.Core.List.{List}
 use native.Mathlib.Omega.{arith}
-use lib.ListN.{length, getD, take, drop, length-map}
+use lib.ListN.{length, getD, take, drop}
 use lib.Seq.{sets}
 use Rattle.section.specs.Header.{blockTable}
 use Rattle.carousel_messages.specs.declared.Listed.{Listed}
-use Rattle.carousel_messages.specs.Limits.{mostModules, mostBytes}
+use Rattle.carousel_messages.specs.Limits.{mostBytes}
 use Rattle.carousel_messages.specs.Heard.{Announced, noneListed}
-use Rattle.carousel_record.specs.Blocks.{blocksOf, blockLengthOf}
+use Rattle.carousel_record.specs.Blocks.{blockLengthOf}
 use Rattle.carousel_record.specs.Record.{moduleAt}
-use Rattle.carousel_play.specs.Bytes.{sectionBytes, messageBytes, carriedBytes, startOf, lesser}
+use Rattle.carousel_play.specs.Bytes.{sectionBytes, messageBytes, carriedBytes, lesser}
 use Rattle.carousel_play.specs.Rotation.{sectionAt}
 use Rattle.carousel_play.specs.Calls.{toPlay}
 use Rattle.carousel_play.proofs.Laws.Spots.{played-count, entry-is}
@@ -31,14 +31,9 @@ said c = toPlay (start c .args .p)
 abbrev m : tie.After-spot-at → Listed
 m c = getD (start c .args .p .modules) (c .spot-at .result .which) noneListed
 
-entries : (s : tie.Start) → length (s .args .p .modules) ≡ mostModules
-entries s = sym (length-map (s .args .p .modules) _) ∙ s .good .1 .0 .1 .1 .1 .1 .1 .0 .1 .0 .1
-
 there : (c : tie.After-spot-at) → c .spot-at .result .which < length (said c .modules)
 there c =
-    let e = entries (start c) in
-    let f = start c .pre .0 in
-    let g = played-count (start c .args .p) (omega arith) in
+    let g = played-count (start c .args .p) _ (start c .good .1 .0 .1 .1 .1 .1 .1 .0 .1 .0 .1) (start c .pre .0) in
     omega (arith, c .spot-at .ensures .0)
 
 is-module : (c : tie.After-spot-at) → moduleAt (said c) (c .spot-at .result .which) ≡ m c

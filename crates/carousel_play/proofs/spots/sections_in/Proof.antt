@@ -1,10 +1,9 @@
 -- `carousel_play::spots::sections_in` meets its contract. The invariant: the announcement, and the blocks of the modules passed.
 use Prim.Native.Nat.{ℕ, _+_, _-_, _*_, _≤_}
-use mathlib.Core.Path.{_≡_, sym, ap, _∙_}
+use mathlib.Core.Path.{_≡_, ap, _∙_}
 use native.Mathlib.Omega.{arith}
-use lib.ListN.{length, length-map}
+use lib.ListN.{length}
 use borrow.Author.Needs.{needs}
-use Rattle.carousel_messages.specs.Limits.{mostModules}
 use Rattle.carousel_play.specs.Rotation.{blocksTo}
 use Rattle.carousel_play.specs.Calls.{toPlay}
 use Rattle.carousel_play.proofs.Laws.Spots.{blocks-none, blocks-next, played-count, entry-is}
@@ -17,11 +16,8 @@ Inv-loop p n ms sum₀ i₀ sum i = (i ≤ n) × (sum ≡ 1 + blocksTo (toPlay p
 abbrev μ-loop : tie.MeasureT-loop
 μ-loop p n ms sum₀ i₀ sum i = n - i
 
-entries : (s : tie.Start Inv-loop μ-loop) → length (s .args .p .modules) ≡ mostModules
-entries s = sym (length-map (s .args .p .modules) _) ∙ s .good .0 .1 .1 .1 .1 .1 .0 .1 .0 .1
-
 counted : (s : tie.Start Inv-loop μ-loop) → length (toPlay (s .args .p) .modules) ≡ s .args .p .count
-counted s = let e = entries s in let f = s .pre in played-count (s .args .p) (omega arith)
+counted s = played-count (s .args .p) _ (s .good .0 .1 .1 .1 .1 .1 .0 .1 .0 .1) (s .pre)
 
 cast-n : tie.Need-cast-n Inv-loop μ-loop
 cast-n c = search needs

@@ -1,12 +1,9 @@
 -- `carousel_play::spots::spot_at` meets its contract. The invariant: the blocks and the bytes of the modules passed.
-use Prim.Native.Nat.{_-_, _<_, _≤_}
-use mathlib.Core.Path.{_≡_, sym, ap, _∙_}
+use Prim.Native.Nat.{_-_, _<_}
+use mathlib.Core.Path.{_≡_, ap}
 use native.Mathlib.Omega.{arith}
-use lib.ListN.{length, getD, length-map}
+use lib.ListN.{length}
 use borrow.Author.Needs.{needs}
-use Rattle.carousel_messages.specs.Limits.{mostModules}
-use Rattle.carousel_messages.specs.Heard.{noneListed}
-use Rattle.carousel_record.specs.Record.{moduleAt}
 use Rattle.carousel_play.specs.Rotation.{blocksTo}
 use Rattle.carousel_play.specs.Calls.{toPlay}
 use Rattle.carousel_play.proofs.Laws.Spots.{Walked, walked-none, walked-next, walked-here, walked-past, played-count, entry-is}
@@ -32,11 +29,8 @@ start-of-else1 c = start-of-loop (c .before .before .before .before)
 abbrev loop-of-else1 : tie.Else1 Inv-loop μ-loop → tie.At-loop Inv-loop μ-loop
 loop-of-else1 c = c .before .before .before .before
 
-entries : (s : tie.Start Inv-loop μ-loop) → length (s .args .p .modules) ≡ mostModules
-entries s = sym (length-map (s .args .p .modules) _) ∙ s .good .0 .1 .1 .1 .1 .1 .0 .1 .0 .1
-
 counted : (s : tie.Start Inv-loop μ-loop) → length (toPlay (s .args .p) .modules) ≡ s .args .p .count
-counted s = let e = entries s in let f = s .pre .0 in played-count (s .args .p) (omega arith)
+counted s = played-count (s .args .p) _ (s .good .0 .1 .1 .1 .1 .1 .0 .1 .0 .1) (s .pre .0)
 
 last : (s : tie.Start Inv-loop μ-loop) → s .args .place < blocksTo (toPlay (s .args .p)) (s .args .p .count)
 last s = let e = ap (blocksTo (toPlay (s .args .p))) (counted s) in omega (arith, s .pre .1)
