@@ -14,7 +14,7 @@ use Rattle.wire.proofs.Laws.Order.{None, none-exactly, nth-exactly}
 use Rattle.carousel_messages.specs.Limits.{largestBlock, mostModules, mostBlocks, mostBytes, total, beyond10, twice11}
 use Rattle.carousel_messages.specs.Heard.{Announced, sizesOf, numbersOf}
 use Rattle.carousel_messages.specs.Good.{Distinct}
-use Rattle.carousel_messages.proofs.Good.{ten-exactly, distinct-there, distinct-back}
+use Rattle.carousel_messages.proofs.Good.{ten-exactly as ten-facts, distinct-there, distinct-back}
 use Rattle.carousel_record.specs.Record.{moduleAt, bytesOf, blockCount}
 use Rattle.carousel_record.specs.Refusals.{meets15}
 use Rattle.carousel_play.specs.declared.Playlist.{Playlist}
@@ -62,7 +62,7 @@ module _ (p : Playlist) where
       there : test10 ≡ false → InLimits p
       there e =
           let h = neither (ltb mostModules (p .count)) (beyond10 (p .«block_size») (sizesOf (a .modules))) e in
-          let w = ten-exactly (p .«block_size») (sizesOf (a .modules)) .0 (h .1) in
+          let w = ten-facts (p .«block_size») (sizesOf (a .modules)) .0 (h .1) in
           let l = length-map (a .modules) (λ m. m .size) in
           record {
             blockSome = w .0;
@@ -79,7 +79,7 @@ module _ (p : Playlist) where
           let k = counted-most (g .modulesMost) in
           rw (
             le-ltb mostModules (p .count) (g .modulesMost),
-            ten-exactly (p .«block_size») (sizesOf (a .modules)) .1 (g .blockSome, g .blockMost, omega (arith, l, g .modulesSome), omega (arith, l, k), g .sizes, g .together),
+            ten-facts (p .«block_size») (sizesOf (a .modules)) .1 (g .blockSome, g .blockMost, omega (arith, l, g .modulesSome), omega (arith, l, k), g .sizes, g .together),
           )
 
   test11-is : (twice11 (numbersOf (a .modules)) ≡ false) ↔ Different p
@@ -140,9 +140,9 @@ module _ (p : Playlist) where
           λ h. n .1 (test10-is .1 (h .0), (test11-is .1 (h .1), (test15-is .1 (h .2), (test19-is .1 (h .3), (test21-is .1 (h .4), tt))))),
         )
 
-    pub ten-exactly-played : (playRefusal id p image k room ≡ 10) ↔ (InLimits p → ⊥)
+    pub ten-exactly : (playRefusal id p image k room ≡ 10) ↔ (InLimits p → ⊥)
     unfolding playRefusal
-    ten-exactly-played =
+    ten-exactly =
         let n = nth-exactly [] 10 test10 ((11, twice11 (numbersOf (a .modules))) ∷ from15) rising in
         let u = unmet test10 test10-is in
         (λ e. u .0 (n .0 e .1), λ h. n .1 (tt, u .1 h))
