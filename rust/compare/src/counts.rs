@@ -1,5 +1,6 @@
 //! What was answered how often. A comparison says nothing of an answer that never came.
 
+use crate::columns::write_columns;
 use std::fmt::{self, Display};
 
 use baseline::Refusal;
@@ -209,18 +210,12 @@ fn named(what: &str, names: &[&str], counts: &[u64]) -> Vec<(String, u64)> {
 impl Display for Counts {
     /// A line for each refusal, a column for each call; then every other answer; then the limits.
     fn fmt(&self, f: &mut fmt::Formatter<'_>) -> fmt::Result {
-        write!(f, "refusal")?;
-        for name in CALLS {
-            write!(f, "{name:>9}")?;
-        }
-        writeln!(f)?;
-        for (place, counts) in self.refusals.iter().enumerate() {
-            write!(f, "{:7}", place + 1)?;
-            for count in counts {
-                write!(f, "{count:>9}")?;
-            }
-            writeln!(f)?;
-        }
+        let rows = self.refusals.iter().enumerate();
+        write_columns(
+            f,
+            &CALLS,
+            rows.map(|(place, counts)| (place + 1, &counts[..])),
+        )?;
         writeln!(f, "{}", told(&self.answers().split_off(REFUSALS)))?;
         write!(f, "limits: {}", self.told_limits())
     }

@@ -8,7 +8,7 @@
 //!   is at them, and not by chance).
 //! * Comparing: [`pair`] (both receivers side by side), [`walk`] (a whole stretch), [`reading`] (a table),
 //!   [`threads`] (all stretches), [`fence`] (for some of them, memory that may not be touched beside what is lent).
-//! * Telling: [`counts`] (what was answered how often), [`versions`] (of blocks, for the counts), [`reached`] (limits),
+//! * Telling: [`counts`] (what was answered how often), [`columns`] (how it is printed), [`versions`] (of blocks, for the counts), [`reached`] (limits),
 //!   [`difference`].
 //!
 //! What the makers mean a section to be decides nothing: a section that was not spoilt as intended is still
@@ -18,6 +18,7 @@
 
 pub mod bounds;
 pub mod carousels;
+pub mod columns;
 pub mod counts;
 pub mod damage;
 pub mod difference;

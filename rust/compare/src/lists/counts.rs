@@ -1,5 +1,6 @@
 //! What was answered how often.
 
+use crate::columns::write_columns;
 use std::fmt::{self, Display};
 
 use crate::fence::Edge;
@@ -97,18 +98,12 @@ impl Counts {
 impl Display for Counts {
     /// A line for each refusal, a column for each call; then what was accepted.
     fn fmt(&self, f: &mut fmt::Formatter<'_>) -> fmt::Result {
-        write!(f, "refusal")?;
-        for name in CALLS {
-            write!(f, "{name:>9}")?;
-        }
-        writeln!(f)?;
-        for ((number, _), counts) in REFUSALS.iter().zip(&self.refusals) {
-            write!(f, "{number:7}")?;
-            for count in counts {
-                write!(f, "{count:>9}")?;
-            }
-            writeln!(f)?;
-        }
+        let rows = REFUSALS.iter().zip(&self.refusals);
+        write_columns(
+            f,
+            &CALLS,
+            rows.map(|((number, _), counts)| (number, &counts[..])),
+        )?;
         let (accepted, found, written) = (self.accepted, self.found, self.written);
         write!(
             f,

@@ -1,5 +1,6 @@
 //! What was answered how often, and which limits were met, from which side.
 
+use crate::columns::write_columns;
 use std::fmt::{self, Display};
 
 use super::Draft;
@@ -326,18 +327,12 @@ fn passed(draft: &Draft) -> Vec<Limit> {
 impl Display for Counts {
     /// A line for each refusal, a column for each call; then the limits.
     fn fmt(&self, f: &mut fmt::Formatter<'_>) -> fmt::Result {
-        write!(f, "refusal")?;
-        for name in CALLS {
-            write!(f, "{name:>9}")?;
-        }
-        writeln!(f)?;
-        for ((number, _), counts) in REFUSALS.iter().zip(&self.refusals) {
-            write!(f, "{number:7}")?;
-            for count in counts {
-                write!(f, "{count:>9}")?;
-            }
-            writeln!(f)?;
-        }
+        let rows = REFUSALS.iter().zip(&self.refusals);
+        write_columns(
+            f,
+            &CALLS,
+            rows.map(|((number, _), counts)| (number, &counts[..])),
+        )?;
         let limits = LIMITS.iter().zip(&self.limits);
         let limits: Vec<_> = limits
             .map(|(what, count)| format!("{what} {count}"))

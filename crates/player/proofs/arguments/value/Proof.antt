@@ -1,5 +1,4 @@
 -- `value` meets its contract, by what `said` tells.
-use Prim.Native.Nat.{_≤_}
 use borrow.Author.Needs.{needs}
 use Rattle.player.proofs.arguments.value.Statement.{statement}
 use Rattle.player.proofs.arguments.value.Tie as tie
