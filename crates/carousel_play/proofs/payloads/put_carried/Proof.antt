@@ -31,7 +31,7 @@ returns c =
     let two = block .before .before .before .before in
     let b = two .before in let number = b .before .before .before .before in
     let a = number .before .before .before .before .args in
-    let p = then (first (spelled 2 (a .number)) (number .put-sixteen .ensures)) (a .version ∷ 0xFF ∷ []) (two .put .ensures) in
+    let p = then (first (spelled 2 (a .number)) (number .put-sixteen .ensures)) (a .version ∷ 0xFF ∷ []) (two .put .ensures .0, two .put .ensures .1) in
     then (then p (spelled 2 (a .block)) (block .put-sixteen2 .ensures)) (a .bytes .now) (last .put2 .ensures) .puts
 
 pub put-carried-spec : {M : Type 1} → statement M
