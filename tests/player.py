@@ -5,7 +5,8 @@ Written from the words on the shore player (02, §13, and points 13.1 to 13.7), 
 the Rattle code. What a receiver makes of it is tests/receiver.py.
 
 The arguments are DOWNLOAD BLOCKSIZE IDENTIFIER NUMBER VERSION FILE [NUMBER VERSION FILE ...]: numbers of 32, 16, 32, 16 and 8 bits in
-decimal, 1 to 4,096 digits with leading zeros among them, and names of files. A module's bytes are its file's whole content. One of these:
+decimal, 1 to 4,096 digits with leading zeros among them, and names of files, of at most 4,096 bytes (docs/DECISIONS.md 147: a longer one
+could not be told). A module's bytes are its file's whole content. One of these:
 
     usage: player DOWNLOAD ...     on standard error, where the arguments are not as above; no file is opened before that is known
     no file NAME                   on standard error, for the first file that cannot be read; the name as it was given
@@ -135,7 +136,7 @@ def understood(arguments):
     head = [number(argument, bits) for argument, bits in zip(arguments, (32, 16, 32))]
     entries = [arguments[at : at + EACH] for at in range(FIRST, len(arguments), EACH)]
     modules = [(number(n, 16), number(v, 8), name) for n, v, name in entries]
-    return None if None in head or any(None in m for m in modules) else (*head, modules)
+    return None if None in head or any(None in m or len(m[2]) > 4096 for m in modules) else (*head, modules)
 
 
 def content(folder, name):
@@ -364,6 +365,11 @@ def no_files():
         yield Input("no file %s" % driftlist.shown(name), "As it was given.", given(1, 4, 2, (1, 0, name)), SMALL, wanted)
         yield Input("no second file %s" % driftlist.shown(name), "As it was given.", given(1, 4, 2, (1, 0, b"a"), (2, 0, name)), SMALL, wanted)
     two = given(1, 4, 2, (1, 0, b"x"), (2, 0, b"y"))
+    longest = b"n" * 4096
+    yield Input("a name of 4,096 bytes", "It is told whole.", given(1, 4, 2, (1, 0, longest)), SMALL, b"no file %s\n" % longest)
+    yield Input("a name of 4,097 bytes", "It could not be told.", given(1, 4, 2, (1, 0, longest + b"n")), SMALL, USAGE)
+    late = given(1, 4, 2, (1, 0, b"none"), (2, 0, longest + b"n"))
+    yield Input("no file, and then a name of 4,097 bytes", "The arguments are judged first.", late, SMALL, USAGE)
     yield Input("two files that are none", "The first.", two, SMALL, b"no file x\n")
     later = given(1, 4, 2, (1, 0, b"a"), (2, 0, b"y"), (3, 0, b"x"))
     yield Input("two later files that are none", "The first of them.", later, SMALL, b"no file y\n")

@@ -22,7 +22,7 @@ use Rattle.carousel_play.specs.declared.Counted.the-variants as counted
 use Rattle.carousel_play.specs.declared.Played.the-variants as played
 use Rattle.carousel_play.specs.Bytes.{announcementBytes}
 use Rattle.carousel_play.specs.Rotation.{blocksTo, sectionCount, sectionAt, KeepsLimits, Holding}
-use Rattle.carousel_play.specs.Calls.{toPlay, limitTests, limitRefusal, playTests, playRefusal, countAnswer, playAnswer, playedBytes}
+use Rattle.carousel_play.specs.Calls.{toPlay, InLimits, Different, limitTests, limitRefusal, playTests, playRefusal, countAnswer, playAnswer, playedBytes}
 use Rattle.carousel_play.proofs.Laws.Limits.{not-ten}
 use Rattle.carousel_play.proofs.Laws.Places.{places}
 use Rattle.carousel_play.proofs.Laws.Chosen.{announcement-size, section-size, chosen}
@@ -31,19 +31,6 @@ use Rattle.carousel_play.proofs.Laws.Chosen.{announcement-size, section
 unmet : (b : Bool) {A : Type 0} → (b ≡ false) ↔ A → (b ≡ true) ↔ (A → ⊥)
 unmet true e = (λ x h. clash true refl (e .1 h), λ x. refl)
 unmet false e = (λ x. absurd (clash false x refl), λ x. absurd (x (e .0 refl)))
-
--- 10 DOES NOT MEET a playlist: "blockSize 0 or over 4,066; 0 or over 32 modules; a size 0 or over 1,024 × blockSize; sizes over 262,144 together" (01, with 02 §8's numbers)
-pub record InLimits (p : Playlist) : Type 0 where
-  pub blockSome : 1 ≤ p .«block_size»
-  pub blockMost : p .«block_size» ≤ largestBlock
-  pub modulesSome : 1 ≤ length (toPlay p .modules)
-  pub modulesMost : p .count ≤ mostModules
-  pub sizes : (z : ℕ) → List·Memᴰ z (sizesOf (toPlay p .modules)) → (1 ≤ z) × (z ≤ mostBlocks * p .«block_size»)
-  pub together : total (sizesOf (toPlay p .modules)) ≤ mostBytes
-
--- 11 DOES NOT: no module number twice
-abbrev pub Different : Playlist → Type 0
-Different p = Distinct (numbersOf (toPlay p .modules))
 
 module _ (p : Playlist) where
   abbrev a : Announced

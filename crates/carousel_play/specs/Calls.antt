@@ -1,12 +1,13 @@
 -- WHAT THE PLAYER'S CALLS ANSWER, and what they leave in the lent buffer. 02, §13.
-use Prim.Native.Nat.{ℕ}
+use Prim.Native.Nat.{ℕ, _*_, _≤_}
 use mathlib.Core.Bool.{not, cond, _||_}
-use mathlib.Core.List.{List, [], _∷_, _++_}
+use mathlib.Core.List.{List, [], _∷_, _++_, List·Memᴰ}
 use lib.Dec.{eqb, ltb}
 use lib.ListN.{length, take, drop}
 use Rattle.wire.specs.Tests.{Tests, firstMet}
-use Rattle.carousel_messages.specs.Limits.{mostModules, beyond10, twice11}
+use Rattle.carousel_messages.specs.Limits.{largestBlock, mostModules, mostBlocks, mostBytes, total, beyond10, twice11}
 use Rattle.carousel_messages.specs.Heard.{Announced, sizesOf, numbersOf}
+use Rattle.carousel_messages.specs.Good.{Distinct}
 use Rattle.carousel_record.specs.Refusals.{meets15}
 use Rattle.carousel_play.specs.declared.Playlist.{Playlist}
 use Rattle.carousel_play.specs.declared.Counted.{Counted}
@@ -18,6 +19,20 @@ use Rattle.carousel_play.specs.Rotation.{sectionCount, sectionAt}
 -- the announcement that a playlist says. Its entries from the count on are not looked at.
 unfoldable pub toPlay : Playlist → Announced
 toPlay p = record { download = p .download; blockSize = p .«block_size»; modules = take (p .count) (p .modules) }
+
+-- WHAT 10 AND 11 ASK OF A PLAYLIST, in plain facts that share nothing with the tests below
+-- 10 DOES NOT MEET a playlist: "blockSize 0 or over 4,066; 0 or over 32 modules; a size 0 or over 1,024 × blockSize; sizes over 262,144 together" (01, with 02 §8's numbers)
+pub record InLimits (p : Playlist) : Type 0 where
+  pub blockSome : 1 ≤ p .«block_size»
+  pub blockMost : p .«block_size» ≤ largestBlock
+  pub modulesSome : 1 ≤ length (toPlay p .modules)
+  pub modulesMost : p .count ≤ mostModules
+  pub sizes : (z : ℕ) → List·Memᴰ z (sizesOf (toPlay p .modules)) → (1 ≤ z) × (z ≤ mostBlocks * p .«block_size»)
+  pub together : total (sizesOf (toPlay p .modules)) ≤ mostBytes
+
+-- 11 DOES NOT: no module number twice
+abbrev pub Different : Playlist → Type 0
+Different p = Distinct (numbersOf (toPlay p .modules))
 
 -- 10, which a count of more than there are entries meets as well; 11
 abbrev pub limitTests : Playlist → Tests

@@ -9,8 +9,8 @@ use Rattle.carousel_play.specs.declared.Playlist.{Playlist}
 use Rattle.carousel_play.specs.declared.Counted.the-variants as counted
 use Rattle.carousel_play.specs.declared.Played.{Played}
 use Rattle.carousel_play.specs.Rotation.{rotation, sectionCount, sectionAt, Playable, Holding}
-use Rattle.carousel_play.specs.Calls.{toPlay, playRefusal, countAnswer}
-use Rattle.carousel_play.proofs.Exact.{InLimits, Different, limits-exactly, written-exactly, written-is, count-exactly, keeps-limits, room-enough}
+use Rattle.carousel_play.specs.Calls.{toPlay, InLimits, Different, playRefusal, countAnswer}
+use Rattle.carousel_play.proofs.Exact.{limits-exactly, written-exactly, written-is, count-exactly, keeps-limits, room-enough}
 use Rattle.carousel_play.proofs.Laws.Places.{rotation-long}
 use Rattle.demands.specs.Shore.{Widths, sizeTold, putBy, sentBy}
 

@@ -73,7 +73,12 @@ before-length c = before-product (c .before .before)
 -- and how long it is
 length-told : (c : tie.After-lesser) → c .lesser .result ≡ its-length (before-length c)
 unfolding toPlay
-length-told c = let k = known (before-length c) in c .lesser .ensures ∙ length-is _ _ (k .some) _ (k .one)
+length-told c =
+    let s = before-length c in
+    let k = known s in
+    let bs = start s .args .p .«block_size» in
+    let e : c .lesser .result ≡ lesser bs (m s .size - block s * bs) = c .lesser .ensures in
+    e ∙ length-is bs (m s .size) (k .some) (block s) (k .one)
 
 spot-at-requires : tie.Need-spot-at-requires
 spot-at-requires c κs = search needs
