@@ -1,9 +1,9 @@
 -- EACH NUMBER EXACTLY IN ITS CASE, in plain facts. 02, §13: "Refusals: 10, 11, 15, 19, and 21 for a short buffer, lowest first; what lies past the section is unchanged."
-use Prim.Native.Nat.{ℕ, _+_, _*_, _≤_, _<_}
+use Prim.Native.Nat.{ℕ, _+_, _≤_, _<_}
 use mathlib.Core.Path.{_≡_, refl, sym, ap, _∙_}
 use mathlib.Core.Logic.{_↔_, _⊎_, inl, inr}
 use mathlib.Core.Bool.{Bool, true, false, not, cond, _||_}
-use mathlib.Core.List.{List, [], _∷_, _++_, List·Memᴰ}
+use mathlib.Core.List.{List, [], _∷_, _++_}
 use native.Mathlib.Omega.{arith}
 use lib.Dec.{ltb, eqb}
 use lib.ListN.{length, drop, length-map, length-take}
@@ -11,9 +11,8 @@ use borrow.Author.Tests.{lt-ltb, le-ltb, ltb-true, ltb-false, eq-eqb, ne-eqb, eq
 use Rattle.wire.specs.Tests.{Tests, holds, RisingFrom}
 use Rattle.wire.proofs.Laws.Tests.{neither, clash, lowest-met}
 use Rattle.wire.proofs.Laws.Order.{None, none-exactly, nth-exactly}
-use Rattle.carousel_messages.specs.Limits.{largestBlock, mostModules, mostBlocks, mostBytes, total, beyond10, twice11}
+use Rattle.carousel_messages.specs.Limits.{mostModules, beyond10, twice11}
 use Rattle.carousel_messages.specs.Heard.{Announced, sizesOf, numbersOf}
-use Rattle.carousel_messages.specs.Good.{Distinct}
 use Rattle.carousel_messages.proofs.Good.{ten-exactly as ten-facts, distinct-there, distinct-back}
 use Rattle.carousel_record.specs.Record.{moduleAt, bytesOf, blockCount}
 use Rattle.carousel_record.specs.Refusals.{meets15}
