@@ -7,6 +7,8 @@ use denote.Triple.Clauses.{AtExit}
 use Rattle.wire.proofs.Once.{OneAnswer}
 use Rattle.ait_read.proofs.read.Kinds as read-kinds
 use Rattle.ait_read.proofs.read.Reads as read-reads
+use Rattle.ait_read.proofs.acceptance.judge_by.Kinds as judge-by-kinds
+use Rattle.ait_read.proofs.acceptance.judge_by.Reads as judge-by-reads
 use Rattle.ait_read.proofs.application_at.Kinds as application-at-kinds
 use Rattle.ait_read.proofs.application_at.Reads as application-at-reads
 use Rattle.ait_read.proofs.descriptor_at.Kinds as descriptor-at-kinds
@@ -26,6 +28,9 @@ use Rattle.ait_read.proofs.part.Reads as part-reads
 
 read : OneAnswer 1 read-kinds.ps read-kinds.r read-reads.Post
 read κs a x y s t p q = p .0 ∙ sym (q .0)
+
+judge-by : OneAnswer 1 judge-by-kinds.ps judge-by-kinds.r judge-by-reads.Post
+judge-by κs a x y s t p q = p ∙ sym q
 
 application-at : OneAnswer 1 application-at-kinds.ps application-at-kinds.r application-at-reads.Post
 application-at κs a x y s t p q = p .0 ∙ sym (q .0)

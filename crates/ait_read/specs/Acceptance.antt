@@ -14,7 +14,8 @@ use Rattle.section.specs.declared.Header.{Header}
 use Rattle.section.specs.declared.Checked.{Checked}
 use Rattle.section.specs.declared.Checked.the-variants.{Refused, Accepted}
 use Rattle.section.specs.Refusals.{sectionTests, GoodSection}
-use Rattle.section.specs.Answer.{refused, checkedOf, onChecked}
+use Rattle.section.specs.Answer.{refused, checkedBy, onChecked}
+use Rattle.section.specs.Crc.{crcOf}
 use Rattle.ait_descriptors.specs.Kinds.{application}
 use Rattle.ait_body.specs.Body.{applicationLoop, ownLoop, soleLoop, bodyTests, bodyRefusal, WellFormed}
 
@@ -22,11 +23,14 @@ use Rattle.ait_body.specs.Body.{applicationLoop, ownLoop, soleLoop, bodyTests, 
 abbrev pub applicationTests : List ℕ → Tests
 applicationTests s = sectionTests Application s ++ bodyTests (bodyOf s)
 
--- The section check's refusal as it came; else the body's; else accepted with the header's fields.
-unfoldable pub tableJudged : List ℕ → Checked
-tableJudged s =
-    onChecked (checkedOf Application s) (λ r. Refused r) (λ h.
+-- The section check's refusal as it came; else the body's; else accepted with the header's fields: whatever register is handed in, and by the section's own.
+unfoldable pub tableJudgedBy : (register : ℕ) → List ℕ → Checked
+tableJudgedBy g s =
+    onChecked (checkedBy g Application s) (λ r. Refused r) (λ h.
     cond (eqb (bodyRefusal (bodyOf s)) 0) (Accepted h) (Refused (refused (bodyRefusal (bodyOf s)))))
+
+abbrev pub tableJudged : List ℕ → Checked
+tableJudged s = tableJudgedBy (crcOf s) s
 
 -- An accepted application section by the clauses of its tests, one by one. In plain facts, none of them a test, it is `GoodTable` of ait_grammar.
 pub record FormedTable (s : List ℕ) : Type 0 where

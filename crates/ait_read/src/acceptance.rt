@@ -6,14 +6,21 @@ use section::Rules;
 use section::Spot;
 use wire::Place;
 ghost use mathlib.Core.Path.{_≡_};
-ghost use Rattle.ait_read.specs.Acceptance.{tableJudged};
+ghost use Rattle.ait_read.specs.Acceptance.{tableJudged, tableJudgedBy};
 ghost use Rattle.ait_read.specs.Answers.{locatedOf};
 
 // The section check's answer as it is, but for a body that 7 or 18 meets.
 pub fn judge(s: &[u8]) -> Checked
     ensures { λ r. ⌜ r ≡ tableJudged (now (s .entry)) ⌝ }
 {
-    let checked = section::check(s, Rules::Application);
+    judge_by(s, section::crc(s))
+}
+
+// The same for whoever has the register already: what `s` leaves, or any other number.
+pub fn judge_by(s: &[u8], register: u32) -> Checked
+    ensures { λ r. ⌜ r ≡ tableJudgedBy register (now (s .entry)) ⌝ }
+{
+    let checked = section::check_by(s, Rules::Application, register);
     match checked {
         Checked::Refused(r) => Checked::Refused(r),
         Checked::Accepted(h) => {

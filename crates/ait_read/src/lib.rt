@@ -37,6 +37,7 @@ ghost use Rattle.ait_read.specs.Places.{applicationAt, descriptorAt, rep
 ghost use Rattle.ait_read.specs.Answers.{readAnswer, applicationAnswer, descriptorAnswer, itemAnswer, extensionAnswer, numberOfRead};
 ghost use Rattle.ait_read.specs.Answers.{numberOfApplication, numberOfDescriptor, numberOfItem, numberOfExtension, readNumber, placeNumber};
 ghost use Rattle.ait_read.specs.Answers.{spanPart};
+pub use acceptance::judge_by;
 pub use classes::class_of;
 pub use classes::control_of;
 pub use labels::resolve;

@@ -10,10 +10,11 @@ use borrow.Author.Tests.{eq-eqb, eqb-true, eqb-false}
 use Rattle.wire.specs.Tests.{firstMet}
 use Rattle.wire.proofs.Laws.Tests.{met-append}
 use Rattle.wire.proofs.Laws.Order.{None, First, Numbered, none-exactly, first-exactly}
+use Rattle.section.specs.Crc.{crcOf}
 use Rattle.section.specs.declared.Header.{Header}
 use Rattle.section.specs.declared.Rules.the-variants.{Carousel}
 use Rattle.section.specs.Header.{headerOf, bodyOf}
-use Rattle.section.specs.Refusals.{sectionTests, refusalOf, GoodSection}
+use Rattle.section.specs.Refusals.{sectionTests, refusalBy, refusalOf, GoodSection}
 use Rattle.section.specs.Answer.{refused}
 use Rattle.section.proofs.Laws.Exact as section
 use Rattle.carousel_messages.specs.declared.CarouselTable.{CarouselTable}
@@ -141,7 +142,7 @@ module _ (s : List ℕ) where
   inMessage = messageRefusal (carouselTableIn s) (headerOf s) (bodyOf s)
 
   by-message : refusalOf Carousel s ≡ 0 → messageJudged (carouselTableIn s) (headerOf s) (bodyOf s) ≡ judgedOf s
-  by-message z = judged-message s (headerOf s) (section.accepted-with Carousel s z)
+  by-message z = judged-message (crcOf s) s (headerOf s) (section.accepted-with Carousel s z)
 
   message-number : numberOfJudged (messageJudged (carouselTableIn s) (headerOf s) (bodyOf s)) ≡ inMessage
   unfolding messageJudged
@@ -156,11 +157,11 @@ module _ (s : List ℕ) where
     where
       go : (t : Bool) → eqb (refusalOf Carousel s) 0 ≡ t → numberOfJudged (judgedOf s) ≡ cond t inMessage (refusalOf Carousel s)
       go true e = ap numberOfJudged (sym (by-message (eqb-true _ _ e))) ∙ message-number
-      go false e = ap numberOfJudged (sym (judged-refused s _ (section.refused-with Carousel s (eqb-false _ _ e))))
+      go false e = ap numberOfJudged (sym (judged-refused (crcOf s) s _ (section.refused-with Carousel s (eqb-false _ _ e))))
 
   -- n EXACTLY WHERE THE FIRST TEST THAT HOLDS IS OF n, IN THE SECTION'S TABLE AND THEN THE MESSAGE'S
   pub all-tests : numberOfJudged (judgedOf s) ≡ firstMet (carouselTests s)
-  unfolding refusalOf messageRefusal
+  unfolding refusalBy messageRefusal
   all-tests = judged-number ∙ sym (met-append 0 (sectionTests Carousel s) (messageTests (carouselTableIn s) (headerOf s) (bodyOf s)) (section.rising Carousel s))
 
   pub refused-exactly : (n : ℕ) → 0 < n → (numberOfJudged (judgedOf s) ≡ n) ↔ First n (carouselTests s)

@@ -11,6 +11,7 @@ use borrow.Author.Tests.{ltb-false, leb-true, eqb-true, eqb-false, le-ltb, le-le
 use Rattle.wire.specs.Fields.{byteAt, sixteenAt}
 use Rattle.wire.proofs.Laws.Tests.{both, neither, clash}
 use Rattle.wire.proofs.Laws.Order.{None}
+use Rattle.section.specs.Crc.{crcOf}
 use Rattle.section.specs.declared.Header.{Header}
 use Rattle.section.specs.declared.Rules.the-variants.{Carousel}
 use Rattle.section.specs.Header.{announcementTable, blockTable, headerOf, bodyOf}
@@ -195,7 +196,7 @@ module _ (s : List ℕ) where
   -- a section that 2 to 6 do not meet is judged by its message
   judged-by : (t : CarouselTable) → carouselTableIn s ≡ t → GoodSection Carousel s → judgedOf s ≡ messageJudged t (headerOf s) (bodyOf s)
   judged-by t e g =
-      sym (judged-message s (headerOf s) (section.accepted-with Carousel s (section.good-exactly Carousel s .1 g)))
+      sym (judged-message (crcOf s) s (headerOf s) (section.accepted-with Carousel s (section.good-exactly Carousel s .1 g)))
       ∙ ap (λ (t : CarouselTable). messageJudged t (headerOf s) (bodyOf s)) e
 
   -- AN ANNOUNCEMENT IS TAKEN EXACTLY WHEN IT IS WELL FORMED, and what is read of it are its fields

@@ -9,12 +9,12 @@ use Rattle.wire.specs.Tests.{firstMet}
 use Rattle.wire.specs.Items.{framed, itemsIn, items, endOf}
 use Rattle.section.specs.declared.Header.{Header}
 use Rattle.section.specs.Crc.{crcBit, crcBits, crcFrom, crcOf}
-use Rattle.section.specs.Refusals.{meets2, meets3, meets4, meets5, meets6, refusalOf}
-use Rattle.section.specs.Answer.{refused, checkedOf}
+use Rattle.section.specs.Refusals.{meets2, meets3, meets4, meets5, meets6, refusalBy}
+use Rattle.section.specs.Answer.{refused, checkedBy}
 use Rattle.carousel_messages.specs.declared.Announcement.{Announcement}
 use Rattle.carousel_messages.specs.declared.Block.{Block}
 use Rattle.carousel_messages.specs.declared.Judged.the-variants.{Refused, Announced, Carried}
-use Rattle.carousel_messages.specs.Judged.{announcementOf, blockOf, readOf, messageJudged, judgedOf}
+use Rattle.carousel_messages.specs.Judged.{announcementOf, blockOf, readOf, messageJudged, judgedOf, judgedBy}
 use Rattle.carousel_messages.specs.declared.CarouselTable.the-variants.{Announcements, Blocks}
 use Rattle.carousel_messages.specs.Contents.{announcementFramed}
 use Rattle.carousel_messages.specs.Limits.{someBad, total, beyond10, among, twice11}
@@ -91,7 +91,7 @@ announcedAs bs n z = record { download = 1; «block_size» = bs; count = n; star
 
 pub sections : (judgedOf announcing ≡ Announced (announcedAs 4 1 8))
     × (judgedOf abcd ≡ Carried (carried 0))
-unfolding judgedOf messageJudged readOf announcementOf blockOf crcOf crcFrom crcBits crcBit checkedOf refusalOf meets2 meets3 meets4 meets5 meets6
+unfolding judgedBy messageJudged readOf announcementOf blockOf crcOf crcFrom crcBits crcBit checkedBy refusalBy meets2 meets3 meets4 meets5 meets6
     messageRefusal firstMet short7 meets8 messageMeets7 messageFramed payloadFramed announcementFramed framed itemsIn items endOf meets9 meets10
     beyond10 someBad total meets11 twice11 among fieldAt
 sections = (refl, refl)
@@ -101,7 +101,7 @@ pub versions : (judgedOf (carrying 0xC1 32 (0xF3 ∷ 0x02 ∷ 0xC9 ∷ 0x0E ∷ 
     × (judgedOf (carrying 0xC1 33 (0xA8 ∷ 0xA3 ∷ 0x15 ∷ 0xC4 ∷ [])) ≡ Refused (refused 9))
     × (judgedOf (carrying 0xFF 0 (0x4C ∷ 0xA6 ∷ 0xDE ∷ 0x0E ∷ [])) ≡ Refused (refused 9))
     × (judgedOf (carrying 0xFF 255 (0x2B ∷ 0xC6 ∷ 0x0C ∷ 0x6A ∷ [])) ≡ Carried (carried 255))
-unfolding judgedOf messageJudged readOf blockOf crcOf crcFrom crcBits crcBit checkedOf refusalOf meets2 meets3 meets4 meets5 meets6
+unfolding judgedBy messageJudged readOf blockOf crcOf crcFrom crcBits crcBit checkedBy refusalBy meets2 meets3 meets4 meets5 meets6
     messageRefusal firstMet short7 meets8 messageMeets7 messageFramed payloadFramed meets9 fieldAt
 versions = (refl, refl, refl, refl)
 
@@ -123,7 +123,7 @@ wide = announcingOne (0x00 ∷ 0x41 ∷ []) (0x00 ∷ 0x01 ∷ 0x00 ∷ 0x01 ∷
 
 pub limits : (judgedOf chart ≡ Announced (announcedAs 1 1 8)) × (judgedOf chartBeyond ≡ Refused (refused 10))
     × (judgedOf charts ≡ Announced (announcedAs 400 2 16)) × (judgedOf chartsBeyond ≡ Refused (refused 10)) × (judgedOf wide ≡ Announced (announcedAs 65 1 8))
-unfolding judgedOf messageJudged readOf announcementOf crcOf crcFrom crcBits crcBit checkedOf refusalOf meets2 meets3 meets4 meets5 meets6
+unfolding judgedBy messageJudged readOf announcementOf crcOf crcFrom crcBits crcBit checkedBy refusalBy meets2 meets3 meets4 meets5 meets6
     messageRefusal firstMet short7 meets8 messageMeets7 messageFramed payloadFramed announcementFramed framed itemsIn items endOf meets10
     beyond10 someBad total meets11 twice11 among fieldAt
 limits = (refl, refl, refl, refl, refl)
@@ -142,6 +142,6 @@ abbrev pub carriedAs : (block size : ℕ) → Block
 carriedAs b z = record { download = 1; number = 1; version = 0; block = b; start = 26; size = z }
 
 pub high : (judgedOf block1023 ≡ Carried (carriedAs 1023 1)) × (judgedOf block1024 ≡ Carried (carriedAs 1024 1)) × (judgedOf wideBlock ≡ Carried (carriedAs 0 65))
-unfolding judgedOf messageJudged readOf blockOf crcOf crcFrom crcBits crcBit checkedOf refusalOf meets2 meets3 meets4 meets5 meets6
+unfolding judgedBy messageJudged readOf blockOf crcOf crcFrom crcBits crcBit checkedBy refusalBy meets2 meets3 meets4 meets5 meets6
     messageRefusal firstMet short7 meets8 messageMeets7 messageFramed payloadFramed meets9 fieldAt
 high = (refl, refl, refl)

@@ -20,7 +20,7 @@ use Rattle.carousel_messages.specs.declared.CarouselTable.the-variants.{
 use Rattle.carousel_messages.specs.declared.Judged.{Judged}
 use Rattle.carousel_messages.specs.declared.Judged.the-variants as judged
 use Rattle.carousel_messages.specs.Refusals.{messageTests, messageRefusal}
-use Rattle.carousel_messages.specs.Judged.{carouselTableOf, readOf, messageJudged, judgedOf}
+use Rattle.carousel_messages.specs.Judged.{carouselTableOf, readOf, messageJudged, judgedOf, judgedBy}
 use Rattle.carousel_messages.specs.Heard.{refusal, heardIn, heardOf}
 
 -- a message's own are 7 to 11
@@ -37,7 +37,7 @@ read-no-refusal Announcements b r e = let z : _≡_ {A = ℕ} 0 1 = cc in omega 
 read-no-refusal Blocks b r e = let z : _≡_ {A = ℕ} 0 1 = cc in omega arith
 
 pub judged-told : (s : List ℕ) (r : Refusal) → judgedOf s ≡ judged.Refused r → Told Carousel s r
-unfolding judgedOf messageJudged
+unfolding judgedBy messageJudged
 judged-told s r e = go (checkedOf Carousel s) refl e
   where
     message : (t : CarouselTable) (h : Header) (z : Bool) → eqb (messageRefusal t h (bodyOf s)) 0 ≡ z

@@ -3,6 +3,8 @@ use mathlib.Core.Path.{sym, _∙_}
 use Rattle.wire.proofs.Once.{OneAnswer}
 use Rattle.carousel_messages.proofs.judge.Kinds as judge-kinds
 use Rattle.carousel_messages.proofs.judge.Reads as judge-reads
+use Rattle.carousel_messages.proofs.judge_by.Kinds as judge-by-kinds
+use Rattle.carousel_messages.proofs.judge_by.Reads as judge-by-reads
 use Rattle.carousel_messages.proofs.modules.module_at.Kinds as module-at-kinds
 use Rattle.carousel_messages.proofs.modules.module_at.Reads as module-at-reads
 use Rattle.carousel_messages.proofs.limits.is_beyond.Kinds as is-beyond-kinds
@@ -13,6 +15,9 @@ use Rattle.carousel_messages.proofs.limits.total.Kinds as total-kinds
 use Rattle.carousel_messages.proofs.limits.total.Reads as total-reads
 use Rattle.carousel_messages.proofs.limits.place_from.Kinds as place-from-kinds
 use Rattle.carousel_messages.proofs.limits.place_from.Reads as place-from-reads
+
+judge-by : OneAnswer 1 judge-by-kinds.ps judge-by-kinds.r judge-by-reads.Post
+judge-by κs a x y s t p q = p ∙ sym q
 
 judge : OneAnswer 1 judge-kinds.ps judge-kinds.r judge-reads.Post
 judge κs a x y s t p q = p .0 ∙ sym (q .0)

@@ -9,7 +9,8 @@ use Rattle.section.specs.declared.Rules.the-variants.{Carousel}
 use Rattle.section.specs.declared.Header.{Header}
 use Rattle.section.specs.Header.{announcementTable, headerOf, bodyOf}
 use Rattle.section.specs.Refusals.{sectionTests}
-use Rattle.section.specs.Answer.{refused, checkedOf, onChecked}
+use Rattle.section.specs.Answer.{refused, checkedBy, onChecked}
+use Rattle.section.specs.Crc.{crcOf}
 use Rattle.carousel_messages.specs.declared.CarouselTable.{CarouselTable}
 use Rattle.carousel_messages.specs.declared.CarouselTable.the-variants.{Announcements, Blocks}
 use Rattle.carousel_messages.specs.declared.Announcement.{Announcement}
@@ -58,9 +59,12 @@ readOf Blocks b = judged.Carried (blockOf b)
 unfoldable pub messageJudged : CarouselTable → Header → List ℕ → Judged
 messageJudged t h b = cond (eqb (messageRefusal t h b) 0) (readOf t b) (judged.Refused (refused (messageRefusal t h b)))
 
--- the section check's refusal as it came; else the message's; else what the message says
-unfoldable pub judgedOf : List ℕ → Judged
-judgedOf s = onChecked (checkedOf Carousel s) (λ r. judged.Refused r) (λ h. messageJudged (carouselTableOf (h .table)) h (bodyOf s))
+-- the section check's refusal as it came; else the message's; else what the message says: whatever register is handed in, and by the section's own
+unfoldable pub judgedBy : (register : ℕ) → List ℕ → Judged
+judgedBy g s = onChecked (checkedBy g Carousel s) (λ r. judged.Refused r) (λ h. messageJudged (carouselTableOf (h .table)) h (bodyOf s))
+
+abbrev pub judgedOf : List ℕ → Judged
+judgedOf s = judgedBy (crcOf s) s
 
 -- the paper's number of an answer; 0 is no refusal
 abbrev pub numberOfJudged : Judged → ℕ

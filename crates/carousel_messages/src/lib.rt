@@ -24,7 +24,7 @@ use section::Refusal;
 use section::Rules;
 ghost use mathlib.Core.Path.{_≡_};
 ghost use Rattle.wire.specs.Tests.{firstMet};
-ghost use Rattle.carousel_messages.specs.Judged.{judgedOf, numberOfJudged, carouselTests};
+ghost use Rattle.carousel_messages.specs.Judged.{judgedBy, judgedOf, numberOfJudged, carouselTests};
 
 // Which of the carousel's two tables.
 pub enum CarouselTable {
@@ -69,7 +69,14 @@ pub enum Judged {
 pub fn judge(s: &[u8]) -> Judged
     ensures { λ r. ⌜ (r ≡ judgedOf (now (s .entry))) × (numberOfJudged r ≡ firstMet (carouselTests (now (s .entry)))) ⌝ }
 {
-    let checked = section::check(s, Rules::Carousel);
+    judge_by(s, section::crc(s))
+}
+
+// The same for whoever has the register already: what `s` leaves, or any other number.
+pub fn judge_by(s: &[u8], register: u32) -> Judged
+    ensures { λ r. ⌜ r ≡ judgedBy register (now (s .entry)) ⌝ }
+{
+    let checked = section::check_by(s, Rules::Carousel, register);
     match checked {
         Checked::Refused(r) => Judged::Refused(r),
         Checked::Accepted(h) => {

@@ -5,8 +5,8 @@ use Prim.Native.Nat.{ℕ}
 use Rattle.wire.specs.Fields.{fieldAt}
 use Rattle.wire.specs.Tests.{firstMet}
 use Rattle.section.specs.Crc.{crcBit, crcBits, crcFrom, crcOf}
-use Rattle.section.specs.Refusals.{meets2, meets3, meets4, meets5, meets6, refusalOf, spotOf}
-use Rattle.section.specs.Answer.{checkedOf}
+use Rattle.section.specs.Refusals.{meets2, meets3, meets4, meets5, meets6, refusalBy, spotOf}
+use Rattle.section.specs.Answer.{checkedBy, checkedOf}
 use Rattle.section.specs.declared.Rules.the-variants.{Application, Carousel}
 use Rattle.section.specs.declared.Spot.the-variants.{Byte}
 use Rattle.section.specs.declared.Refusal.{Refusal}
@@ -31,7 +31,7 @@ emptyTable = 0x74 ∷ 0xB0 ∷ 0x0D ∷ 0x00 ∷ 0x01 ∷ 0xC1 ∷ 0x00 ∷ 0x00
 
 pub accepted : (checkedOf Application emptyTable ≡ Accepted (record { table = 0x74; extension = 1; version = 0; section = 0; last = 0 }))
     × (checkedOf Carousel emptyTable ≡ Refused (at 3 0))
-unfolding crcOf crcFrom crcBits crcBit fieldAt checkedOf refusalOf spotOf firstMet meets2 meets3 meets4 meets5 meets6
+unfolding crcOf crcFrom crcBits crcBit fieldAt checkedBy refusalBy spotOf firstMet meets2 meets3 meets4 meets5 meets6
 accepted = (refl, refl)
 
 -- a section whose number is 3 over a last of 2, and one of current_next 0
@@ -50,5 +50,5 @@ pub places : (checkedOf Application (0x74 ∷ 0xB0 ∷ []) ≡ Refused (at 2 2))
     × (checkedOf Carousel (numbered 0x30) ≡ Refused (at 4 1))
     × (checkedOf Application (0x74 ∷ 0xB0 ∷ 13 ∷ 0 ∷ 1 ∷ 0xC1 ∷ 0 ∷ 0 ∷ 0xF0 ∷ 0 ∷ 0xF0 ∷ 0 ∷ 0x26 ∷ 0x71 ∷ 0x6E ∷ 0xA1 ∷ []) ≡ Refused (at 5 12))
     × (checkedOf Application next ≡ Refused (at 6 5))
-unfolding crcOf crcFrom crcBits crcBit fieldAt checkedOf refusalOf spotOf firstMet meets2 meets3 meets4 meets5 meets6
+unfolding crcOf crcFrom crcBits crcBit fieldAt checkedBy refusalBy spotOf firstMet meets2 meets3 meets4 meets5 meets6
 places = (refl, refl, refl, refl, refl, refl, refl)

@@ -6,7 +6,8 @@ use mathlib.Core.List.{List}
 use lib.Dec.{eqb}
 use Rattle.section.specs.declared.Header.{Header}
 use Rattle.section.specs.Header.{headerOf}
-use Rattle.section.specs.Refusals.{refusalOf, spotOf}
+use Rattle.section.specs.Crc.{crcOf}
+use Rattle.section.specs.Refusals.{refusalBy, refusalOf, spotOf}
 use Rattle.section.specs.declared.Rules.{Rules}
 use Rattle.section.specs.declared.Spot.the-variants.{Nowhere}
 use Rattle.section.specs.declared.Refusal.{Refusal}
@@ -32,9 +33,12 @@ pub record Told (rules : Rules) (s : List ℕ) (r : Refusal) : Type 0 where
   pub own : 1 < r .number → r .number < 7 → refusalOf rules s ≡ r .number
   pub placed : r .place ≡ spotOf rules s (r .number)
 
--- refused with its number and its place, or accepted with the header's fields
-unfoldable pub checkedOf : Rules → List ℕ → Checked
-checkedOf rules s = cond (eqb (refusalOf rules s) 0) (Accepted (headerOf s)) (Refused (refusedBy rules s (refusalOf rules s)))
+-- refused with its number and its place, or accepted with the header's fields: whatever register is handed in, and by the section's own
+unfoldable pub checkedBy : (register : ℕ) → Rules → List ℕ → Checked
+checkedBy g rules s = cond (eqb (refusalBy g rules s) 0) (Accepted (headerOf s)) (Refused (refusedBy rules s (refusalBy g rules s)))
+
+abbrev pub checkedOf : Rules → List ℕ → Checked
+checkedOf rules s = checkedBy (crcOf s) rules s
 
 -- by cases of an answer
 abbrev pub onChecked : {A : Type 0} → Checked → (Refusal → A) → (Header → A) → A

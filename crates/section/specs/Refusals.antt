@@ -27,21 +27,28 @@ misframed rules s = ltb (lengthOf s) 9 || ltb (limitOf rules) (lengthOf s) || eq
 unfoldable pub meets4 : Rules → List ℕ → Bool
 meets4 rules s = misframed rules s || ltb (lastOf s) (sectionOf s)
 
--- 5: "CRC"; "right when the whole section, CRC included, leaves zero"
-unfoldable pub meets5 : List ℕ → Bool
-meets5 s = not (eqb (crcOf s) 0)
+-- 5: "CRC"; "right when the whole section, CRC included, leaves zero". Of the register that it leaves:
+unfoldable pub meets5 : (register : ℕ) → Bool
+meets5 g = not (eqb g 0)
 
 -- 6: "current_next 0"
 unfoldable pub meets6 : List ℕ → Bool
 meets6 s = eqb (currentOf s) 0
 
--- the table, in its order
-abbrev pub sectionTests : Rules → List ℕ → Tests
-sectionTests rules s = (2, meets2 s) ∷ (3, meets3 rules s) ∷ (4, meets4 rules s) ∷ (5, meets5 s) ∷ (6, meets6 s) ∷ []
+-- The table, in its order, whatever register is handed in: who has computed it need not do so again.
+abbrev pub testsBy : (register : ℕ) → Rules → List ℕ → Tests
+testsBy g rules s = (2, meets2 s) ∷ (3, meets3 rules s) ∷ (4, meets4 rules s) ∷ (5, meets5 g) ∷ (6, meets6 s) ∷ []
 
 -- "The lowest that applies is given"; 0 where none does
-unfoldable pub refusalOf : Rules → List ℕ → ℕ
-refusalOf rules s = firstMet (sectionTests rules s)
+unfoldable pub refusalBy : (register : ℕ) → Rules → List ℕ → ℕ
+refusalBy g rules s = firstMet (testsBy g rules s)
+
+-- and the section's own: by the register that it leaves
+abbrev pub sectionTests : Rules → List ℕ → Tests
+sectionTests rules s = testsBy (crcOf s) rules s
+
+abbrev pub refusalOf : Rules → List ℕ → ℕ
+refusalOf rules s = refusalBy (crcOf s) rules s
 
 -- WHERE IT BROKE. 02, §9: "Refusals 2 to 6 now carry a place: 2 the lent length; 3 zero; 4 one, or six where only the section numbers are wrong; 5 the first CRC byte; 6 five."
 -- A place is a byte, counted from the section's first. No other number has one.

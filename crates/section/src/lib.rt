@@ -6,9 +6,11 @@ mod register;
 
 ghost use mathlib.Core.Path.{_≡_};
 ghost use mathlib.Core.Bool.{not, cond};
+ghost use Prim.Native.Nat.{_≤_};
+ghost use lib.ListN.{length};
 ghost use Rattle.section.specs.Header.{isTable, limitOf, headerOf};
-ghost use Rattle.section.specs.Refusals.{refusalOf, misframed, spotOf};
-ghost use Rattle.section.specs.Answer.{numberOfChecked, checkedOf};
+ghost use Rattle.section.specs.Refusals.{refusalBy, refusalOf, misframed, spotOf};
+ghost use Rattle.section.specs.Answer.{numberOfChecked, checkedBy, checkedOf};
 pub use register::crc;
 
 pub const APPLICATION_TABLE: u8 = 0x74;
@@ -68,7 +70,14 @@ pub enum Checked {
 pub fn check(s: &[u8], rules: Rules) -> Checked
     ensures { λ r. ⌜ (r ≡ checkedOf rules (now (s .entry))) × (numberOfChecked r ≡ refusalOf rules (now (s .entry))) ⌝ }
 {
-    let number = refusal_number(s, rules);
+    check_by(s, rules, crc(s))
+}
+
+// The same for whoever has the register already: what `s` leaves, or any other number.
+pub fn check_by(s: &[u8], rules: Rules, register: u32) -> Checked
+    ensures { λ r. ⌜ (r ≡ checkedBy register rules (now (s .entry))) × (numberOfChecked r ≡ refusalBy register rules (now (s .entry))) ⌝ }
+{
+    let number = refusal_number(s, rules, register);
     if number != 0 {
         let place = spot_of(s, rules, number);
         return Checked::Refused(Refusal { number, place });
@@ -77,8 +86,8 @@ pub fn check(s: &[u8], rules: Rules) -> Checked
 }
 
 // The number that answers `s`, and 0 where it is accepted.
-fn refusal_number(s: &[u8], rules: Rules) -> u8
-    ensures { λ r. ⌜ r ≡ refusalOf rules (now (s .entry)) ⌝ }
+fn refusal_number(s: &[u8], rules: Rules, register: u32) -> u8
+    ensures { λ r. ⌜ r ≡ refusalBy register rules (now (s .entry)) ⌝ }
 {
     if s.len() < 3 {
         return 2;
@@ -96,7 +105,7 @@ fn refusal_number(s: &[u8], rules: Rules) -> u8
     if s[7] < s[6] {
         return 4;
     }
-    if register::crc(s) != 0 {
+    if register != 0 {
         return 5;
     }
     if s[5] & 1 == 0 {
@@ -124,7 +133,7 @@ fn is_framed(s: &[u8], rules: Rules) -> bool
 
 // Where a section broke that is refused with this number.
 fn spot_of(s: &[u8], rules: Rules, number: u8) -> Spot
-    requires { ⌜ number ≡ refusalOf rules (now s) ⌝ }
+    requires { ⌜ (number ≡ 5 → 4 ≤ length (now s)) ⌝ }
     ensures { λ r. ⌜ r ≡ spotOf rules (now (s .entry)) number ⌝ }
 {
     match number {

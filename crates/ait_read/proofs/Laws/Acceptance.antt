@@ -17,12 +17,12 @@ use Rattle.section.specs.declared.Checked.{Checked}
 use Rattle.section.specs.declared.Checked.the-variants.{Refused, Accepted}
 use Rattle.section.specs.Header.{headerOf, bodyOf}
 use Rattle.section.specs.Refusals.{GoodSection}
-use Rattle.section.specs.Answer.{refused, checkedOf, onChecked}
+use Rattle.section.specs.Answer.{refused, checkedBy, checkedOf, onChecked}
 use Rattle.section.proofs.Laws.Exact.{accepted-has}
 use Rattle.ait_body.specs.Body.{bodyRefusal}
 use Rattle.ait_read.specs.declared.Located.{Located}
 use Rattle.ait_read.specs.declared.Located.the-variants as located
-use Rattle.ait_read.specs.Acceptance.{tableJudged}
+use Rattle.ait_read.specs.Acceptance.{tableJudgedBy, tableJudged}
 use Rattle.ait_read.specs.Answers.{locatedOf, onLocated, spanPart}
 
 -- an accepted section has its header and its CRC, and no more than 1,024 bytes
@@ -31,23 +31,25 @@ sized s h e =
     let g = accepted-has Application s h e in
     (g .3, omega (arith, g .2 .exact, g .2 .most))
 
-module _ (s : List ℕ) where
-  pub judged-refused : (r : Refusal) → checkedOf Application s ≡ Refused r → Refused r ≡ tableJudged s
-  unfolding tableJudged
+-- whatever register g is handed in
+module _ (g : ℕ) (s : List ℕ) where
+  pub judged-refused : (r : Refusal) → checkedBy g Application s ≡ Refused r → Refused r ≡ tableJudgedBy g s
+  unfolding tableJudgedBy
   judged-refused r e = rw e
 
-  module _ (h : Header) (e : checkedOf Application s ≡ Accepted h) where
-    pub judged-bad : (bodyRefusal (bodyOf s) ≡ 0 → ⊥) → Refused (refused (bodyRefusal (bodyOf s))) ≡ tableJudged s
-    unfolding tableJudged
+  module _ (h : Header) (e : checkedBy g Application s ≡ Accepted h) where
+    pub judged-bad : (bodyRefusal (bodyOf s) ≡ 0 → ⊥) → Refused (refused (bodyRefusal (bodyOf s))) ≡ tableJudgedBy g s
+    unfolding tableJudgedBy
     judged-bad n = rw (e, ne-eqb (bodyRefusal (bodyOf s)) 0 n)
 
-    pub judged-good : bodyRefusal (bodyOf s) ≡ 0 → Accepted h ≡ tableJudged s
-    unfolding tableJudged
+    pub judged-good : bodyRefusal (bodyOf s) ≡ 0 → Accepted h ≡ tableJudgedBy g s
+    unfolding tableJudgedBy
     judged-good z = rw (e, eq-eqb (bodyRefusal (bodyOf s)) 0 z)
 
+module _ (s : List ℕ) where
   -- what an accepted section is
   pub judged-has : (h : Header) → tableJudged s ≡ Accepted h → (checkedOf Application s ≡ Accepted h) × (bodyRefusal (bodyOf s) ≡ 0)
-  unfolding tableJudged
+  unfolding tableJudgedBy
   judged-has h e = go (checkedOf Application s) refl e
     where
       body : (h₁ : Header) (t : Bool) → eqb (bodyRefusal (bodyOf s)) 0 ≡ t → cond t (Accepted h₁) (Refused (refused (bodyRefusal (bodyOf s)))) ≡ Accepted h

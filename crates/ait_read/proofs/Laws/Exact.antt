@@ -12,7 +12,8 @@ use Rattle.section.specs.declared.Rules.the-variants.{Application}
 use Rattle.section.specs.declared.Refusal.{Refusal}
 use Rattle.section.specs.declared.Checked.the-variants.{Refused, Accepted}
 use Rattle.section.specs.Header.{headerOf, bodyOf}
-use Rattle.section.specs.Refusals.{sectionTests, refusalOf}
+use Rattle.section.specs.Crc.{crcOf}
+use Rattle.section.specs.Refusals.{sectionTests, refusalBy, refusalOf}
 use Rattle.section.specs.Answer.{numberOfChecked}
 use Rattle.section.proofs.Laws.Exact as section
 use Rattle.ait_body.specs.Body.{bodyTests, bodyRefusal}
@@ -34,7 +35,7 @@ module _ (s : List ℕ) where
   rising = (lit< tt, (lit< tt, (lit< tt, (lit< tt, (lit< tt, (lit< tt, (lit< tt, tt)))))))
 
   joined : firstMet (applicationTests s) ≡ cond (eqb (refusalOf Application s) 0) (bodyRefusal (bodyOf s)) (refusalOf Application s)
-  unfolding refusalOf bodyRefusal
+  unfolding refusalBy bodyRefusal
   joined = met-append 0 (sectionTests Application s) (bodyTests (bodyOf s)) (section.rising Application s)
 
   -- the number of the answer is the lowest of 2 to 7 and 18 that applies
@@ -44,19 +45,19 @@ module _ (s : List ℕ) where
       inner : refusalOf Application s ≡ 0 → (t : Bool) → eqb (bodyRefusal (bodyOf s)) 0 ≡ t → numberOfChecked (tableJudged s) ≡ bodyRefusal (bodyOf s)
       inner z true e =
           let b = eqb-true (bodyRefusal (bodyOf s)) 0 e in
-          ap numberOfChecked (sym (judged-good s (headerOf s) (section.accepted-with Application s z) b)) ∙ sym b
-      inner z false e = ap numberOfChecked (sym (judged-bad s (headerOf s) (section.accepted-with Application s z) (eqb-false (bodyRefusal (bodyOf s)) 0 e)))
+          ap numberOfChecked (sym (judged-good (crcOf s) s (headerOf s) (section.accepted-with Application s z) b)) ∙ sym b
+      inner z false e = ap numberOfChecked (sym (judged-bad (crcOf s) s (headerOf s) (section.accepted-with Application s z) (eqb-false (bodyRefusal (bodyOf s)) 0 e)))
 
       go : (t : Bool) → eqb (refusalOf Application s) 0 ≡ t → numberOfChecked (tableJudged s) ≡ cond t (bodyRefusal (bodyOf s)) (refusalOf Application s)
       go true e = inner (eqb-true _ _ e) (eqb (bodyRefusal (bodyOf s)) 0) refl
-      go false e = ap numberOfChecked (sym (judged-refused s _ (section.refused-with Application s (eqb-false _ _ e))))
+      go false e = ap numberOfChecked (sym (judged-refused (crcOf s) s _ (section.refused-with Application s (eqb-false _ _ e))))
 
   -- where none applies, the section is accepted
   pub none-applies : firstMet (applicationTests s) ≡ 0 → tableJudged s ≡ Accepted (headerOf s)
   none-applies z = go (eqb (refusalOf Application s) 0) refl (sym joined ∙ z)
     where
       go : (t : Bool) → eqb (refusalOf Application s) 0 ≡ t → cond t (bodyRefusal (bodyOf s)) (refusalOf Application s) ≡ 0 → tableJudged s ≡ Accepted (headerOf s)
-      go true e b = sym (judged-good s (headerOf s) (section.accepted-with Application s (eqb-true _ _ e)) b)
+      go true e b = sym (judged-good (crcOf s) s (headerOf s) (section.accepted-with Application s (eqb-true _ _ e)) b)
       go false e b = absurd (eqb-false _ _ e b)
 
   -- THE NUMBER IS n EXACTLY WHEN TEST n HOLDS AND NO LOWER ONE DOES
@@ -75,7 +76,7 @@ module _ (s : List ℕ) where
           record { section = section.accepted-exactly Application s .0 (g .0); body = b .0; sole = b .1 }
 
       back : FormedTable s → tableJudged s ≡ Accepted (headerOf s)
-      back g = sym (judged-good s (headerOf s) (section.accepted-exactly Application s .1 (g .section)) (body.accepted-exactly (bodyOf s) .1 (g .body, g .sole)))
+      back g = sym (judged-good (crcOf s) s (headerOf s) (section.accepted-exactly Application s .1 (g .section)) (body.accepted-exactly (bodyOf s) .1 (g .body, g .sole)))
 
   pub read-exactly : FormedTable s → readAnswer s ≡ read.Accepted (readTable (headerOf s) s)
   unfolding readAnswer

@@ -26,7 +26,7 @@ use Rattle.ait_read.specs.declared.DescriptorAnswer.the-variants as desc
 use Rattle.ait_read.specs.declared.ItemAnswer.the-variants as item
 use Rattle.ait_read.specs.declared.ExtensionAnswer.the-variants as extension
 use Rattle.ait_read.specs.declared.Resolved.the-variants as resolved
-use Rattle.ait_read.specs.Acceptance.{tableJudged}
+use Rattle.ait_read.specs.Acceptance.{tableJudgedBy, tableJudged}
 use Rattle.ait_read.specs.Answers.{locatedOf, onLocated, readTable, readAnswer, applicationAnswer, descriptorAnswer, itemAnswer, extensionAnswer, resolveAnswer}
 use Rattle.ait_read.specs.Places.{applicationAt, descriptorAt, repeatedAt, extensionAt}
 use Rattle.ait_read.specs.Labels.{labelAt}
@@ -40,7 +40,7 @@ module _ (s : List ℕ) (r : Refusal) where
   body-above n = let w = met-within 7 18 (bodyTests (bodyOf s)) (lit≤ tt, lit≤ tt, (lit≤ tt, lit≤ tt, tt)) n in omega (arith, w .0)
 
   judged-told : tableJudged s ≡ Refused r → Told Application s r
-  unfolding tableJudged
+  unfolding tableJudgedBy
   judged-told e = go (checkedOf Application s) refl e
     where
       body : (h : Header) (t : Bool) → eqb (bodyRefusal (bodyOf s)) 0 ≡ t → cond t (Accepted h) (Refused (refused (bodyRefusal (bodyOf s)))) ≡ Refused r → Told Application s r

@@ -16,7 +16,7 @@ use Rattle.section.specs.declared.Header.{Header}
 use Rattle.section.specs.declared.Refusal.{Refusal}
 use Rattle.section.specs.declared.Rules.the-variants.{Carousel}
 use Rattle.section.specs.declared.Checked.the-variants as checked
-use Rattle.section.specs.Answer.{refused, checkedOf}
+use Rattle.section.specs.Answer.{refused, checkedBy}
 use Rattle.carousel_messages.specs.declared.CarouselTable.{CarouselTable}
 use Rattle.carousel_messages.specs.declared.CarouselTable.the-variants.{Announcements, Blocks}
 use Rattle.carousel_messages.specs.declared.Listed.{Listed}
@@ -27,7 +27,7 @@ use Rattle.carousel_messages.specs.Contents.{blockModuleOf, blockVersion
 use Rattle.carousel_messages.specs.Limits.{largestBlock, mostModules, mostBytes, someBad, total, beyond10, twice11}
 use Rattle.carousel_messages.specs.Refusals.{short7, meets8, messageFramed, payloadFramed, messageMeets7, meets9, meets10, meets11, payloadRefusal, messageRefusal}
 use Rattle.carousel_messages.specs.Heard.{listedOf, sizesOf, numbersOf}
-use Rattle.carousel_messages.specs.Judged.{carouselTableOf, announcementOf, blockOf, readOf, messageJudged, judgedOf}
+use Rattle.carousel_messages.specs.Judged.{carouselTableOf, announcementOf, blockOf, readOf, messageJudged, judgedOf, judgedBy}
 
 -- the payload of a body too short to have one
 pub no-payload : (b : List ℕ) → length b < 12 + adaptationOf b → [] ≡ payloadOf b
@@ -227,11 +227,12 @@ module _ (t : CarouselTable) (b : List ℕ) where
   unfolding readOf
   read-carried e = rw e
 
-module _ (s : List ℕ) where
-  pub judged-refused : (r : Refusal) → checkedOf Carousel s ≡ checked.Refused r → judged.Refused r ≡ judgedOf s
-  unfolding judgedOf
+-- whatever register g is handed in
+module _ (g : ℕ) (s : List ℕ) where
+  pub judged-refused : (r : Refusal) → checkedBy g Carousel s ≡ checked.Refused r → judged.Refused r ≡ judgedBy g s
+  unfolding judgedBy
   judged-refused r e = rw e
 
-  pub judged-message : (h : Header) → checkedOf Carousel s ≡ checked.Accepted h → messageJudged (carouselTableOf (h .table)) h (bodyOf s) ≡ judgedOf s
-  unfolding judgedOf
+  pub judged-message : (h : Header) → checkedBy g Carousel s ≡ checked.Accepted h → messageJudged (carouselTableOf (h .table)) h (bodyOf s) ≡ judgedBy g s
+  unfolding judgedBy
   judged-message h e = rw e

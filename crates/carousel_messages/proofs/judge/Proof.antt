@@ -1,80 +1,22 @@
--- `carousel_messages::judge` meets its contract.
-use mathlib.Core.Path.{_≡_, sym, ap, _∙_}
-use native.Mathlib.Omega.{arith}
-use Prim.Native.Nat.{ℕ, _≤_}
-use lib.ListN.{length}
-use Rattle.section.specs.declared.Rules.the-variants.{Carousel}
-use Rattle.section.specs.declared.Checked.the-variants.{Accepted}
-use Rattle.section.specs.Answer.{checkedOf}
-use Rattle.section.proofs.Laws.Exact.{accepted-has, body-part}
-use mathlib.Core.List.{List}
-use Rattle.wire.specs.Tests.{firstMet}
-use Rattle.carousel_messages.specs.declared.Judged.{Judged}
-use Rattle.carousel_messages.specs.Judged.{messageJudged, judgedOf, numberOfJudged, carouselTests}
+-- `carousel_messages::judge` meets its contract: the register that is handed on is the section's own.
+use mathlib.Core.Path.{ap, _∙_}
+use Rattle.carousel_messages.specs.Judged.{judgedBy, numberOfJudged}
 use Rattle.carousel_messages.proofs.Exact.{all-tests}
-use Rattle.carousel_messages.proofs.Laws.Refusals.{judged-refused, judged-message}
 use borrow.Author.Needs.{needs}
 use Rattle.carousel_messages.proofs.judge.Statement.{statement}
 use Rattle.carousel_messages.proofs.judge.Tie as tie
 
--- the places that stand before a place, by name
-abbrev start-of-at-match-keys2 : tie.At-match-keys2 → tie.Start
-start-of-at-match-keys2 c = c .before .before .before
+crc-requires : tie.Need-crc-requires
+crc-requires c κs = search needs
 
-check-requires : tie.Need-check-requires
-check-requires c κs = search needs
-
-enum-known-checked : tie.Need-enum-known-checked
-enum-known-checked c = search needs
-
-enum-known-checked-2 : tie.Need-enum-known-checked-2
-enum-known-checked-2 c = search needs
-
--- what the check answered
-told : (c : tie.After-known-told2) → checkedOf Carousel (start-of-at-match-keys2 (c .before .before) .args .s .now) ≡ Accepted (c .before .checked2 .given .0 .0)
-told c = sym (c .before .before .before .check .ensures .0) ∙ c .before .checked2 .given .1
-
-long : (c : tie.After-known-told2) → 12 ≤ length (start-of-at-match-keys2 (c .before .before) .args .s .now)
-long c = accepted-has Carousel _ _ (told c) .3
-
-sub-e : tie.Need-sub-e
-sub-e c = omega (arith, long c)
-
-sub-judge-message : tie.Need-sub-judge-message
-sub-judge-message c = omega (arith, long c)
-
-part-judge-message-start : tie.Need-part-judge-message-start
-part-judge-message-start c = omega (arith, long c)
-
-part-judge-message-end : tie.Need-part-judge-message-end
-part-judge-message-end c = omega (arith, long c)
-
-judge-message-requires : tie.Need-judge-message-requires
-judge-message-requires c κs = search needs
-
--- an answer, with its number
-numbered : (s : List ℕ) (r : Judged) → r ≡ judgedOf s → (r ≡ judgedOf s) × (numberOfJudged r ≡ firstMet (carouselTests s))
-numbered s r e = (e, ap numberOfJudged e ∙ all-tests s)
+judge-by-requires : tie.Need-judge-by-requires
+judge-by-requires c κs = search needs
 
 returns : tie.Need-returns
-returns c = numbered _ _ (judged-refused _ _ (sym (c .before .before .before .check .ensures .0) ∙ c .before .checked .given .1))
-
-returns-2 : tie.Need-returns-2
-returns-2 c =
-    let s = start-of-at-match-keys2 (c .before .before .before .before) .args .s .now in
-    numbered s _ (c .judge-message .ensures ∙ ap (messageJudged _ _) (body-part s) ∙ judged-message s _ (told (c .before .before)))
+returns c =
+    let s = c .before .before .before .args .s .now in
+    let e = c .judge-by .ensures ∙ ap (λ g. judgedBy g s) (c .before .crc .ensures) in
+    (e, ap numberOfJudged e ∙ all-tests s)
 
 pub judge-spec : {M : Type 1} → statement M
-judge-spec =
-    tie.close
-    (tie.spec
-    check-requires
-    enum-known-checked
-    enum-known-checked-2
-    sub-e
-    sub-judge-message
-    part-judge-message-start
-    part-judge-message-end
-    judge-message-requires
-    returns
-    returns-2)
+judge-spec = tie.close (tie.spec crc-requires judge-by-requires returns)

@@ -11,9 +11,10 @@ use borrow.Author.Tests.{ltb-false, eqb-true, eqb-false, eq-eqb, ne-eqb, not-fal
 use Rattle.wire.specs.Tests.{holds, RisingFrom}
 use Rattle.wire.proofs.Laws.Tests.{neither, lowest-met, none-met, met-within}
 use Rattle.wire.proofs.Laws.Fields.{bits-lt}
+use Rattle.section.specs.Crc.{crcOf}
 use Rattle.section.specs.Header.{syntaxOf, currentOf, sectionOf, lastOf, headerOf, bodyOf}
-use Rattle.section.specs.Refusals.{meets2, meets3, misframed, meets4, meets5, meets6, sectionTests, refusalOf, spotOf, GoodSection}
-use Rattle.section.specs.Answer.{numberOfChecked, refusedBy, checkedOf}
+use Rattle.section.specs.Refusals.{meets2, meets3, misframed, meets4, meets5, meets6, testsBy, refusalBy, sectionTests, refusalOf, spotOf, GoodSection}
+use Rattle.section.specs.Answer.{numberOfChecked, refusedBy, checkedBy, checkedOf}
 use Rattle.section.specs.declared.Rules.{Rules}
 use Rattle.section.specs.declared.Spot.{Spot}
 use Rattle.section.specs.declared.Refusal.{Refusal}
@@ -21,34 +22,68 @@ use Rattle.section.specs.declared.Header.{Header}
 use Rattle.section.specs.declared.Checked.the-variants.{Refused, Accepted}
 use Rattle.section.proofs.Laws.Refusals.{past2, sized-has, past3, frame-right, framed-has, past4, past5, past6, is0}
 
-module _ (rules : Rules) (s : List ℕ) where
-  pub rising : RisingFrom 0 (sectionTests rules s)
-  rising = (lit< tt, (lit< tt, (lit< tt, (lit< tt, (lit< tt, tt)))))
+-- Whatever register g is handed in.
+module _ (g : ℕ) (rules : Rules) (s : List ℕ) where
+  pub rising-by : RisingFrom 0 (testsBy g rules s)
+  rising-by = (lit< tt, (lit< tt, (lit< tt, (lit< tt, (lit< tt, tt)))))
 
   -- test n of the table is the test of that number
-  pub the-tests : (holds 2 (sectionTests rules s) ≡ meets2 s) × (holds 3 (sectionTests rules s) ≡ meets3 rules s)
-      × (holds 4 (sectionTests rules s) ≡ meets4 rules s) × (holds 5 (sectionTests rules s) ≡ meets5 s) × (holds 6 (sectionTests rules s) ≡ meets6 s)
+  pub tests-by : (holds 2 (testsBy g rules s) ≡ meets2 s) × (holds 3 (testsBy g rules s) ≡ meets3 rules s)
+      × (holds 4 (testsBy g rules s) ≡ meets4 rules s) × (holds 5 (testsBy g rules s) ≡ meets5 g) × (holds 6 (testsBy g rules s) ≡ meets6 s)
   unfolding holds
-  the-tests = (or-false (meets2 s), or-false (meets3 rules s), or-false (meets4 rules s), or-false (meets5 s), or-false (meets6 s))
+  tests-by = (or-false (meets2 s), or-false (meets3 rules s), or-false (meets4 rules s), or-false (meets5 g), or-false (meets6 s))
 
   -- the answer's number, and its value where that is 0
-  pub number-is : numberOfChecked (checkedOf rules s) ≡ refusalOf rules s
-  unfolding checkedOf
-  number-is = go (eqb (refusalOf rules s) 0) refl
+  pub number-by : numberOfChecked (checkedBy g rules s) ≡ refusalBy g rules s
+  unfolding checkedBy
+  number-by = go (eqb (refusalBy g rules s) 0) refl
     where
-      go : (b : Bool) → eqb (refusalOf rules s) 0 ≡ b → numberOfChecked (cond b (Accepted (headerOf s)) (Refused (refusedBy rules s (refusalOf rules s)))) ≡ refusalOf rules s
+      go : (b : Bool) → eqb (refusalBy g rules s) 0 ≡ b → numberOfChecked (cond b (Accepted (headerOf s)) (Refused (refusedBy rules s (refusalBy g rules s)))) ≡ refusalBy g rules s
       go true e = sym (eqb-true _ _ e)
       go false e = refl
+
+  -- what the code answers from the number
+  pub refused-by : (refusalBy g rules s ≡ 0 → ⊥) → checkedBy g rules s ≡ Refused (refusedBy rules s (refusalBy g rules s))
+  unfolding checkedBy
+  refused-by n = rw (ne-eqb _ _ n)
+
+  pub refused-as : (n : ℕ) (p : Spot) → n ≡ refusalBy g rules s → p ≡ spotOf rules s n → (n ≡ 0 → ⊥) → Refused (record { number = n; place = p }) ≡ checkedBy g rules s
+  refused-as n p e f z = rw (f, e) (sym (refused-by (λ y. z (e ∙ y))))
+
+  pub accepted-by : refusalBy g rules s ≡ 0 → checkedBy g rules s ≡ Accepted (headerOf s)
+  unfolding checkedBy
+  accepted-by e = rw (eq-eqb _ _ e)
+
+  -- an accepted section has its header and its CRC: 12 bytes at least
+  pub accepted-long : (h : Header) → checkedBy g rules s ≡ Accepted h → 12 ≤ length s
+  unfolding refusalBy meets4
+  accepted-long h e =
+      let z : refusalBy g rules s ≡ 0 = sym number-by ∙ ap numberOfChecked e in
+      let f = none-met (testsBy g rules s) rising-by .0 z in
+      let l = sized-has s (sym (tests-by .0) ∙ f 2) in
+      let m = neither (misframed rules s) (ltb (lastOf s) (sectionOf s)) (sym (tests-by .2) ∙ f 4) in
+      omega (arith, l .1, framed-has rules s (m .0) .0)
+
+module _ (rules : Rules) (s : List ℕ) where
+  pub rising : RisingFrom 0 (sectionTests rules s)
+  rising = rising-by (crcOf s) rules s
+
+  pub the-tests : (holds 2 (sectionTests rules s) ≡ meets2 s) × (holds 3 (sectionTests rules s) ≡ meets3 rules s)
+      × (holds 4 (sectionTests rules s) ≡ meets4 rules s) × (holds 5 (sectionTests rules s) ≡ meets5 (crcOf s)) × (holds 6 (sectionTests rules s) ≡ meets6 s)
+  the-tests = tests-by (crcOf s) rules s
+
+  pub number-is : numberOfChecked (checkedOf rules s) ≡ refusalOf rules s
+  number-is = number-by (crcOf s) rules s
 
   -- THE NUMBER IS n EXACTLY WHEN TEST n HOLDS AND NO LOWER ONE DOES
   pub refused-exactly : (n : ℕ) → 0 < n
       → (numberOfChecked (checkedOf rules s) ≡ n) ↔ ((holds n (sectionTests rules s) ≡ true) × ((m : ℕ) → m < n → holds m (sectionTests rules s) ≡ false))
-  unfolding refusalOf
+  unfolding refusalBy
   refused-exactly n p = rw number-is (lowest-met (sectionTests rules s) rising n p)
 
   -- ACCEPTED EXACTLY WHEN NONE HOLDS, which is to say: when every clause of the paper is kept
-  passed : refusalOf rules s ≡ 0 → (meets2 s ≡ false) × (meets3 rules s ≡ false) × (meets4 rules s ≡ false) × (meets5 s ≡ false) × (meets6 s ≡ false)
-  unfolding refusalOf
+  passed : refusalOf rules s ≡ 0 → (meets2 s ≡ false) × (meets3 rules s ≡ false) × (meets4 rules s ≡ false) × (meets5 (crcOf s) ≡ false) × (meets6 s ≡ false)
+  unfolding refusalBy
   passed e =
       let f = none-met (sectionTests rules s) rising .0 e in
       let t = the-tests in
@@ -80,21 +115,16 @@ module _ (rules : Rules) (s : List ℕ) where
           }
 
       back : GoodSection rules s → refusalOf rules s ≡ 0
-      back g = sym (is0 rules s (past2 s (g .headed) (g .exact)) (past3 rules s (g .table))
-          (past4 rules s (frame-right rules s (g .least) (g .most) (λ e. omega (arith, g .syntax))) (g .numbers)) (past5 s (g .crc))
+      back g = sym (is0 (crcOf s) rules s (past2 s (g .headed) (g .exact)) (past3 rules s (g .table))
+          (past4 rules s (frame-right rules s (g .least) (g .most) (λ e. omega (arith, g .syntax))) (g .numbers)) (past5 (crcOf s) (g .crc))
           (past6 s (λ e. omega (arith, g .current))))
 
-  -- what the code answers from the number, and what a caller reads off the answer
+  -- what a caller reads off the answer
   pub refused-with : (refusalOf rules s ≡ 0 → ⊥) → checkedOf rules s ≡ Refused (refusedBy rules s (refusalOf rules s))
-  unfolding checkedOf
-  refused-with n = rw (ne-eqb _ _ n)
-
-  pub refused-as : (n : ℕ) (p : Spot) → n ≡ refusalOf rules s → p ≡ spotOf rules s n → (n ≡ 0 → ⊥) → Refused (record { number = n; place = p }) ≡ checkedOf rules s
-  refused-as n p e f z = rw (f, e) (sym (refused-with (λ y. z (e ∙ y))))
+  refused-with = refused-by (crcOf s) rules s
 
   pub accepted-with : refusalOf rules s ≡ 0 → checkedOf rules s ≡ Accepted (headerOf s)
-  unfolding checkedOf
-  accepted-with e = rw (eq-eqb _ _ e)
+  accepted-with = accepted-by (crcOf s) rules s
 
   -- an accepted section is a good one, its header is the section's, and it has its header and its CRC: 12 bytes at least
   pub accepted-has : (h : Header) → checkedOf rules s ≡ Accepted h → (h ≡ headerOf s) × (refusalOf rules s ≡ 0) × GoodSection rules s × (12 ≤ length s)
@@ -106,7 +136,7 @@ module _ (rules : Rules) (s : List ℕ) where
 
   -- a refusal is the table's, one of 2 to 6
   pub refused-has : (r : Refusal) → checkedOf rules s ≡ Refused r → (r ≡ refusedBy rules s (refusalOf rules s)) × (2 ≤ refusalOf rules s) × (refusalOf rules s ≤ 6)
-  unfolding refusalOf
+  unfolding refusalBy
   refused-has r e =
       let n : refusalOf rules s ≡ 0 → ⊥ = λ z. (let a = accepted-with z in let f : _≡_ {A = ℕ} 0 1 = cc in omega arith) in
       let a = refused-with n in

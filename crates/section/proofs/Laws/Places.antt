@@ -13,8 +13,9 @@ use Rattle.wire.specs.Fields.{sixteenAt}
 use Rattle.wire.specs.Tests.{holds}
 use Rattle.wire.proofs.Laws.Tests.{neither, clash, lowest-met}
 use Rattle.wire.proofs.Laws.Fields.{bits-lt}
+use Rattle.section.specs.Crc.{crcOf}
 use Rattle.section.specs.Header.{syntaxOf, lengthOf, limitOf, bodyOf}
-use Rattle.section.specs.Refusals.{misframed, meets4, sectionTests, refusalOf, spotOf, Placed}
+use Rattle.section.specs.Refusals.{misframed, meets4, testsBy, refusalBy, refusalOf, spotOf, Placed}
 use Rattle.section.specs.Answer.{refused, Told, checkedOf}
 use Rattle.section.specs.declared.Rules.{Rules}
 use Rattle.section.specs.declared.Spot.{Spot}
@@ -22,7 +23,7 @@ use Rattle.section.specs.declared.Spot.the-variants.{Nowhere, Byte}
 use Rattle.section.specs.declared.Refusal.{Refusal}
 use Rattle.section.specs.declared.Checked.the-variants.{Refused}
 use Rattle.section.proofs.Laws.Refusals.{frame-short, frame-long, sized-has, frame-syntax, frame-right, framed-has}
-use Rattle.section.proofs.Laws.Exact.{rising, the-tests, refused-has}
+use Rattle.section.proofs.Laws.Exact.{rising-by, tests-by, refused-has}
 
 abbrev pub byteIn : Spot → ℕ
 byteIn (Byte p) = p
@@ -142,19 +143,26 @@ module _ (rules : Rules) (s : List ℕ) where
   placed-exactly n p = (λ e. rw e (placed n), placed-only n p)
 
   -- no test below the number holds; so from 3 on the section is as long as it says, and from 5 on it has its header and its CRC
-  lower : (m : ℕ) → m < refusalOf rules s → holds m (sectionTests rules s) ≡ false
-  unfolding refusalOf
-  lower m h = lowest-met (sectionTests rules s) (rising rules s) (refusalOf rules s) (omega arith) .0 refl .1 m h
+  module _ (g : ℕ) where
+    lower-by : (m : ℕ) → m < refusalBy g rules s → holds m (testsBy g rules s) ≡ false
+    unfolding refusalBy
+    lower-by m h = lowest-met (testsBy g rules s) (rising-by g rules s) (refusalBy g rules s) (omega arith) .0 refl .1 m h
+
+    pub whole-by3 : 2 < refusalBy g rules s → (3 ≤ length s) × (length s ≡ 3 + lengthOf s)
+    whole-by3 h = sized-has s (sym (tests-by g rules s .0) ∙ lower-by 2 h)
+
+    pub whole-by5 : 4 < refusalBy g rules s → 12 ≤ length s
+    unfolding meets4
+    whole-by5 h =
+        let w = whole-by3 (omega arith) in
+        let f = framed-has rules s (neither (misframed rules s) _ (sym (tests-by g rules s .2) ∙ lower-by 4 h) .0) in
+        omega (arith, w .1, f .0)
 
   pub whole3 : 2 < refusalOf rules s → (3 ≤ length s) × (length s ≡ 3 + lengthOf s)
-  whole3 h = sized-has s (sym (the-tests rules s .0) ∙ lower 2 h)
+  whole3 = whole-by3 (crcOf s)
 
   pub whole5 : 4 < refusalOf rules s → 12 ≤ length s
-  unfolding meets4
-  whole5 h =
-      let w = whole3 (omega arith) in
-      let f = framed-has rules s (neither (misframed rules s) _ (sym (the-tests rules s .2) ∙ lower 4 h) .0) in
-      omega (arith, w .1, f .0)
+  whole5 = whole-by5 (crcOf s)
 
   four-within : 3 < refusalOf rules s → cond (misframed rules s) 1 6 < length s
   four-within h = go (misframed rules s) refl (whole3 (omega arith))

@@ -8,10 +8,17 @@ use lib.Dec.{ltb, eqb}
 use borrow.Author.Tests.{lt-ltb, le-ltb, ltb-false, eq-eqb, ne-eqb, eqb-true, eqb-false, not-false}
 use Rattle.wire.specs.Tests.{firstMet}
 use Rattle.wire.proofs.Laws.Tests.{neither}
-use Rattle.section.specs.Crc.{crcOf}
 use Rattle.section.specs.Header.{tableOf, syntaxOf, lengthOf, currentOf, sectionOf, lastOf, isTable, limitOf}
-use Rattle.section.specs.Refusals.{meets2, meets3, misframed, meets4, meets5, meets6, refusalOf}
+use Rattle.section.specs.Refusals.{meets2, meets3, misframed, meets4, meets5, meets6, refusalBy}
 use Rattle.section.specs.declared.Rules.{Rules}
+
+pub bad5 : (g : ℕ) → (g ≡ 0 → ⊥) → meets5 g ≡ true
+unfolding meets5
+bad5 g n = simp (ne-eqb _ _ n)
+
+pub past5 : (g : ℕ) → g ≡ 0 → meets5 g ≡ false
+unfolding meets5
+past5 g e = simp (eq-eqb _ _ e)
 
 module _ (s : List ℕ) where
   pub short2 : length s < 3 → meets2 s ≡ true
@@ -31,14 +38,6 @@ module _ (s : List ℕ) where
   sized-has e =
       let n = neither (ltb (length s) 3) (not (eqb (length s) (3 + lengthOf s))) e in
       (ltb-false _ _ (n .0), eqb-true _ _ (not-false _ (n .1)))
-
-  pub bad5 : (crcOf s ≡ 0 → ⊥) → meets5 s ≡ true
-  unfolding meets5
-  bad5 n = simp (ne-eqb _ _ n)
-
-  pub past5 : crcOf s ≡ 0 → meets5 s ≡ false
-  unfolding meets5
-  past5 e = simp (eq-eqb _ _ e)
 
   pub next6 : currentOf s ≡ 0 → meets6 s ≡ true
   unfolding meets6
@@ -89,30 +88,32 @@ module _ (rules : Rules) (s : List ℕ) where
     unfolding meets4
     past4 o = rw (h, le-ltb _ _ o)
 
-  pub is2 : meets2 s ≡ true → 2 ≡ refusalOf rules s
-  unfolding refusalOf firstMet
+-- the answer, whatever register g is handed in
+module _ (g : ℕ) (rules : Rules) (s : List ℕ) where
+  pub is2 : meets2 s ≡ true → 2 ≡ refusalBy g rules s
+  unfolding refusalBy firstMet
   is2 h2 = simp h2
 
   module _ (h2 : meets2 s ≡ false) where
-    pub is3 : meets3 rules s ≡ true → 3 ≡ refusalOf rules s
-    unfolding refusalOf firstMet
+    pub is3 : meets3 rules s ≡ true → 3 ≡ refusalBy g rules s
+    unfolding refusalBy firstMet
     is3 h3 = simp (h2, h3)
 
     module _ (h3 : meets3 rules s ≡ false) where
-      pub is4 : meets4 rules s ≡ true → 4 ≡ refusalOf rules s
-      unfolding refusalOf firstMet
+      pub is4 : meets4 rules s ≡ true → 4 ≡ refusalBy g rules s
+      unfolding refusalBy firstMet
       is4 h4 = simp (h2, h3, h4)
 
       module _ (h4 : meets4 rules s ≡ false) where
-        pub is5 : meets5 s ≡ true → 5 ≡ refusalOf rules s
-        unfolding refusalOf firstMet
+        pub is5 : meets5 g ≡ true → 5 ≡ refusalBy g rules s
+        unfolding refusalBy firstMet
         is5 h5 = simp (h2, h3, h4, h5)
 
-        module _ (h5 : meets5 s ≡ false) where
-          pub is6 : meets6 s ≡ true → 6 ≡ refusalOf rules s
-          unfolding refusalOf firstMet
+        module _ (h5 : meets5 g ≡ false) where
+          pub is6 : meets6 s ≡ true → 6 ≡ refusalBy g rules s
+          unfolding refusalBy firstMet
           is6 h6 = simp (h2, h3, h4, h5, h6)
 
-          pub is0 : meets6 s ≡ false → 0 ≡ refusalOf rules s
-          unfolding refusalOf firstMet
+          pub is0 : meets6 s ≡ false → 0 ≡ refusalBy g rules s
+          unfolding refusalBy firstMet
           is0 h6 = simp (h2, h3, h4, h5, h6)

@@ -15,7 +15,6 @@ use Rattle.section.proofs.refusal_number.Reads as reads
 use Rattle.section.proofs.refusal_number.Lts as lts
 use Rattle.section.proofs.has_table.Reads as has-table-reads
 use Rattle.section.proofs.is_framed.Reads as is-framed-reads
-use Rattle.section.proofs.register.crc.Reads as crc-reads
 use Rattle.wire.proofs.twelve_at.Reads as twelve-at-reads
 
 -- the places that stand before a place, by name
@@ -32,7 +31,7 @@ abbrev start-of-else5 : tie.Else5 → tie.Start
 start-of-else5 c = start-of-else4 (c .before .before .before)
 
 abbrev else4-of-else6 : tie.Else6 → tie.Else4
-else4-of-else6 c = let b = c .before .before in b .before .before .before
+else4-of-else6 c = c .before .before .before .before
 
 -- What the tests passed so far say, at the place after each.
 at2 : (c : tie.Else2) → meets2 (c .before .before .before .before .args .s .now) ≡ false
@@ -52,7 +51,7 @@ whole : (c : tie.Else4) → 12 ≤ length (start-of-else4 c .args .s .now)
 whole c = let a = start-of-else4 c .args in let f = framed-has (a .rules) (a .s .now) (atF c) in omega (arith, f .0)
 
 returns : tie.Need-returns
-returns c = is2 _ _ (short2 _ (c .if1 .taken))
+returns c = is2 _ _ _ (short2 _ (c .if1 .taken))
 
 twelve-at-requires : tie.Need-twelve-at-requires
 twelve-at-requires c κs = search needs
@@ -61,7 +60,7 @@ add-if2 : tie.Need-add-if2
 add-if2 c = search needs
 
 returns-2 : tie.Need-returns-2
-returns-2 c = is2 _ _ (uneven2 _ (omega arith) (λ e. omega (arith, c .if2 .taken)))
+returns-2 c = is2 _ _ _ (uneven2 _ (omega arith) (λ e. omega (arith, c .if2 .taken)))
 
 shared-slice-read-has-table : tie.Need-shared-slice-read-has-table
 shared-slice-read-has-table c = search needs
@@ -70,13 +69,13 @@ has-table-requires : tie.Need-has-table-requires
 has-table-requires c κs = search needs
 
 returns-3 : tie.Need-returns-3
-returns-3 c = is3 _ _ (search at2) (other3 _ _ (sym (c .before .has-table .ensures) ∙ not-true _ (c .if3 .taken)))
+returns-3 c = is3 _ _ _ (search at2) (other3 _ _ (sym (c .before .has-table .ensures) ∙ not-true _ (c .if3 .taken)))
 
 is-framed-requires : tie.Need-is-framed-requires
 is-framed-requires c κs = search needs
 
 returns-4 : tie.Need-returns-4
-returns-4 c = is4 _ _ (search at2) (search at3) (frame4 _ _ (sym (c .before .is-framed .ensures) ∙ c .if4 .taken))
+returns-4 c = is4 _ _ _ (search at2) (search at3) (frame4 _ _ (sym (c .before .is-framed .ensures) ∙ c .if4 .taken))
 
 shared-slice-read-if5 : tie.Need-shared-slice-read-if5
 shared-slice-read-if5 c = omega (arith, whole (c .before))
@@ -85,22 +84,19 @@ shared-slice-read-if5-2 : tie.Need-shared-slice-read-if5-2
 shared-slice-read-if5-2 c = omega (arith, whole (c .before .before))
 
 returns-5 : tie.Need-returns-5
-returns-5 c = is4 _ _ (search at2) (search at3) (above4 _ _ (search atF) (omega arith))
-
-crc-requires : tie.Need-crc-requires
-crc-requires c κs = search needs
+returns-5 c = is4 _ _ _ (search at2) (search at3) (above4 _ _ (search atF) (omega arith))
 
 returns-6 : tie.Need-returns-6
-returns-6 c = is5 _ _ (search at2) (search at3) (search at4) (bad5 _ (λ e. omega (arith, c .if6 .taken)))
+returns-6 c = is5 _ _ _ (search at2) (search at3) (search at4) (bad5 _ (λ e. omega (arith, c .if6 .taken)))
 
 shared-slice-read-if7 : tie.Need-shared-slice-read-if7
 shared-slice-read-if7 c = omega (arith, whole (else4-of-else6 (c .before)))
 
 returns-7 : tie.Need-returns-7
-returns-7 c = is6 _ _ (search at2) (search at3) (search at4) (past5 _ (omega arith)) (next6 _ (sym (masked-low 1 _) ∙ c .if7 .taken))
+returns-7 c = is6 _ _ _ (search at2) (search at3) (search at4) (past5 _ (omega arith)) (next6 _ (sym (masked-low 1 _) ∙ c .if7 .taken))
 
 returns-8 : tie.Need-returns-8
-returns-8 c = is0 _ _ (search at2) (search at3) (search at4) (past5 _ (omega arith)) (past6 _ (λ e. c .if7 .left (masked-low 1 _ ∙ e)))
+returns-8 c = is0 _ _ _ (search at2) (search at3) (search at4) (past5 _ (omega arith)) (past6 _ (λ e. c .if7 .left (masked-low 1 _ ∙ e)))
 
 pub refusal-number-spec : {M : Type 1} → statement M
 refusal-number-spec =
@@ -118,7 +114,6 @@ refusal-number-spec =
     shared-slice-read-if5
     shared-slice-read-if5-2
     returns-5
-    crc-requires
     returns-6
     shared-slice-read-if7
     returns-7

@@ -3,7 +3,7 @@ use borrow.Author.Needs.{needs}
 use native.Mathlib.Omega.{arith}
 use mathlib.Core.Path.{sym, ap, _∙_}
 use Rattle.section.specs.declared.Spot.the-variants.{Byte}
-use Rattle.section.proofs.Laws.Places.{spot2, spot3, spot4, spot5, spot6, spot-none, whole5}
+use Rattle.section.proofs.Laws.Places.{spot2, spot3, spot4, spot5, spot6, spot-none}
 use Rattle.section.proofs.spot_of.Statement.{statement}
 use Rattle.section.proofs.spot_of.Tie as tie
 use Rattle.section.proofs.spot_of.Reads as reads
@@ -14,7 +14,7 @@ header-spot-requires : tie.Need-header-spot-requires
 header-spot-requires c κs = search needs
 
 sub-t8 : tie.Need-sub-t8
-sub-t8 c = let a = c .before .before .args in let w = whole5 (a .rules) (a .s .now) (omega (arith, c .before .before .pre, c .match .keys4)) in omega (arith, w)
+sub-t8 c = let h = c .before .before .pre (c .match .keys4) in omega (arith, h)
 
 returns : tie.Need-returns
 returns c = sym (spot2 _ _ _ (c .match .keys1))
