@@ -11,8 +11,6 @@ use Rattle.wire.specs.Tests.{Tests, firstMet}
 use Rattle.ait_descriptors.specs.Kinds.{application}
 use Rattle.ait_descriptors.specs.Descriptor.{descriptor, tagOf}
 use Rattle.ait_descriptors.specs.Contents.{wellMade}
-use Rattle.ait_body.specs.declared.Clause.{Clause}
-use Rattle.ait_body.specs.declared.Clause.the-variants.{WellMade, Sole}
 
 -- "Body: 4 reserved, common length 12, common descriptors; 4 reserved, application loop length 12, applications, ending at the CRC"
 abbrev pub commonLength : List ℕ → ℕ
@@ -47,11 +45,6 @@ wellFormed b =
 unfoldable pub soleLoop : List ℕ → Bool
 soleLoop l = eqb (number (λ d. eqb (tagOf d) 0x00) (items descriptor l)) 1
 
--- what an application may be asked of its own loop
-unfoldable pub clauseOf : Clause → List ℕ → Bool
-clauseOf WellMade l = goodLoop l
-clauseOf Sole l = soleLoop l
-
 -- 7: "a length or fixed field inside does not fit, bytes are left over, or known contents malformed"
 unfoldable pub bodyMeets7 : List ℕ → Bool
 bodyMeets7 b = not (wellFormed b)
@@ -66,6 +59,19 @@ bodyTests b = (7, bodyMeets7 b) ∷ (18, meets18 b) ∷ []
 -- the lowest that applies, 0 where none does
 unfoldable pub bodyRefusal : List ℕ → ℕ
 bodyRefusal b = firstMet (bodyTests b)
+
+-- 7 where something is not well formed; else 18 where an application has not exactly one 0x00 descriptor; else 0
+abbrev pub loopRefusal : (formed sole : Bool) → ℕ
+loopRefusal formed sole = firstMet ((7, not formed) ∷ (18, not sole) ∷ [])
+
+-- so of one application's own loop, and of an application loop
+unfoldable pub ownRefusal : List ℕ → ℕ
+ownRefusal l = loopRefusal (goodLoop l) (soleLoop l)
+
+unfoldable pub applicationsRefusal : List ℕ → ℕ
+applicationsRefusal s =
+    loopRefusal (fills application s && every (λ a. goodLoop (ownLoop a)) (items application s))
+    (every (λ a. soleLoop (ownLoop a)) (items application s))
 
 -- A well-formed body, clause by clause.
 pub record WellFormed (b : List ℕ) : Type 0 where

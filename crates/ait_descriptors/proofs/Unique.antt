@@ -7,8 +7,8 @@ use Rattle.ait_descriptors.proofs.kinds.fills.Kinds as fills-kinds
 use Rattle.ait_descriptors.proofs.kinds.fills.Reads as fills-reads
 use Rattle.ait_descriptors.proofs.lists.item_place.Kinds as item-kinds
 use Rattle.ait_descriptors.proofs.lists.item_place.Reads as item-reads
-use Rattle.ait_descriptors.proofs.lists.number_of.Kinds as number-of-kinds
-use Rattle.ait_descriptors.proofs.lists.number_of.Reads as number-of-reads
+use Rattle.ait_descriptors.proofs.lists.walk_loop.Kinds as walk-loop-kinds
+use Rattle.ait_descriptors.proofs.lists.walk_loop.Reads as walk-loop-reads
 use Rattle.ait_descriptors.proofs.lists.find.Kinds as find-kinds
 use Rattle.ait_descriptors.proofs.lists.find.Reads as find-reads
 use Rattle.ait_descriptors.proofs.descriptor.describe.Kinds as describe-kinds
@@ -35,8 +35,8 @@ fills κs a x y s t p q = p ∙ sym q
 item-place : OneAnswer 1 item-kinds.ps item-kinds.r item-reads.Post
 item-place κs a x y s t p q = p ∙ sym q
 
-number-of : OneAnswer 1 number-of-kinds.ps number-of-kinds.r number-of-reads.Post
-number-of κs a x y s t p q = p ∙ sym q
+walk-loop : OneAnswer 1 walk-loop-kinds.ps walk-loop-kinds.r walk-loop-reads.Post
+walk-loop κs a x y s t p q = p ∙ sym q
 
 find : OneAnswer 1 find-kinds.ps find-kinds.r find-reads.Post
 find κs a x y s t p q = p ∙ sym q

@@ -1,15 +1,18 @@
 -- Descriptors by their tag, a line for each tag in each definition; what a tag's line says is in its own file, `Tag00` and so on.
 -- "Known contents must be well formed; other tags are kept raw." 01, "The application section".
 use Prim.Native.Nat.{ℕ}
-use mathlib.Core.Bool.{Bool, true, not, cond}
+use mathlib.Core.Bool.{Bool, true, not, cond, _&&_}
 use mathlib.Core.List.{List}
 use lib.Dec.{eqb}
 use Rattle.wire.specs.Fields.{byteAt}
+use Rattle.wire.specs.Items.{items, fills, every, number}
 use Rattle.wire.specs.Places.{Finder}
 use Rattle.ait_descriptors.specs.declared.Kind.{Kind}
 use Rattle.ait_descriptors.specs.declared.Kind.the-variants as kind
 use Rattle.ait_descriptors.specs.declared.Test.{Test}
 use Rattle.ait_descriptors.specs.declared.Test.the-variants.{Malformed, Tagged, Labelled}
+use Rattle.ait_descriptors.specs.declared.Walked.{Walked}
+use Rattle.ait_descriptors.specs.declared.Walked.the-variants as walked
 use Rattle.ait_descriptors.specs.declared.Repeated.{Repeated}
 use Rattle.ait_descriptors.specs.declared.Repeated.the-variants.{Profiles, Labels, Names, Bases, Identifiers}
 use Rattle.ait_descriptors.specs.declared.Raw.{Raw}
@@ -17,7 +20,7 @@ use Rattle.ait_descriptors.specs.declared.Described.{Described}
 use Rattle.ait_descriptors.specs.declared.Described.the-variants as described
 use Rattle.ait_descriptors.specs.declared.Item.{Item}
 use Rattle.ait_descriptors.specs.declared.Item.the-variants as item
-use Rattle.ait_descriptors.specs.Descriptor.{tagOf, contentsOf, restOf}
+use Rattle.ait_descriptors.specs.Descriptor.{descriptor, tagOf, contentsOf, restOf}
 use Rattle.ait_descriptors.specs.Tag00.{good00, profilesIn, labelsIn, profileOf, described00}
 use Rattle.ait_descriptors.specs.Tag01.{good01, namesIn, nameOf, described01}
 use Rattle.ait_descriptors.specs.Tag02.{good02, basesIn, baseOf, described02, labelled}
@@ -87,3 +90,10 @@ unfoldable pub testOf : Test → List ℕ → Bool
 testOf Malformed d = not (wellMade d)
 testOf (Tagged t) d = eqb (tagOf d) t
 testOf (Labelled l) d = labelled l d
+
+-- what one walk over a loop finds: where descriptors end exactly with it, each well made, how many of them have the tag 0x00
+unfoldable pub walkedOf : List ℕ → Walked
+walkedOf l =
+    cond (fills descriptor l && every wellMade (items descriptor l))
+    (walked.WellMade (number (λ d. eqb (tagOf d) 0x00) (items descriptor l)))
+    walked.Malformed

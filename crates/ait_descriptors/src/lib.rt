@@ -24,7 +24,7 @@ pub use kinds::fills;
 pub use kinds::size_of;
 pub use lists::find;
 pub use lists::item_place;
-pub use lists::number_of;
+pub use lists::walk_loop;
 pub use parts::count_within;
 pub use tag00::ApplicationDescriptor;
 pub use tag00::Profile;
@@ -56,6 +56,13 @@ pub enum Test {
     Malformed,
     Tagged(u8),
     Labelled(u8),
+}
+
+// What one walk over the descriptors of a loop finds: they do not end with it, or one is malformed; or
+// each is well made, and so many have the tag 0x00.
+pub enum Walked {
+    Malformed,
+    WellMade(usize),
 }
 
 // What is repeated within a descriptor.

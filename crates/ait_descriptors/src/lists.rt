@@ -1,15 +1,16 @@
-// Lists of items of every kind, and a test: one loop for each question.
+// Lists of items of every kind: one loop for each question.
 use crate::Kind;
 use crate::Test;
+use crate::Walked;
 use crate::descriptor::meets_at;
 use crate::kinds::size_at;
 use wire::Hit;
 use wire::Place;
 ghost use mathlib.Core.Path.{_≡_};
-ghost use Rattle.wire.specs.Items.{items, number};
+ghost use Rattle.wire.specs.Items.{items};
 ghost use Rattle.wire.specs.Places.{itemAt, first};
 ghost use Rattle.ait_descriptors.specs.Kinds.{sizeOf};
-ghost use Rattle.ait_descriptors.specs.Contents.{testOf};
+ghost use Rattle.ait_descriptors.specs.Contents.{testOf, walkedOf};
 
 // Where item k lies, from 0.
 pub fn item_place(kind: Kind, s: &[u8], k: usize) -> Place
@@ -31,23 +32,26 @@ pub fn item_place(kind: Kind, s: &[u8], k: usize) -> Place
     Place::Nothing
 }
 
-// How many items meet a test.
-pub fn number_of(kind: Kind, test: Test, s: &[u8]) -> usize
-    ensures { λ r. ⌜ r ≡ number (testOf test) (items (sizeOf kind) (now (s .entry))) ⌝ }
+// Whether descriptors end exactly with `l`, each well made, and how many of them have the tag 0x00.
+pub fn walk_loop(l: &[u8]) -> Walked
+    ensures { λ r. ⌜ r ≡ walkedOf (now (l .entry)) ⌝ }
 {
     let mut m: usize = 0;
     let mut i = 0;
-    while i < s.len() {
-        let n = size_at(kind, s, i);
+    while i < l.len() {
+        let n = size_at(Kind::Descriptor, l, i);
         if n == 0 {
-            return m;
+            return Walked::Malformed;
         }
-        if meets_at(test, s, i, n) {
+        if meets_at(Test::Malformed, l, i, n) {
+            return Walked::Malformed;
+        }
+        if meets_at(Test::Tagged(0x00), l, i, n) {
             m += 1;
         }
         i += n;
     }
-    m
+    Walked::WellMade(m)
 }
 
 // Which item is the first to meet a test, from 0.

@@ -13,7 +13,7 @@ ghost use Rattle.ait_read.specs.Answers.{locatedOf};
 pub fn judge(s: &[u8]) -> Checked
     ensures { λ r. ⌜ r ≡ tableJudged (now (s .entry)) ⌝ }
 {
-    judge_by(s, section::crc(s))
+    judge_by(s, crc_tables::crc_of(s))
 }
 
 // The same for whoever has the register already: what `s` leaves, or any other number.

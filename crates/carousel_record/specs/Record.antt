@@ -1,5 +1,5 @@
 -- The carousel record: what it says, and its rule. 01, "The carousel record".
-use Prim.Native.Nat.{ℕ, _+_, _*_}
+use Prim.Native.Nat.{ℕ, suc, _+_, _*_}
 use mathlib.Core.Bool.{Bool, true, false, not, cond, _&&_}
 use mathlib.Core.List.{List, [], _∷_, map}
 use lib.Dec.{eqb, leb}
@@ -9,6 +9,7 @@ use Rattle.carousel_messages.specs.Limits.{mostModules, mostBlocks, total, beyo
 use Rattle.carousel_messages.specs.Heard.{noneListed, sizesOf, numbersOf, placeIn, Announced}
 use Rattle.carousel_record.specs.declared.Module.{Module}
 use Rattle.carousel_record.specs.declared.Carousel.{Carousel}
+use Rattle.carousel_record.specs.declared.Head.{Head}
 use Rattle.carousel_record.specs.Blocks.{blocksOf, blockLengthOf}
 use Rattle.carousel_record.specs.Marks.{moduleWords, markWords, markOf, isMarked, marksWithin, clearAmong}
 
@@ -44,6 +45,21 @@ placeOf a n = placeIn n (a .modules)
 -- the sizes together
 abbrev pub bytesOf : Announced → ℕ
 bytesOf a = total (sizesOf (a .modules))
+
+-- A record in three parts, and put together again: its head, with the sizes together beside it; its entries; and its marks. Who takes many sections keeps them apart.
+abbrev pub headOf : Carousel → Head
+headOf c = record { download = c .download; «block_size» = c .«block_size»; count = c .count; bytes = bytesOf (announcedBy c) }
+
+abbrev pub joinedOf : Head → List Module → (marks : List ℕ) → Carousel
+joinedOf h ms ws = record { download = h .download; «block_size» = h .«block_size»; count = h .count; modules = ms; marks = ws }
+
+-- the numbers of entries, and the place of one among numbers
+abbrev pub numberIn : Module → ℕ
+numberIn m = m .number
+
+unfoldable pub placeAmong : ℕ → List ℕ → ℕ
+placeAmong n [] = 0
+placeAmong n (k ∷ ks) = cond (eqb k n) 0 (suc (placeAmong n ks))
 
 -- "Modules lie one after another in announced order from byte 0": running sums, from s on
 unfoldable pub sums : ℕ → List ℕ → List ℕ

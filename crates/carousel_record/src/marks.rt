@@ -1,12 +1,10 @@
 // Received marks, in any number of words.
-use crate::Carousel;
 use carousel_messages::MOST_BLOCKS;
 use carousel_messages::MOST_MODULES;
 ghost use mathlib.Core.Path.{_≡_};
 ghost use Prim.Native.Nat.{_-_, _/_, _^_};
 ghost use lib.Dec.{eqb};
-ghost use Rattle.carousel_record.specs.Marks.{isMarked, clearFrom};
-ghost use Rattle.carousel_record.specs.Changes.{withMark};
+ghost use Rattle.carousel_record.specs.Marks.{isMarked, marksWith, clearFrom};
 
 // The words of one module's marks, 32 to a word.
 pub const MODULE_WORDS: usize = MOST_BLOCKS / 32;
@@ -25,19 +23,16 @@ pub fn is_marked(words: &[u32], k: usize) -> bool
     (words[w] >> (k % 32) as u32) % 2 == 1
 }
 
-// The record with mark k set. Past the words there is none to set.
-pub fn with_mark(c: Carousel, k: usize) -> Carousel
-    ensures { λ r. ⌜ r ≡ withMark c k ⌝ }
+// Sets mark k. Past the words there is none to set.
+pub fn set_mark(words: &mut [u32], k: usize)
+    ensures { λ _. ⌜ now (words .exit) ≡ marksWith (now (words .entry)) k ⌝ }
 {
-    let word = k / 32;
-    if MARK_WORDS <= word {
-        return c;
+    let w = k / 32;
+    if words.len() <= w {
+        return;
     }
     let bit = (k % 32) as u32;
-    let mut next = c;
-    let before = next.marks[word];
-    next.marks[word] = before | (1u32 << bit);
-    next
+    words[w] = words[w] | (1u32 << bit);
 }
 
 // Whether no mark from n on is set.

@@ -1,6 +1,7 @@
 pub mod Laws
 pub mod Views
 pub mod View
+pub mod Held
 pub mod Matching
 pub mod Simulation
 pub mod Steps

@@ -10,6 +10,8 @@ use Rattle.carousel_record.specs.declared.Carousel.{Carousel}
 use Rattle.carousel_step.specs.declared.Answer.{Answer}
 use Rattle.carousel_step.specs.declared.Stepped.{Stepped}
 use Rattle.carousel_step.specs.Step.{steppedOf, imageOf}
+use Rattle.carousel_step.proofs.store.take_block.Kinds as take-block-kinds
+use Rattle.carousel_step.proofs.store.take_block.Reads as take-block-reads
 use Rattle.carousel_step.proofs.step.Kinds as step-kinds
 use Rattle.carousel_step.proofs.step.Reads as step-reads
 
@@ -20,6 +22,14 @@ step κs a x y s t p q = p .0 ∙ sym (q .0)
 step-image : (κs : Lfts 2) (a : Dens κs step-kinds.ps) (x y : resT step-kinds.r κs .Denot) (s t : AtExit (endedOf 2 step-kinds.ps step-kinds.r) κs)
     → step-reads.Post κs a x s → step-reads.Post κs a y t → s .1 .1 .0 .now ≡ t .1 .1 .0 .now
 step-image κs a x y s t p q = p .1 ∙ sym (q .1)
+
+-- a block for a record that is held in parts: its answer, the marks and the image
+take-block : OneAnswer 3 take-block-kinds.ps take-block-kinds.r take-block-reads.Post
+take-block κs a x y s t p q = p .0 ∙ sym (q .0)
+
+take-block-marks : (κs : Lfts 3) (a : Dens κs take-block-kinds.ps) (x y : resT take-block-kinds.r κs .Denot) (s t : AtExit (endedOf 3 take-block-kinds.ps take-block-kinds.r) κs)
+    → take-block-reads.Post κs a x s → take-block-reads.Post κs a y t → (s .1 .1 .1 .1 .1 .0 .now ≡ t .1 .1 .1 .1 .1 .0 .now) × (s .1 .1 .1 .1 .1 .1 .0 .now ≡ t .1 .1 .1 .1 .1 .1 .0 .now)
+take-block-marks κs a x y s t p q = (p .1 ∙ sym (q .1), p .2 ∙ sym (q .2))
 
 -- The entry in place. Its proof is a walk by hand, for which the prover has no reading of the kind above; this is over the equations of its contract: any two answers,
 -- records and images that meet them coincide, and are those of the step by value.

@@ -8,11 +8,15 @@ mod store;
 
 use announce::take_announcement;
 use carousel_messages::Judged;
+use carousel_messages::MOST_MODULES;
 use carousel_record::Carousel;
+use carousel_record::head_of;
 use carousel_record::is_ruled;
+use carousel_record::joined;
+use carousel_record::place_of;
 use section::Refusal;
 use store::refuse;
-use store::take_block;
+pub use store::take_block;
 ghost use mathlib.Core.Path.{_≡_};
 ghost use Rattle.wire.specs.Tests.{firstMet};
 ghost use Rattle.carousel_step.specs.Step.{steppedOf, imageOf, numberOfAnswer, stepTests};
@@ -38,9 +42,12 @@ pub fn step(c: Carousel, s: &[u8], image: &mut [u8]) -> Stepped
         × (numberOfAnswer (r .answer) ≡ firstMet (stepTests c (now (s .entry)) (now (image .entry)))) ⌝ }
 {
     if !is_ruled(c) {
-        return refuse(c, 1);
+        return Stepped {
+            answer: refuse(1),
+            state: c,
+        };
     }
-    let judged = carousel_messages::judge(s);
+    let judged = carousel_messages::judge_by(s, crc_tables::crc_of(s));
     match judged {
         Judged::Refused(r) => Stepped {
             answer: Answer::Refused(r),
@@ -54,7 +61,17 @@ pub fn step(c: Carousel, s: &[u8], image: &mut [u8]) -> Stepped
         Judged::Carried(b) => {
             let at = b.start;
             let e = at + b.size;
-            take_block(c, b, &s[at..e], image)
+            let h = head_of(c);
+            let ms = c.modules;
+            let i = place_of(c, b.number);
+            // past the entries any will do: it is not looked at
+            let m = ms[i % MOST_MODULES];
+            let mut marks = c.marks;
+            let answer = take_block(h, i, m, b, &s[at..e], &mut marks, image);
+            Stepped {
+                answer: answer,
+                state: joined(h, ms, marks),
+            }
         }
     }
 }

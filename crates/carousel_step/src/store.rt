@@ -1,123 +1,120 @@
-// A block, and the record and image.
+// A block, the record's listing and marks, and the image.
 use crate::Answer;
-use crate::Stepped;
 use carousel_messages::Block;
-use carousel_record::Carousel;
-use carousel_record::bytes_of;
+use carousel_messages::MOST_BLOCKS;
+use carousel_record::Head;
+use carousel_record::Module;
 use carousel_record::is_block;
 use carousel_record::is_marked;
-use carousel_record::place_of;
-use carousel_record::with_mark;
+use carousel_record::set_mark;
 use section::Refusal;
 use section::Spot;
 ghost use mathlib.Core.Path.{_≡_};
-ghost use Prim.Native.Nat.{_+_, _<_, _≤_};
-ghost use mathlib.Core.Bool.{true};
+ghost use Prim.Native.Nat.{_+_, _≤_};
 ghost use lib.ListN.{length};
 ghost use Rattle.section.specs.Answer.{refused};
-ghost use Rattle.carousel_messages.specs.Limits.{mostModules, mostBlocks};
 ghost use Rattle.carousel_messages.specs.Heard.{arrivedIn};
-ghost use Rattle.carousel_record.specs.Record.{announcedBy, recordOf, blockAt, sameNumbers, ruledOf};
+ghost use Rattle.carousel_record.specs.Record.{sameNumbers};
 ghost use Rattle.carousel_record.specs.Changes.{overwrite};
-ghost use Rattle.carousel_step.specs.Step.{refusing, blockRefusal, matched, onArrived, returning, imageAfter};
+ghost use Rattle.carousel_step.specs.declared.Answer.the-variants.{Refused};
+ghost use Rattle.carousel_step.specs.Step.{answerOf, imageAfter};
+ghost use Rattle.carousel_step.specs.Held.{heldRefusal, heldOutcome, putOutcome, marksAfter};
 
-// A block of a section: 12 to 17, "stored" or "repeated".
-pub fn take_block(c: Carousel, b: Block, bytes: &[u8], image: &mut [u8]) -> Stepped
-    requires { ⌜ ruledOf c ≡ true ⌝ }
-    ensures { λ r. ⌜ (r ≡ returning c (onArrived (recordOf c) (now (image .entry)) (arrivedIn b (now (bytes .entry)))))
-        × (now (image .exit) ≡ imageAfter (now (image .entry)) (onArrived (recordOf c) (now (image .entry)) (arrivedIn b (now (bytes .entry))))) ⌝ }
+// A block of a section, for the module `m` that was found for it at a place: 12 to 17, "stored" or "repeated". The rule is not
+// checked: whoever takes many sections has checked it before.
+pub fn take_block(
+    h: Head,
+    place: usize,
+    m: Module,
+    b: Block,
+    bytes: &[u8],
+    marks: &mut [u32],
+    image: &mut [u8],
+) -> Answer
+    ensures { λ r. ⌜ (r ≡ answerOf (heldOutcome h place m (now (marks .entry)) (now (image .entry)) (arrivedIn b (now (bytes .entry)))))
+        × (now (marks .exit) ≡ marksAfter (now (marks .entry)) (heldOutcome h place m (now (marks .entry)) (now (image .entry)) (arrivedIn b (now (bytes .entry)))))
+        × (now (image .exit) ≡ imageAfter (now (image .entry)) (heldOutcome h place m (now (marks .entry)) (now (image .entry)) (arrivedIn b (now (bytes .entry))))) ⌝ }
 {
-    let number = block_refusal(c, b, bytes, image.len());
+    let number = block_refusal(h, place, m, b, bytes, image.len());
     if number != 0 {
-        return refuse(c, number);
+        return refuse(number);
     }
-    put(c, place_of(c, b.number), b, bytes, image)
-}
-
-pub fn refuse(c: Carousel, number: u8) -> Stepped
-    ensures { λ r. ⌜ r ≡ returning c (refusing (refused number)) ⌝ }
-{
-    let place = Spot::Nowhere;
-    Stepped {
-        answer: Answer::Refused(Refusal { number, place }),
-        state: c,
-    }
+    let block = b.block as usize;
+    let at = m.start as usize + block * h.block_size as usize;
+    put(at, MOST_BLOCKS * place + block, bytes, marks, image)
 }
 
 // The lowest of 12 to 16 that meets a block, the image having `room` bytes; 0 where none does.
-fn block_refusal(c: Carousel, b: Block, bytes: &[u8], room: usize) -> u8
-    requires { ⌜ c .count ≤ mostModules ⌝ }
-    ensures { λ r. ⌜ r ≡ blockRefusal (announcedBy c) room (arrivedIn b (now (bytes .entry))) ⌝ }
+fn block_refusal(h: Head, place: usize, m: Module, b: Block, bytes: &[u8], room: usize) -> u8
+    ensures { λ r. ⌜ r ≡ heldRefusal h place m room (arrivedIn b (now (bytes .entry))) ⌝ }
 {
-    let n = c.count as usize;
+    let n = h.count as usize;
     if n == 0 {
         return 12;
     }
-    if c.download != b.download {
+    if h.download != b.download {
         return 12;
     }
-    let i = place_of(c, b.number);
-    if n <= i {
+    if n <= place {
         return 13;
     }
-    let ms = c.modules;
-    let m = ms[i];
     if m.version != b.version {
         return 14;
     }
-    if room < bytes_of(c) {
+    if room < h.bytes {
         return 15;
     }
-    if !is_block(c.block_size, m.size, b.block as usize, bytes.len()) {
+    if !is_block(h.block_size, m.size, b.block as usize, bytes.len()) {
         return 16;
     }
     0
 }
 
-// A matching block: "stored", "repeated", or 17.
-fn put(c: Carousel, place: usize, b: Block, bytes: &[u8], image: &mut [u8]) -> Stepped
-    requires { ⌜ (place < c .count) × (c .count ≤ mostModules) × (b .block < mostBlocks) × (blockAt (recordOf c) place (b .block) + length (now bytes) ≤ length (now image)) ⌝ }
-    ensures { λ r. ⌜ (r ≡ returning c (matched (recordOf c) (now (image .entry)) place (arrivedIn b (now (bytes .entry)))))
-        × (now (image .exit) ≡ imageAfter (now (image .entry)) (matched (recordOf c) (now (image .entry)) place (arrivedIn b (now (bytes .entry))))) ⌝ }
+pub fn refuse(number: u8) -> Answer
+    ensures { λ r. ⌜ r ≡ Refused (refused number) ⌝ }
 {
-    let ms = c.modules;
-    let m = ms[place];
-    let block = b.block as usize;
-    let at = m.start as usize + block * c.block_size as usize;
-    let k = carousel_messages::MOST_BLOCKS * place + block;
-    let marks = c.marks;
-    if is_marked(&marks, k) {
-        let e = at + bytes.len();
-        if is_equal(&image[at..e], bytes) {
-            return Stepped {
-                answer: Answer::Repeated,
-                state: c,
-            };
-        }
-        return refuse(c, 17);
-    }
-    copy_at(bytes, image, at);
-    let next = with_mark(c, k);
-    Stepped {
-        answer: Answer::Stored,
-        state: next,
-    }
+    let place = Spot::Nowhere;
+    Answer::Refused(Refusal { number, place })
 }
 
+// A matching block, whose mark is k: "stored" from index `at` on, "repeated", or 17; 15 where the image does not hold it.
+fn put(at: usize, k: usize, bytes: &[u8], marks: &mut [u32], image: &mut [u8]) -> Answer
+    ensures { λ r. ⌜ (r ≡ answerOf (putOutcome k at (now (marks .entry)) (now (image .entry)) (now (bytes .entry))))
+        × (now (marks .exit) ≡ marksAfter (now (marks .entry)) (putOutcome k at (now (marks .entry)) (now (image .entry)) (now (bytes .entry))))
+        × (now (image .exit) ≡ imageAfter (now (image .entry)) (putOutcome k at (now (marks .entry)) (now (image .entry)) (now (bytes .entry)))) ⌝ }
+{
+    if image.len() < at {
+        return refuse(15);
+    }
+    if image.len() - at < bytes.len() {
+        return refuse(15);
+    }
+    if is_marked(marks, k) {
+        let e = at + bytes.len();
+        if is_equal(&image[at..e], bytes) {
+            return Answer::Repeated;
+        }
+        return refuse(17);
+    }
+    copy_at(bytes, image, at);
+    set_mark(marks, k);
+    Answer::Stored
+}
+
+// Without an early return, so that it becomes vector code.
 fn is_equal(a: &[u8], b: &[u8]) -> bool
     ensures { λ r. ⌜ r ≡ sameNumbers (now (a .entry)) (now (b .entry)) ⌝ }
 {
     if a.len() != b.len() {
         return false;
     }
+    let mut all: u8 = 0;
     let mut i: usize = 0;
     while i < a.len() {
-        if a[i] != b[i] {
-            return false;
-        }
+        all |= a[i] ^ b[i];
         i += 1;
     }
-    true
+    all == 0
 }
 
 // Writes all of `bytes` into the image from index `at` on.

@@ -3,3 +3,4 @@ pub mod Places
 pub mod Runs
 pub mod Takes
 pub mod Refusals
+pub mod Held

@@ -9,6 +9,8 @@ use Rattle.wire.specs.Tests.{firstMet}
 use Rattle.section.specs.declared.Rules.{Rules}
 use Rattle.section.specs.declared.Rules.the-variants.{Application}
 use Rattle.section.specs.declared.Rules.the-variants.{Carousel as Carousels}
+use Rattle.section.specs.declared.Checked.{Checked}
+use Rattle.section.specs.declared.Checked.the-variants as checked
 use Rattle.section.specs.declared.Spot.{Spot}
 use Rattle.section.specs.declared.Spot.the-variants.{Nowhere}
 use Rattle.section.specs.Header.{lengthOf, applicationTable}
@@ -56,6 +58,11 @@ readFate (reading.Accepted t) = fate.Table
 
 abbrev pub tableFate : List ℕ → Fate
 tableFate s = readFate (readAnswer s)
+
+-- what a judged application section comes to: the same (`fate-judged`), without its table's fields
+unfoldable pub judgedFate : Checked → Fate
+judgedFate (checked.Refused r) = fate.Refused r
+judgedFate (checked.Accepted h) = fate.Table
 
 unfoldable pub carouselFate : Answer → Fate
 carouselFate answer.New = fate.New

@@ -4,17 +4,27 @@
 // specs/Run.antt, the numbers of kinds and stops in specs/Kinds.antt. A section of table 0x74 goes by
 // the application rules, every other by the carousel's.
 
-use ait_read::ReadAnswer;
+use carousel_messages::Judged;
+use carousel_messages::MOST_MODULES;
+use carousel_messages::judge_by;
 use carousel_record::Carousel;
+use carousel_record::head_of;
+use carousel_record::joined;
+use carousel_record::numbers_of;
+use carousel_record::place_in;
 use carousel_step::Answer;
+use carousel_step::take_block;
+use section::Checked;
 use section::Refusal;
 use section::Spot;
 ghost use mathlib.Core.Path.{_≡_};
 ghost use mathlib.Core.Bool.{true};
 ghost use Prim.Native.Nat.{_≤_};
 ghost use lib.ListN.{length};
+ghost use Rattle.ait_read.specs.Acceptance.{tableJudgedBy};
+ghost use Rattle.carousel_messages.specs.Judged.{judgedBy};
 ghost use Rattle.carousel_record.specs.Record.{ruledOf};
-ghost use Rattle.receiver.specs.Run.{stoppedBy, wholeAt, stopAt, givenOf, imageGiven, tookOf, imageTook, numberTook, tookNumber, ranOf, imageRan, tableFate, carouselFate};
+ghost use Rattle.receiver.specs.Run.{stoppedBy, wholeAt, stopAt, givenOf, imageGiven, tookOf, imageTook, numberTook, tookNumber, ranOf, imageRan, judgedFate, carouselFate};
 ghost use Rattle.receiver.specs.Run.{numberOfFate, placeOfFate};
 ghost use Rattle.receiver.specs.Kinds.{kindNumber, stopNumber};
 
@@ -173,7 +183,8 @@ pub fn stop_number(s: Stop) -> u8
     }
 }
 
-// The run: sections are taken until there is a reason to stop.
+// The run: sections are taken until there is a reason to stop. The rule is checked and the tables of the CRC are made once, before
+// the first section; and the record is held in its parts, so that no block has it copied.
 pub fn run(c: Carousel, stretch: &[u8], image: &mut [u8], budget: usize) -> Ran
     ensures { λ r. ⌜ (r ≡ ranOf c (now (stretch .entry)) (now (image .entry)) budget)
         × (now (image .exit) ≡ imageRan c (now (stretch .entry)) (now (image .entry)) budget) ⌝ }
@@ -181,21 +192,49 @@ pub fn run(c: Carousel, stretch: &[u8], image: &mut [u8], budget: usize) -> Ran
     if !carousel_record::is_ruled(c) {
         return ended(c, 0, 0, Stop::State);
     }
-    let mut d = c;
+    let tables = crc_tables::tables();
+    let mut h = head_of(c);
+    let mut ms = c.modules;
+    let mut numbers = numbers_of(ms);
+    let mut marks = c.marks;
     let mut taken: usize = 0;
     let mut passed: usize = 0;
     while taken < budget {
         let rest = &stretch[passed..];
         let n = whole_at(rest);
         if n == 0 {
-            return ended(d, taken, passed, stop_at(rest));
+            return ended(joined(h, ms, marks), taken, passed, stop_at(rest));
         }
-        let g = give(d, &rest[..n], image);
-        d = g.state;
+        let s = &rest[..n];
         taken += 1;
         passed += n;
+        let judged = hear(s, crc_tables::crc_by(&tables, s));
+        match judged {
+            Judged::Refused(_) => {}
+            Judged::Carried(b) => {
+                let i = place_in(&numbers, h.count as usize, b.number);
+                // past the entries any will do: it is not looked at
+                let m = ms[i % MOST_MODULES];
+                let at = b.start;
+                let e = at + b.size;
+                take_block(h, i, m, b, &s[at..e], &mut marks, image);
+            }
+            Judged::Announced(_) => {
+                let g = give(joined(h, ms, marks), s, image);
+                let next = g.state;
+                h = head_of(next);
+                ms = next.modules;
+                numbers = numbers_of(ms);
+                marks = next.marks;
+            }
+        }
     }
-    ended(d, taken, passed, stop_at(&stretch[passed..]))
+    ended(
+        joined(h, ms, marks),
+        taken,
+        passed,
+        stop_at(&stretch[passed..]),
+    )
 }
 
 // The run over a lent record, changed in place. Thin, over the run by value.
@@ -265,13 +304,23 @@ fn stop_at(s: &[u8]) -> Stop
     Stop::Budget
 }
 
+// What a section is to the carousel, by the register that it leaves. A table is read as everywhere; what it says is no part of a run.
+fn hear(s: &[u8], register: u32) -> Judged
+    ensures { λ r. ⌜ r ≡ judgedBy register (now (s .entry)) ⌝ }
+{
+    if wire::byte_at(s, 0) == section::APPLICATION_TABLE {
+        table_fate(s, register);
+    }
+    judge_by(s, register)
+}
+
 // One whole section, by its table number.
 fn give(c: Carousel, s: &[u8], image: &mut [u8]) -> Given
     ensures { λ r. ⌜ (r ≡ givenOf c (now (s .entry)) (now (image .entry))) × (now (image .exit) ≡ imageGiven c (now (s .entry)) (now (image .entry))) ⌝ }
 {
     if wire::byte_at(s, 0) == section::APPLICATION_TABLE {
         return Given {
-            fate: table_fate(s),
+            fate: table_fate(s, crc_tables::crc_of(s)),
             state: c,
         };
     }
@@ -285,11 +334,12 @@ fn give(c: Carousel, s: &[u8], image: &mut [u8]) -> Given
     }
 }
 
-fn table_fate(s: &[u8]) -> Fate
-    ensures { λ r. ⌜ r ≡ tableFate (now (s .entry)) ⌝ }
+fn table_fate(s: &[u8], register: u32) -> Fate
+    ensures { λ r. ⌜ r ≡ judgedFate (tableJudgedBy register (now (s .entry))) ⌝ }
 {
-    match ait_read::read(s) {
-        ReadAnswer::Refused(r) => Fate::Refused(r),
-        ReadAnswer::Accepted(_) => Fate::Table,
+    let judged = ait_read::judge_by(s, register);
+    match judged {
+        Checked::Refused(r) => Fate::Refused(r),
+        Checked::Accepted(_) => Fate::Table,
     }
 }

@@ -22,7 +22,7 @@ pub fn measure() -> Result<(), String> {
     println!("Drift lists: millions of records in a second. By place each record is asked for by itself, and the whole list judged each time.");
     println!(
         "{:<16}{:>10}{:>8}{:>12}{:>16}{:>8}",
-        "call", "records", "bytes", "ours M/s", "baseline M/s", "ratio"
+        "call", "records", "bytes", "ours M/s", "baseline M/s", "times"
     );
     let records = good(FULL, 1);
     let full = list(7, FULL as u16, &records);
@@ -87,7 +87,7 @@ fn line<T: PartialEq>(
         4 + 12 * records,
         millions / best,
         millions / their_best,
-        their_best / best
+        best / their_best
     );
     Ok(())
 }

@@ -1,35 +1,42 @@
-//! `bench`: both receivers run over the same 64 MiB of sections, in three mixes; then each takes blocks by single steps; then
-//! both readers and writers go through a drift list. It ends with 1 when they do not leave the same; how fast they are is only told.
+//! `bench [PART]`: both receivers run over the same sections in four mixes; then it is told how the cost of a byte grows; then each
+//! takes blocks by single steps; then both readers and writers go through a drift list. A word runs one part alone. It ends with
+//! 1 when they do not leave the same, with 2 at any other word; how fast they are is only told.
 
+mod growth;
 mod lists;
 mod mixes;
+mod race;
 mod receiver;
+mod rotation;
 mod steps;
+mod stretch;
 
 use std::process::ExitCode;
 
-use mixes::{Mix, MIXES};
-use receiver::Lent;
-
-/// Each receiver runs so often over a mix; the best time counts.
+/// Each receiver runs so often over a mix or a list, in turn.
 const ROUNDS: usize = 5;
 
+/// What is measured: its word, and the call that prints its lines or tells what differed.
+type Part = (&'static str, fn() -> Result<(), String>);
+
+const PARTS: [Part; 4] = [
+    ("mixes", mixes::measure),
+    ("growth", growth::measure),
+    ("steps", steps::measure),
+    ("lists", lists::measure),
+];
+
 fn main() -> ExitCode {
+    let words: Vec<String> = std::env::args().skip(1).collect();
+    let Some(parts) = chosen(&words) else {
+        let all = PARTS.map(|(word, _)| word).join(" | ");
+        eprintln!("usage: bench [{all}]");
+        return ExitCode::from(2);
+    };
     println!(
-        "Release build, best of {ROUNDS} runs each, in turn, over the same stretches of at most 64 KiB; \
-         neither record nor image\nis cleared between stretches, nor the image between runs. \
-         Every announcement is new, every block stored, every table accepted."
+        "Release build. Times: ours' best time against the baseline's; below 1.00 ours is faster."
     );
-    println!(
-        "{:<16}{:>10}{:>8}{:>12}{:>16}{:>8}",
-        "mix", "sections", "MiB", "ours MiB/s", "baseline MiB/s", "ratio"
-    );
-    let mut mixes = MIXES.iter();
-    match mixes
-        .try_for_each(|mix| measure(&mix()))
-        .and_then(|()| steps::measure())
-        .and_then(|()| lists::measure())
-    {
+    match parts.iter().try_for_each(|(_, measure)| measure()) {
         Ok(()) => ExitCode::SUCCESS,
         Err(told) => {
             println!("bench: {told}");
@@ -38,56 +45,42 @@ fn main() -> ExitCode {
     }
 }
 
-/// Measures one mix and prints its line, or tells what differed.
-fn measure(mix: &Mix) -> Result<(), String> {
-    let mut ours = Lent::<nebosvar::Record>::new();
-    let mut theirs = Lent::<baseline::Record>::new();
-    let sections = ours.accepted(mix);
-    same(mix, "accepted sections", sections, theirs.accepted(mix))?;
-    for _ in 0..ROUNDS {
-        ours.round(mix);
-        theirs.round(mix);
-        check(mix, &ours, &theirs)?;
-    }
-    // All that was taken was accepted, and nothing was left.
-    let (taken, passed) = ours.taken_and_passed();
-    let bytes: usize = mix.stretches.iter().map(Vec::len).sum();
-    same(
-        mix,
-        "sections and bytes",
-        (sections, bytes),
-        (taken, passed),
-    )?;
-    print_line(mix.name, sections, bytes, ours.seconds(), theirs.seconds());
-    Ok(())
-}
-
-/// Both answered the same of every stretch, and left the same record and image.
-fn check(
-    mix: &Mix,
-    ours: &Lent<nebosvar::Record>,
-    theirs: &Lent<baseline::Record>,
-) -> Result<(), String> {
-    let record = compare::pair::theirs(&ours.record);
-    same(mix, "answers", &ours.answers, &theirs.answers)?;
-    same(mix, "record", &record, &theirs.record)?;
-    same(mix, "image", &ours.image, &theirs.image)
-}
-
-fn same<T: PartialEq>(mix: &Mix, what: &str, ours: T, theirs: T) -> Result<(), String> {
-    if ours == theirs {
-        Ok(())
-    } else {
-        Err(format!("{}: {what} differ", mix.name))
+/// The part with this word, or all of them; none for any other words.
+fn chosen(words: &[String]) -> Option<&'static [Part]> {
+    match words {
+        [] => Some(&PARTS),
+        [word] => PARTS
+            .iter()
+            .position(|(part, _)| part == word)
+            .map(|place| &PARTS[place..=place]),
+        _ => None,
     }
 }
 
-fn print_line(name: &str, sections: usize, bytes: usize, ours: f64, theirs: f64) {
-    let mebibytes = bytes as f64 / f64::from(1 << 20);
-    println!(
-        "{name:<16}{sections:>10}{mebibytes:>8.1}{:>12.1}{:>16.1}{:>8.2}",
-        mebibytes / ours,
-        mebibytes / theirs,
-        theirs / ours
-    );
+#[cfg(test)]
+mod tests {
+    use super::*;
+
+    /// The parts that these words choose.
+    fn parts(words: &[&str]) -> Option<Vec<&'static str>> {
+        let words: Vec<_> = words.iter().map(|word| word.to_string()).collect();
+        let names = |parts: &[Part]| parts.iter().map(|(word, _)| *word).collect();
+        chosen(&words).map(names)
+    }
+
+    #[test]
+    fn a_word_chooses_one_part_and_none_all() {
+        let all = ["mixes", "growth", "steps", "lists"];
+        assert_eq!(parts(&[]), Some(all.to_vec()));
+        for word in all {
+            assert_eq!(parts(&[word]), Some(vec![word]));
+        }
+    }
+
+    #[test]
+    fn any_other_words_choose_nothing() {
+        for words in [&["mix"][..], &[""], &["Mixes"], &["mixes", "growth"]] {
+            assert_eq!(parts(words), None);
+        }
+    }
 }

@@ -3,36 +3,55 @@
 use std::hint::black_box;
 use std::time::{Duration, Instant};
 
-use crate::mixes::Mix;
+use nebosvar::MOST_BYTES;
 
-/// The room of an image, as the programs have it: enough for every carousel that is sent here.
-pub const ROOM: usize = 65_536;
+use crate::stretch::Mix;
+
+/// The room of an image: enough for all that may be announced.
+pub const ROOM: usize = MOST_BYTES;
 /// Enough sections for every stretch.
 const BUDGET: usize = 65_536;
 
 /// How far a run came: sections taken, bytes passed.
 type Passage = (usize, usize);
 
-/// What becomes of a block that is measured by itself.
+/// What becomes of a section.
 #[derive(Clone, Copy, PartialEq, Eq, Debug)]
 pub enum Fate {
+    Table,
+    New,
+    Same,
     Stored,
     Repeated,
-    /// Refused with 14.
-    OtherVersion,
-    /// Refused with 5.
-    BadCrc,
-    /// Anything else.
-    Other,
+    /// With the paper's number.
+    Refused(u8),
 }
 
 impl Fate {
-    fn of_refusal(number: u8) -> Fate {
-        match number {
-            14 => Fate::OtherVersion,
-            5 => Fate::BadCrc,
-            _ => Fate::Other,
+    fn ours(fate: Result<nebosvar::Kind, nebosvar::Refusal>) -> Fate {
+        match fate {
+            Ok(nebosvar::Kind::Table) => Fate::Table,
+            Ok(nebosvar::Kind::New) => Fate::New,
+            Ok(nebosvar::Kind::Same) => Fate::Same,
+            Ok(nebosvar::Kind::Stored) => Fate::Stored,
+            Ok(nebosvar::Kind::Repeated) => Fate::Repeated,
+            Err(refusal) => Fate::Refused(refusal.number()),
         }
+    }
+
+    fn theirs(fate: baseline::Fate) -> Fate {
+        match fate {
+            baseline::Fate::Table => Fate::Table,
+            baseline::Fate::New => Fate::New,
+            baseline::Fate::Same => Fate::Same,
+            baseline::Fate::Stored => Fate::Stored,
+            baseline::Fate::Repeated => Fate::Repeated,
+            baseline::Fate::Refused(refusal) => Fate::Refused(refusal.number),
+        }
+    }
+
+    pub fn is_accepted(self) -> bool {
+        !matches!(self, Fate::Refused(_))
     }
 }
 
@@ -42,8 +61,8 @@ pub trait Receiver: Copy {
     fn start() -> Self;
     /// Runs over a stretch.
     fn run(&mut self, stretch: &[u8], image: &mut [u8]) -> Passage;
-    /// The length of the section at the head of a stretch, and whether it is accepted; none at a stop.
-    fn take(&mut self, stretch: &[u8], image: &mut [u8]) -> Option<(usize, bool)>;
+    /// The length of the section at the head of a stretch, and what becomes of it; none at a stop.
+    fn take(&mut self, stretch: &[u8], image: &mut [u8]) -> Option<(usize, Fate)>;
     /// Takes one section of the carousel.
     fn step(&mut self, section: &[u8], image: &mut [u8]) -> Fate;
 }
@@ -58,20 +77,15 @@ impl Receiver for nebosvar::Record {
         (ran.taken, ran.passed)
     }
 
-    fn take(&mut self, stretch: &[u8], image: &mut [u8]) -> Option<(usize, bool)> {
+    fn take(&mut self, stretch: &[u8], image: &mut [u8]) -> Option<(usize, Fate)> {
         match nebosvar::Record::take(self, stretch, image, 1) {
-            nebosvar::Taken::Section { length, fate } => Some((length, fate.is_ok())),
+            nebosvar::Taken::Section { length, fate } => Some((length, Fate::ours(fate))),
             nebosvar::Taken::Stopped(_) => None,
         }
     }
 
     fn step(&mut self, section: &[u8], image: &mut [u8]) -> Fate {
-        match nebosvar::Record::step(self, section, image) {
-            Ok(nebosvar::Kind::Stored) => Fate::Stored,
-            Ok(nebosvar::Kind::Repeated) => Fate::Repeated,
-            Ok(_) => Fate::Other,
-            Err(refusal) => Fate::of_refusal(refusal.number()),
-        }
+        Fate::ours(nebosvar::Record::step(self, section, image))
     }
 }
 
@@ -85,32 +99,26 @@ impl Receiver for baseline::Record {
         (ran.taken, ran.passed)
     }
 
-    fn take(&mut self, stretch: &[u8], image: &mut [u8]) -> Option<(usize, bool)> {
+    fn take(&mut self, stretch: &[u8], image: &mut [u8]) -> Option<(usize, Fate)> {
         match baseline::Record::take(self, stretch, image, 1) {
-            baseline::Taken::Section { length, fate } => {
-                Some((length, !matches!(fate, baseline::Fate::Refused(_))))
-            }
+            baseline::Taken::Section { length, fate } => Some((length, Fate::theirs(fate))),
             baseline::Taken::Stopped(_) => None,
         }
     }
 
     fn step(&mut self, section: &[u8], image: &mut [u8]) -> Fate {
-        match baseline::Record::step(self, section, image) {
-            baseline::Answer::Stored => Fate::Stored,
-            baseline::Answer::Repeated => Fate::Repeated,
-            baseline::Answer::Refused(refusal) => Fate::of_refusal(refusal.number),
-            _ => Fate::Other,
-        }
+        Fate::theirs(baseline::Record::step(self, section, image).into())
     }
 }
 
-/// What a receiver was lent and what it answered.
+/// What a receiver was lent, what it answered and how long it took.
 pub struct Lent<R> {
     pub record: R,
     pub image: Vec<u8>,
     /// Of each stretch, in the last round.
     pub answers: Vec<Passage>,
-    best: Duration,
+    /// Of each round.
+    times: Vec<Duration>,
 }
 
 impl<R: Receiver> Lent<R> {
@@ -119,34 +127,42 @@ impl<R: Receiver> Lent<R> {
             record: R::start(),
             image: vec![0; ROOM],
             answers: vec![],
-            best: Duration::MAX,
+            times: vec![],
         }
     }
 
-    /// How many sections of the mix are accepted: walked over one by one, not measured.
-    pub fn accepted(&mut self, mix: &Mix) -> usize {
-        let mut accepted = 0;
+    /// An empty record, and what comes before that which is measured.
+    fn begin(&mut self, mix: &Mix) {
+        self.record = R::start();
+        self.record.run(&mix.before.bytes, &mut self.image);
+    }
+
+    /// What becomes of each section of the mix: walked over one by one, not measured.
+    pub fn fates(&mut self, mix: &Mix) -> Vec<Fate> {
+        self.begin(mix);
+        let mut fates = vec![];
         for stretch in &mix.stretches {
-            let mut rest = &stretch[..];
+            let mut rest = &stretch.bytes[..];
             while let Some((length, fate)) = self.record.take(rest, &mut self.image) {
-                accepted += usize::from(fate);
+                fates.push(fate);
                 rest = &rest[length..];
             }
         }
-        accepted
+        fates
     }
 
-    /// Runs once over all stretches, from an empty record, and measures it.
+    /// Runs once over all stretches and measures it.
     pub fn round(&mut self, mix: &Mix) {
-        self.record = R::start();
+        self.begin(mix);
         self.answers.clear();
         self.answers.reserve(mix.stretches.len());
         let begin = Instant::now();
         for stretch in &mix.stretches {
-            let answer = self.record.run(black_box(stretch), &mut self.image);
+            let bytes = black_box(&stretch.bytes);
+            let answer = self.record.run(bytes, &mut self.image);
             self.answers.push(answer);
         }
-        self.best = self.best.min(begin.elapsed());
+        self.times.push(begin.elapsed());
     }
 
     /// Of the last round.
@@ -155,8 +171,39 @@ impl<R: Receiver> Lent<R> {
         self.answers.iter().fold((0, 0), add)
     }
 
-    /// The best round.
-    pub fn seconds(&self) -> f64 {
-        self.best.as_secs_f64()
+    /// Of all rounds.
+    pub fn seconds(&self) -> Seconds {
+        Seconds::of(&self.times)
+    }
+}
+
+/// How long the rounds took.
+#[derive(Clone, Copy, PartialEq, Debug)]
+pub struct Seconds {
+    pub best: f64,
+    pub median: f64,
+}
+
+impl Seconds {
+    /// Of an odd number of rounds.
+    fn of(times: &[Duration]) -> Seconds {
+        let mut sorted = times.to_vec();
+        sorted.sort_unstable();
+        Seconds {
+            best: sorted[0].as_secs_f64(),
+            median: sorted[sorted.len() / 2].as_secs_f64(),
+        }
+    }
+}
+
+#[cfg(test)]
+mod tests {
+    use super::*;
+
+    #[test]
+    fn the_best_is_the_least_and_the_median_in_the_middle() {
+        let times = [5, 1, 9, 2, 8].map(Duration::from_secs);
+        let (best, median) = (1.0, 5.0);
+        assert_eq!(Seconds::of(&times), Seconds { best, median });
     }
 }

@@ -3,16 +3,11 @@
 use std::hint::black_box;
 use std::time::{Duration, Instant};
 
-use make::{Announcement, Block, Module};
-use nebosvar::MOST_MODULES;
+use make::{Announcement, Module};
+use nebosvar::{LARGEST_BLOCK, MOST_MODULES};
 
 use crate::receiver::{Fate, Receiver, ROOM};
 
-/// The bytes of a block.
-const BLOCK: usize = 64;
-/// The blocks of the module that is sent, each a step; and of each other module.
-const SENT: usize = 128;
-const OTHERS: usize = 28;
 /// Each kind of step is gone through so often; the best time counts.
 const ROUNDS: usize = 500;
 /// The download, and the version of all modules.
@@ -22,9 +17,40 @@ const VERSION: u8 = 1;
 /// The modules of the records.
 const MODULES: [usize; 3] = [1, 16, MOST_MODULES];
 
+/// How much is sent.
+#[derive(Clone, Copy)]
+struct Size {
+    /// The bytes of a block.
+    block: usize,
+    /// The blocks of the module that is sent, each a step; and of each other module.
+    sent: usize,
+    others: usize,
+}
+
+/// Sections of 94 bytes.
+const SMALL: Size = Size {
+    block: 64,
+    sent: 128,
+    others: 28,
+};
+/// Sections of 4,096 bytes: so few that the blocks of 32 modules do not pass what may be announced.
+const LARGE: Size = Size {
+    block: LARGEST_BLOCK,
+    sent: 32,
+    others: 1,
+};
+
+/// So many modules, of which the last is sent.
+#[derive(Clone, Copy)]
+struct Carousel {
+    modules: usize,
+    size: Size,
+}
+
 /// What is measured.
 struct Kind {
     name: &'static str,
+    carousel: Carousel,
     fate: Fate,
     sections: Vec<Vec<u8>>,
 }
@@ -41,73 +67,81 @@ struct Started<R> {
 /// Measures each kind of step and prints its line, or tells what differed.
 pub fn measure() -> Result<(), String> {
     println!(
-        "Steps: nanoseconds of one call, best of {ROUNDS} rounds of {SENT} each, in turn. Blocks of {BLOCK} bytes of the last module, \
-         from a copy of the\nrecord that is not measured; an image of {ROOM}."
+        "Steps: nanoseconds of one call, best of {ROUNDS} rounds each, in turn. Blocks of the last module, {} of {} bytes or {} of {}, from a\n\
+         copy of the record that is not measured; an image of {ROOM}.",
+        SMALL.sent, SMALL.block, LARGE.sent, LARGE.block
     );
     println!(
         "{:<16}{:>10}{:>8}{:>12}{:>16}{:>8}",
-        "step", "modules", "bytes", "ours ns", "baseline ns", "ratio"
+        "step", "modules", "bytes", "ours ns", "baseline ns", "times"
     );
     for modules in MODULES {
-        let announcement = announcement(modules);
         for kind in kinds(modules) {
-            line(modules, &announcement, &kind)?;
+            line(&kind)?;
         }
     }
     Ok(())
 }
 
-/// So many modules, of which the last is sent.
-fn announcement(modules: usize) -> Vec<u8> {
-    let module = |place: usize| {
-        let blocks = if place + 1 == modules { SENT } else { OTHERS };
-        Module {
-            number: place as u16,
-            size: (blocks * BLOCK) as u32,
-            version: VERSION,
-        }
-    };
-    let modules: Vec<_> = (0..modules).map(module).collect();
-    Announcement::new(DOWNLOAD, BLOCK as u16, &modules).bytes()
+impl Carousel {
+    fn announcement(self) -> Vec<u8> {
+        let size = self.size;
+        let module = |place: usize| {
+            let last = place + 1 == self.modules;
+            let blocks = if last { size.sent } else { size.others };
+            Module {
+                number: place as u16,
+                size: (blocks * size.block) as u32,
+                version: VERSION,
+            }
+        };
+        let modules: Vec<_> = (0..self.modules).map(module).collect();
+        Announcement::new(DOWNLOAD, size.block as u16, &modules).bytes()
+    }
+
+    /// The blocks of the last module, in this version.
+    fn blocks(self, version: u8) -> Vec<Vec<u8>> {
+        let last = self.modules as u16 - 1;
+        let block = |number: usize| {
+            let data = vec![number as u8 ^ 0x5A; self.size.block];
+            make::block(DOWNLOAD, last, version, number as u16, &data)
+        };
+        (0..self.size.sent).map(block).collect()
+    }
 }
 
-/// The blocks of the last module, in this version.
-fn blocks(modules: usize, version: u8) -> Vec<Vec<u8>> {
-    let last = modules as u16 - 1;
-    let block = |number: usize| {
-        let data = [number as u8 ^ 0x5A; BLOCK];
-        Block::new(DOWNLOAD, last, version, number as u16, &data).bytes()
-    };
-    (0..SENT).map(block).collect()
-}
-
-fn kinds(modules: usize) -> [Kind; 4] {
-    let (good, old) = (blocks(modules, VERSION), blocks(modules, VERSION + 1));
+/// Small blocks of every fate; large ones accepted.
+fn kinds(modules: usize) -> [Kind; 6] {
+    let [small, large] = [SMALL, LARGE].map(|size| Carousel { modules, size });
+    let (good, old) = (small.blocks(VERSION), small.blocks(VERSION + 1));
     let mut damaged = good.clone();
     for section in &mut damaged {
         let last = section.len() - 1;
         section[last] ^= 1;
     }
-    let kind = |name, fate, sections| Kind {
+    let kind = |name, carousel, fate, sections| Kind {
         name,
+        carousel,
         fate,
         sections,
     };
     [
-        kind("stored", Fate::Stored, good.clone()),
-        kind("repeated", Fate::Repeated, good),
-        kind("refused with 14", Fate::OtherVersion, old),
-        kind("refused with 5", Fate::BadCrc, damaged),
+        kind("stored", small, Fate::Stored, good.clone()),
+        kind("repeated", small, Fate::Repeated, good),
+        kind("refused with 14", small, Fate::Refused(14), old),
+        kind("refused with 5", small, Fate::Refused(5), damaged),
+        kind("stored", large, Fate::Stored, large.blocks(VERSION)),
+        kind("repeated", large, Fate::Repeated, large.blocks(VERSION)),
     ]
 }
 
 impl<R: Receiver> Started<R> {
     /// Nothing of this is measured.
-    fn new(modules: usize, announcement: &[u8]) -> Started<R> {
+    fn new(carousel: Carousel) -> Started<R> {
         let (mut record, mut image) = (R::start(), vec![0; ROOM]);
-        record.step(announcement, &mut image);
+        record.step(&carousel.announcement(), &mut image);
         let fresh = record;
-        for section in blocks(modules, VERSION) {
+        for section in carousel.blocks(VERSION) {
             record.step(&section, &mut image);
         }
         Started {
@@ -132,30 +166,31 @@ impl<R: Receiver> Started<R> {
         (black_box(met), record)
     }
 
-    /// Of one step, in the best round.
-    fn nanoseconds(&self) -> f64 {
-        self.best.as_nanos() as f64 / SENT as f64
+    /// Of one step, in the best round of so many.
+    fn nanoseconds(&self, steps: usize) -> f64 {
+        self.best.as_nanos() as f64 / steps as f64
     }
 }
 
-fn line(modules: usize, announcement: &[u8], kind: &Kind) -> Result<(), String> {
-    let mut ours = Started::<nebosvar::Record>::new(modules, announcement);
-    let mut theirs = Started::<baseline::Record>::new(modules, announcement);
+fn line(kind: &Kind) -> Result<(), String> {
+    let (name, carousel, steps) = (kind.name, kind.carousel, kind.sections.len());
+    let (modules, length) = (carousel.modules, kind.sections[0].len());
+    let mut ours = Started::<nebosvar::Record>::new(carousel);
+    let mut theirs = Started::<baseline::Record>::new(carousel);
     for _ in 0..ROUNDS {
         let (met, record) = ours.round(kind);
         let (their_met, their_record) = theirs.round(kind);
         let records = compare::pair::theirs(&record) == their_record;
-        if [met, their_met] != [SENT; 2] || !records || ours.image != theirs.image {
-            let name = kind.name;
-            return Err(format!("{name}, {modules} modules: the steps differ"));
+        if [met, their_met] != [steps; 2] || !records || ours.image != theirs.image {
+            return Err(format!(
+                "{name}, {modules} modules, {length} bytes: the steps differ"
+            ));
         }
     }
-    let (best, their_best) = (ours.nanoseconds(), theirs.nanoseconds());
+    let (best, their_best) = (ours.nanoseconds(steps), theirs.nanoseconds(steps));
     println!(
-        "{:<16}{modules:>10}{:>8}{best:>12.0}{their_best:>16.0}{:>8.2}",
-        kind.name,
-        kind.sections[0].len(),
-        their_best / best
+        "{name:<16}{modules:>10}{length:>8}{best:>12.0}{their_best:>16.0}{:>8.2}",
+        best / their_best
     );
     Ok(())
 }
@@ -167,13 +202,27 @@ mod tests {
     #[test]
     fn every_step_is_what_it_is_called() {
         for modules in MODULES {
-            let announcement = announcement(modules);
             for kind in kinds(modules) {
-                let mut ours = Started::<nebosvar::Record>::new(modules, &announcement);
-                let mut theirs = Started::<baseline::Record>::new(modules, &announcement);
-                assert_eq!(ours.round(&kind).0, SENT, "{}", kind.name);
-                assert_eq!(theirs.round(&kind).0, SENT, "{}", kind.name);
+                let mut ours = Started::<nebosvar::Record>::new(kind.carousel);
+                let mut theirs = Started::<baseline::Record>::new(kind.carousel);
+                let steps = kind.sections.len();
+                assert_eq!(ours.round(&kind).0, steps, "{}", kind.name);
+                assert_eq!(theirs.round(&kind).0, steps, "{}", kind.name);
             }
+        }
+    }
+
+    #[test]
+    fn sections_of_both_lengths_are_stored_and_repeated() {
+        for modules in MODULES {
+            let lengths = |name| {
+                let kinds = kinds(modules)
+                    .into_iter()
+                    .filter(move |kind| kind.name == name);
+                kinds.map(|kind| kind.sections[0].len()).collect::<Vec<_>>()
+            };
+            assert_eq!(lengths("stored"), [94, 4_096]);
+            assert_eq!(lengths("repeated"), [94, 4_096]);
         }
     }
 }

@@ -15,7 +15,7 @@ use Rattle.ait_body.proofs.Laws.Body.{is0}
 use Rattle.ait_descriptors.specs.Kinds.{application}
 use Rattle.ait_descriptors.specs.Descriptor.{descriptor}
 use Rattle.ait_descriptors.specs.Contents.{wellMade}
-use Rattle.ait_body.specs.Body.{commonLength, loopLength, commonLoop, applicationLoop, ownLoop, goodLoop, soleLoop, clauseOf, wellFormed, bodyMeets7, meets18, bodyTests, bodyRefusal, WellFormed}
+use Rattle.ait_body.specs.Body.{commonLength, loopLength, commonLoop, applicationLoop, ownLoop, goodLoop, soleLoop, wellFormed, bodyMeets7, meets18, bodyTests, bodyRefusal, WellFormed}
 
 module _ (b : List ℕ) where
   rising : RisingFrom 0 (bodyTests b)
@@ -60,7 +60,7 @@ module _ (b : List ℕ) where
 
   -- ACCEPTED EXACTLY WHEN WELL FORMED, WITH ONE 0x00 IN EACH APPLICATION
   pub accepted-exactly : (bodyRefusal b ≡ 0) ↔ (WellFormed b × (every (λ a. soleLoop (ownLoop a)) apps ≡ true))
-  unfolding bodyRefusal bodyMeets7 meets18 clauseOf
+  unfolding bodyRefusal bodyMeets7 meets18
   accepted-exactly = (there, back)
     where
       there : bodyRefusal b ≡ 0 → WellFormed b × (every (λ a. soleLoop (ownLoop a)) apps ≡ true)

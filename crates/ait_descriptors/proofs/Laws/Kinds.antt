@@ -14,6 +14,7 @@ use Rattle.wire.proofs.Laws.Frames.{framed-kind, framed-least, same-byte, same-
 use Rattle.wire.proofs.Laws.Counted.{counted-fits, counted-own, counted-all, ends-after}
 use Rattle.ait_descriptors.specs.declared.Kind.{Kind}
 use Rattle.ait_descriptors.specs.declared.Kind.the-variants.{Application, Descriptor, Profile, Label, Name, Base, Extension, Identifier}
+use Rattle.ait_descriptors.specs.Descriptor.{descriptor}
 use Rattle.ait_descriptors.specs.Kinds.{application, sizeOf}
 use Rattle.ait_descriptors.specs.Tag02.{extension, extensionsStart, extensionCount, base}
 
@@ -67,10 +68,13 @@ base-kind = record { fits = fits; own = own }
 pub application-kind : IsKind application
 application-kind = framed-kind 9 (λ h. twelveAt h 7)
 
+pub descriptor-kind : IsKind descriptor
+descriptor-kind = framed-kind 2 (λ h. byteAt h 1)
+
 pub kind-of : (kind : Kind) → IsKind (sizeOf kind)
 unfolding sizeOf
 kind-of Application = application-kind
-kind-of Descriptor = framed-kind 2 _
+kind-of Descriptor = descriptor-kind
 kind-of Profile = framed-kind 5 _
 kind-of Label = framed-kind 1 _
 kind-of Name = framed-kind 4 _

@@ -46,12 +46,12 @@ size-of : (c : tie.After-place-of) → moduleAt (announcedBy (from c .args .c)) 
 size-of c =
     let s = from c in
     ap (λ i. moduleAt (announcedBy (s .args .c)) i .size) (sym (c .place-of .ensures))
-    ∙ ap (λ (m : Listed). m .size) (says-module (s .args .c) (all-entries s) (few (c .before .before)) (c .place-of .result) (found c))
+    ∙ ap (λ (m : Listed). m .size) (says-module (s .args .c) (c .place-of .result) (found c))
 
 start-of : (c : tie.After-place-of) → getD (startsBy (from c .args .c)) (placeOf (announcedBy (from c .args .c)) (from c .args .number)) 0 ≡ entry c .start
 start-of c =
     let s = from c in
-    ap (λ i. getD (startsBy (s .args .c)) i 0) (sym (c .place-of .ensures)) ∙ says-start (s .args .c) (all-entries s) (few (c .before .before)) (c .place-of .result) (found c)
+    ap (λ i. getD (startsBy (s .args .c)) i 0) (sym (c .place-of .ensures)) ∙ says-start (s .args .c) (c .place-of .result) (found c)
 
 inside : (c : tie.After-place-of) → entry c .start + entry c .size ≤ length (from c .args .image .now)
 inside c =

@@ -29,11 +29,11 @@ take-map f zero xs = refl
 take-map f (suc n) [] = refl
 take-map {A} {B} f (suc n) (x ∷ xs) = ap (λ (r : List B). f x ∷ r) (take-map f n xs)
 
--- one module more of those that an array is filled with
-pub filled-next : (ms all : List Listed) (i : ℕ) (m : Listed) → i < length ms → i < length all → m ≡ getD all i noneListed → take i ms ≡ take i all
+-- one more of those that an array is filled with
+pub filled-next : {A : Type 0} (none : A) (ms all : List A) (i : ℕ) (m : A) → i < length ms → i < length all → m ≡ getD all i none → take i ms ≡ take i all
     → take (i + 1) (set ms i m) ≡ take (i + 1) all
-filled-next ms all i m h k e f =
-    rw (add-one i) (take-suc-set ms i m h ∙ ap (λ (xs : List Listed). xs ++ (m ∷ [])) f ∙ ap (λ (x : Listed). take i all ++ (x ∷ [])) e ∙ sym (take-suc all i noneListed k))
+filled-next {A} none ms all i m h k e f =
+    rw (add-one i) (take-suc-set ms i m h ∙ ap (λ (xs : List A). xs ++ (m ∷ [])) f ∙ ap (λ (x : A). take i all ++ (x ∷ [])) e ∙ sym (take-suc all i none k))
 
 module _ (ms : List Listed) (n : ℕ) where
   abbrev first : List Listed

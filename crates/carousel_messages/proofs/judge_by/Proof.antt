@@ -27,7 +27,8 @@ enum-known-checked-2 : tie.Need-enum-known-checked-2
 enum-known-checked-2 c = search needs
 
 -- what the check answered
-told : (c : tie.After-known-told2) → checkedBy (start-of-at-match-keys2 (c .before .before) .args .register) Carousel (start-of-at-match-keys2 (c .before .before) .args .s .now) ≡ Accepted (c .before .checked2 .given .0 .0)
+told : (c : tie.After-known-told2) → checkedBy (start-of-at-match-keys2 (c .before .before) .args .register) Carousel
+    (start-of-at-match-keys2 (c .before .before) .args .s .now) ≡ Accepted (c .before .checked2 .given .0 .0)
 told c = sym (c .before .before .before .check-by .ensures .0) ∙ c .before .checked2 .given .1
 
 long : (c : tie.After-known-told2) → 12 ≤ length (start-of-at-match-keys2 (c .before .before) .args .s .now)

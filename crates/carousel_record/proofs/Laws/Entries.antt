@@ -1,12 +1,13 @@
 -- The record's first n entries one at a time, as the loops over them take them.
 use Prim.Native.Nat.{ℕ, suc, _+_, _*_, _≤_, _<_}
-use mathlib.Core.Path.{_≡_, ap, _∙_}
-use mathlib.Core.Bool.{true, false}
+use mathlib.Core.Path.{_≡_, refl, ap, _∙_}
+use mathlib.Core.Bool.{true, false, cond}
 use mathlib.Core.List.{List, [], _∷_, map}
 use native.Mathlib.Numerals.{add-one}
 use native.Mathlib.Omega.{arith}
 use lib.ListN.{length, getD, take, drop, length-map, length-take, drop-of-length-le, List·getD-map}
 use lib.Seq.{drop-cons, getD-take, drop-drop}
+use lib.Dec.{eqb}
 use borrow.Author.Tests.{eq-eqb, ne-eqb}
 use Rattle.carousel_messages.specs.declared.Listed.{Listed}
 use Rattle.carousel_record.specs.declared.Module.{Module}
@@ -14,8 +15,8 @@ use Rattle.carousel_messages.proofs.Laws.Limits.{take-map}
 use Rattle.carousel_record.specs.declared.Carousel.{Carousel}
 use Rattle.carousel_record.specs.Blocks.{blocksOf}
 use Rattle.carousel_record.specs.Marks.{moduleWords, clearFrom, marksWithin}
-use Rattle.carousel_messages.specs.Heard.{sizesOf}
-use Rattle.carousel_record.specs.Record.{listedIn, startIn, announcedBy, sums, sameNumbers, unused, isUnused, allUnused}
+use Rattle.carousel_messages.specs.Heard.{sizesOf, placeIn}
+use Rattle.carousel_record.specs.Record.{listedIn, startIn, numberIn, placeAmong, announcedBy, sums, sameNumbers, unused, isUnused, allUnused}
 
 module _ (ms : List Module) (n : ℕ) (h : n ≤ length ms) where
   abbrev listed : List Listed
@@ -77,6 +78,34 @@ module _ (ms : List Module) (n : ℕ) (h : n ≤ length ms) where
     pub marks-done : (bs : ℕ) (ws : List ℕ) → marksWithin moduleWords (map (λ z. blocksOf bs z) (sizesOf (drop i listed))) ws ≡ clearFrom 0 ws
     unfolding marksWithin
     marks-done bs ws = rw (none-left listedIn i l)
+
+-- the place of a number among the first n of some: the one here is it, or is not, or there is none left
+module _ (ns : List ℕ) (n i k : ℕ) where
+  among-here : i < n → i < length ns → drop i (take n ns) ≡ getD ns i 0 ∷ drop (i + 1) (take n ns)
+  among-here l h =
+      let m = length-take n ns in
+      rw (add-one i) (drop-cons (take n ns) i 0 (omega arith) ∙ ap (λ (x : ℕ). x ∷ drop (suc i) (take n ns)) (getD-take n ns i 0 l))
+
+  pub among-hit : i < n → i < length ns → getD ns i 0 ≡ k → placeAmong k (drop i (take n ns)) ≡ 0
+  unfolding placeAmong
+  among-hit l h e = rw (among-here l h, eq-eqb (getD ns i 0) k e)
+
+  pub among-next : i < n → i < length ns → (getD ns i 0 ≡ k → ⊥) → placeAmong k (drop i (take n ns)) ≡ suc (placeAmong k (drop (i + 1) (take n ns)))
+  unfolding placeAmong
+  among-next l h e = rw (among-here l h, ne-eqb (getD ns i 0) k e)
+
+  pub among-done : length (take n ns) ≤ i → placeAmong k (drop i (take n ns)) ≡ 0
+  unfolding placeAmong
+  among-done l = rw (drop-of-length-le (take n ns) l)
+
+-- and among the numbers of entries it is the module's place
+pub among-is : (k : ℕ) (ms : List Module) → placeAmong k (map numberIn ms) ≡ placeIn k (map listedIn ms)
+unfolding placeAmong placeIn
+among-is k [] = refl
+among-is k (m ∷ ms) = ap (λ (x : ℕ). cond (eqb (m .number) k) 0 (suc x)) (among-is k ms)
+
+pub among-entries : (k n : ℕ) (ms : List Module) → placeAmong k (take n (map numberIn ms)) ≡ placeIn k (map listedIn (take n ms))
+among-entries k n ms = ap (placeAmong k) (take-map numberIn n ms) ∙ among-is k (take n ms)
 
 -- the entries in use, as announced modules, are what the record says
 pub said-by : (c : Carousel) (ls : List Listed) → ls ≡ map listedIn (c .modules) → take (c .count) ls ≡ announcedBy c .modules

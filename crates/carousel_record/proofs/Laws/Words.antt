@@ -44,7 +44,7 @@ module _ (ws : List ℕ) (i n : ℕ) where
   word-done l = rw (drop-of-length-le ws l)
 
 -- words taken together: nothing is set in two of them exactly where nothing is in either
-or-none : (a b : ℕ) → eqb (bitOr a b) 0 ≡ (eqb a 0 && eqb b 0)
+pub or-none : (a b : ℕ) → eqb (bitOr a b) 0 ≡ (eqb a 0 && eqb b 0)
 or-none a b = go (eqb a 0) refl
   where
     go : (t : Bool) → eqb a 0 ≡ t → eqb (bitOr a b) 0 ≡ (t && eqb b 0)

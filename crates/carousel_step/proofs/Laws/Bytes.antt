@@ -1,13 +1,16 @@
 -- Two lists of numbers, or of modules, compared one place at a time.
 use Prim.Native.Nat.{ℕ, suc, _+_, _≤_, _<_}
-use mathlib.Core.Path.{_≡_, refl, ap}
+use mathlib.Core.Path.{_≡_, refl, sym, ap, _∙_}
 use mathlib.Core.Bool.{Bool, true, false, _&&_}
 use mathlib.Core.List.{List, [], _∷_}
 use native.Mathlib.Numerals.{add-one}
+use native.Mathlib.Omega.{arith}
 use lib.Dec.{eqb}
 use lib.ListN.{length, getD, drop, drop-of-length-le}
 use lib.Seq.{drop-cons}
-use borrow.Author.Tests.{eq-eqb, ne-eqb}
+use borrow.Author.Tests.{eq-eqb, ne-eqb, eqb-true, eqb-false}
+use lib.Bits.{bitOr, bitXor, xor-self, xor-add-and, and-le-l, and-le-r}
+use Rattle.carousel_record.proofs.Laws.Words.{or-none}
 use Rattle.carousel_messages.specs.declared.Listed.{Listed}
 use Rattle.carousel_record.specs.Record.{sameNumbers}
 use Rattle.carousel_step.specs.Step.{sameModules}
@@ -31,15 +34,34 @@ modules-lengths [] (y ∷ ys) h = refl
 modules-lengths (x ∷ xs) [] h = refl
 modules-lengths (x ∷ xs) (y ∷ ys) h = rw (modules-lengths xs ys (λ e. h (ap suc e))) (fails (eqb (x .number) (y .number) && eqb (x .size) (y .size) && eqb (x .version) (y .version)))
 
+-- two numbers differ in no bit exactly where they are the same
+xor-none : (a b : ℕ) → eqb (bitXor a b) 0 ≡ eqb a b
+xor-none a b = go (eqb a b) refl
+  where
+    go : (t : Bool) → eqb a b ≡ t → eqb (bitXor a b) 0 ≡ t
+    go true e = eq-eqb _ _ (ap (bitXor a) (sym (eqb-true a b e)) ∙ xor-self a)
+    go false e = ne-eqb (bitXor a b) 0 (λ z. let p = xor-add-and a b in let q = and-le-l a b in let r = and-le-r a b in eqb-false a b e (omega arith))
+
 module _ (xs ys : List ℕ) (i : ℕ) where
   pub bytes-done : length xs ≤ i → length ys ≤ i → sameNumbers (drop i xs) (drop i ys) ≡ true
   unfolding sameNumbers
   bytes-done h k = rw (drop-of-length-le xs h, drop-of-length-le ys k)
 
-  pub bytes-next : i < length xs → i < length ys → getD xs i 0 ≡ getD ys i 0 → sameNumbers (drop (i + 1) xs) (drop (i + 1) ys) ≡ sameNumbers (drop i xs) (drop i ys)
+  -- the differences so far in one, `all`, and the rest
+  pub mixed-next : (all : ℕ) → i < length xs → i < length ys
+      → (eqb (bitOr all (bitXor (getD xs i 0) (getD ys i 0))) 0 && sameNumbers (drop (i + 1) xs) (drop (i + 1) ys)) ≡ (eqb all 0 && sameNumbers (drop i xs) (drop i ys))
   unfolding sameNumbers
-  bytes-next h k e = rw (add-one i, drop-cons xs i 0 h, drop-cons ys i 0 k, eq-eqb _ _ e)
+  mixed-next all h k =
+      rw (add-one i, drop-cons xs i 0 h, drop-cons ys i 0 k, or-none all (bitXor (getD xs i 0) (getD ys i 0)), xor-none (getD xs i 0) (getD ys i 0)) (grouped (eqb all 0))
+    where
+      grouped : (t : Bool) → (t && eqb (getD xs i 0) (getD ys i 0) && sameNumbers (drop (suc i) xs) (drop (suc i) ys))
+          ≡ (t && (eqb (getD xs i 0) (getD ys i 0) && sameNumbers (drop (suc i) xs) (drop (suc i) ys)))
+      grouped true = refl
+      grouped false = refl
 
-  pub bytes-off : i < length xs → i < length ys → (getD xs i 0 ≡ getD ys i 0 → ⊥) → sameNumbers (drop i xs) (drop i ys) ≡ false
-  unfolding sameNumbers
-  bytes-off h k e = rw (drop-cons xs i 0 h, drop-cons ys i 0 k, ne-eqb _ _ e)
+  pub mixed-done : (all : ℕ) → length xs ≤ i → length ys ≤ i → (eqb all 0 && sameNumbers (drop i xs) (drop i ys)) ≡ eqb all 0
+  mixed-done all h k = rw (bytes-done h k) (alone (eqb all 0))
+    where
+      alone : (t : Bool) → (t && true) ≡ t
+      alone true = refl
+      alone false = refl

@@ -1,12 +1,14 @@
 -- What a section comes to, from the facts that code learns on its ways.
-use Prim.Native.Nat.{ℕ, _≤_, _<_}
+use Prim.Native.Nat.{ℕ, _+_, _*_, _≤_, _<_}
 use mathlib.Core.Path.{_≡_, refl, ap, ap₂}
 use mathlib.Core.Bool.{Bool, true, false, not, cond, _&&_, _||_}
 use mathlib.Core.List.{List}
+use native.Mathlib.Omega.{arith}
 use lib.Dec.{eqb, ltb}
 use lib.ListN.{length, take, drop}
-use borrow.Author.Tests.{eq-eqb, ne-eqb, lt-ltb, le-ltb}
+use borrow.Author.Tests.{eq-eqb, ne-eqb, lt-ltb, le-ltb, ltb-true, not-false}
 use Rattle.wire.specs.Tests.{firstMet}
+use Rattle.wire.proofs.Laws.Order.{none-exactly}
 use Rattle.section.specs.declared.Refusal.{Refusal}
 use Rattle.section.specs.Answer.{refused}
 use Rattle.carousel_messages.specs.declared.Announcement.{Announcement}
@@ -15,78 +17,74 @@ use Rattle.carousel_messages.specs.declared.Judged.the-variants as judged
 use Rattle.carousel_messages.specs.Judged.{judgedOf}
 use Rattle.carousel_messages.specs.Heard.{Announced, Arrived, announcedIn, arrivedIn, spanOf, heardIn, heardOf}
 use Rattle.carousel_record.specs.declared.Carousel.{Carousel}
-use Rattle.carousel_record.specs.Marks.{markOf}
+use Rattle.carousel_record.specs.declared.Module.{Module}
+use Rattle.carousel_record.specs.declared.Head.{Head}
+use Rattle.carousel_record.specs.Blocks.{blocksOf, blockLengthOf}
+use Rattle.carousel_record.specs.Marks.{markOf, isMarked}
 use Rattle.carousel_record.specs.Record.{Record, recordOf, moduleAt, placeOf, bytesOf, blockCount, blockLength, received, blockAt, sameNumbers, ruledOf}
 use Rattle.carousel_step.specs.Step.{StepOutcome, refusing, new, same, repeated, stored, meets12, meets14, meets16, blockRefusal, bytesDiffer}
 use Rattle.carousel_step.specs.Step.{matched, sameAnnounced, onAnnounced, onArrived, onHeard, outcomeOf, imageAfter, returning, steppedOf}
 use Rattle.carousel_step.specs.Step.{imageOf}
-use Rattle.carousel_record.specs.Refusals.{meets13, meets15}
+use Rattle.carousel_record.specs.Refusals.{meets13}
+use Rattle.carousel_step.specs.Held.{heldTests, heldRefusal, putOutcome, heldOutcome}
 
--- 12 to 16, one after another
-module _ (a : Announced) (n : ℕ) (d : Arrived) where
-  pub is-12-none : length (a .modules) ≡ 0 → blockRefusal a n d ≡ 12
-  unfolding blockRefusal firstMet meets12
-  is-12-none e = rw (eq-eqb (length (a .modules)) 0 e)
+-- 12 to 16, one after another, by the head of a record and the entry that was found
+module _ (h : Head) (i : ℕ) (m : Module) (n : ℕ) (d : Arrived) where
+  pub is-12-none : h .count ≡ 0 → heldRefusal h i m n d ≡ 12
+  unfolding heldRefusal firstMet
+  is-12-none e = rw (eq-eqb (h .count) 0 e)
 
-  module _ (some : length (a .modules) ≡ 0 → ⊥) where
-    pub is-12 : (a .download ≡ d .download → ⊥) → blockRefusal a n d ≡ 12
-    unfolding blockRefusal firstMet meets12
-    is-12 e = rw (ne-eqb (length (a .modules)) 0 some, ne-eqb (a .download) (d .download) e)
+  module _ (some : h .count ≡ 0 → ⊥) where
+    pub is-12 : (h .download ≡ d .download → ⊥) → heldRefusal h i m n d ≡ 12
+    unfolding heldRefusal firstMet
+    is-12 e = rw (ne-eqb (h .count) 0 some, ne-eqb (h .download) (d .download) e)
 
-    module _ (its : a .download ≡ d .download) where
-      not-12 : meets12 a d ≡ false
-      unfolding meets12
-      not-12 = ap₂ (λ (x y : Bool). x || not y) (ne-eqb (length (a .modules)) 0 some) (eq-eqb (a .download) (d .download) its)
+    module _ (its : h .download ≡ d .download) where
+      not-12 : (eqb (h .count) 0 || not (eqb (h .download) (d .download))) ≡ false
+      not-12 = ap₂ (λ (x y : Bool). x || not y) (ne-eqb (h .count) 0 some) (eq-eqb (h .download) (d .download) its)
 
-      pub is-13 : length (a .modules) ≤ placeOf a (d .number) → blockRefusal a n d ≡ 13
-      unfolding blockRefusal firstMet meets13
-      is-13 e = rw (not-12, le-ltb (placeOf a (d .number)) (length (a .modules)) e)
+      pub is-13 : h .count ≤ i → heldRefusal h i m n d ≡ 13
+      unfolding heldRefusal firstMet
+      is-13 e = rw (not-12, le-ltb i (h .count) e)
 
-      module _ (found : placeOf a (d .number) < length (a .modules)) where
-        not-13 : meets13 a (d .number) ≡ false
-        unfolding meets13
-        not-13 = ap not (lt-ltb (placeOf a (d .number)) (length (a .modules)) found)
+      module _ (found : i < h .count) where
+        not-13 : not (ltb i (h .count)) ≡ false
+        not-13 = ap not (lt-ltb i (h .count) found)
 
-        yes-14 : (moduleAt a (placeOf a (d .number)) .version ≡ d .version → ⊥) → meets14 a d ≡ true
-        unfolding meets14
-        yes-14 e = ap not (ne-eqb (moduleAt a (placeOf a (d .number)) .version) (d .version) e)
+        pub is-14 : (m .version ≡ d .version → ⊥) → heldRefusal h i m n d ≡ 14
+        unfolding heldRefusal firstMet
+        is-14 e = rw (not-12, not-13, ne-eqb (m .version) (d .version) e)
 
-        pub is-14 : (moduleAt a (placeOf a (d .number)) .version ≡ d .version → ⊥) → blockRefusal a n d ≡ 14
-        unfolding blockRefusal firstMet
-        is-14 e = rw (not-12, not-13, yes-14 e)
+        module _ (version : m .version ≡ d .version) where
+          pub is-15 : n < h .bytes → heldRefusal h i m n d ≡ 15
+          unfolding heldRefusal firstMet
+          is-15 e = rw (not-12, not-13, eq-eqb (m .version) (d .version) version, lt-ltb n (h .bytes) e)
 
-        module _ (version : moduleAt a (placeOf a (d .number)) .version ≡ d .version) where
-          not-14 : meets14 a d ≡ false
-          unfolding meets14
-          not-14 = ap not (eq-eqb (moduleAt a (placeOf a (d .number)) .version) (d .version) version)
-
-          pub is-15 : n < bytesOf a → blockRefusal a n d ≡ 15
-          unfolding blockRefusal firstMet meets15
-          is-15 e = rw (not-12, not-13, not-14, lt-ltb n (bytesOf a) e)
-
-          module _ (room : bytesOf a ≤ n) where
-            not-15 : meets15 a n ≡ false
-            unfolding meets15
-            not-15 = le-ltb n (bytesOf a) room
-
+          module _ (room : h .bytes ≤ n) where
             abbrev fits : Bool
-            fits = ltb (d .block) (blockCount a (placeOf a (d .number))) && eqb (length (d .bytes)) (blockLength a (placeOf a (d .number)) (d .block))
+            fits = ltb (d .block) (blocksOf (h .«block_size») (m .size)) && eqb (length (d .bytes)) (blockLengthOf (h .«block_size») (m .size) (d .block))
 
             either-not : (t u : Bool) → (not t || not u) ≡ not (t && u)
             either-not true u = refl
             either-not false u = refl
 
-            its-16 : meets16 a d ≡ not fits
-            unfolding meets16
-            its-16 = either-not (ltb (d .block) (blockCount a (placeOf a (d .number)))) (eqb (length (d .bytes)) (blockLength a (placeOf a (d .number)) (d .block)))
+            its-16 : (not (ltb (d .block) (blocksOf (h .«block_size») (m .size))) || not (eqb (length (d .bytes)) (blockLengthOf (h .«block_size») (m .size) (d .block)))) ≡ not fits
+            its-16 = either-not (ltb (d .block) (blocksOf (h .«block_size») (m .size))) (eqb (length (d .bytes)) (blockLengthOf (h .«block_size») (m .size) (d .block)))
 
-            pub is-16 : fits ≡ false → blockRefusal a n d ≡ 16
-            unfolding blockRefusal firstMet
-            is-16 e = rw (not-12, not-13, not-14, not-15, its-16, e)
+            pub is-16 : fits ≡ false → heldRefusal h i m n d ≡ 16
+            unfolding heldRefusal firstMet
+            is-16 e = rw (not-12, not-13, eq-eqb (m .version) (d .version) version, le-ltb n (h .bytes) room, its-16, e)
 
-            pub is-matching : fits ≡ true → blockRefusal a n d ≡ 0
-            unfolding blockRefusal firstMet
-            is-matching e = rw (not-12, not-13, not-14, not-15, its-16, e)
+            pub is-matching : fits ≡ true → heldRefusal h i m n d ≡ 0
+            unfolding heldRefusal firstMet
+            is-matching e = rw (not-12, not-13, eq-eqb (m .version) (d .version) version, le-ltb n (h .bytes) room, its-16, e)
+
+-- so what none of them meets has its place among the counted ones
+pub held-found : (h : Head) (i : ℕ) (m : Module) (n : ℕ) (d : Arrived) → heldRefusal h i m n d ≡ 0 → i < h .count
+unfolding heldRefusal
+held-found h i m n d e =
+    let t = none-exactly (heldTests h i m n d) (λ z. omega arith, (λ z. omega arith, (λ z. omega arith, (λ z. omega arith, (λ z. omega arith, tt))))) .0 e in
+    ltb-true i (h .count) (not-false _ (t .1 .0))
 
 -- a matching block
 module _ (r : Record) (image : List ℕ) (i : ℕ) (d : Arrived) where
@@ -111,6 +109,37 @@ module _ (r : Record) (image : List ℕ) (d : Arrived) where
   pub arrived-good : blockRefusal (r .announced) (length image) d ≡ 0 → onArrived r image d ≡ matched r image (placeOf (r .announced) (d .number)) d
   unfolding onArrived
   arrived-good e = rw (eq-eqb (blockRefusal (r .announced) (length image) d) 0 e)
+
+-- where a block is put
+module _ (k at : ℕ) (ws image bytes : List ℕ) where
+  pub put-short : length image < at + length bytes → putOutcome k at ws image bytes ≡ refusing (refused 15)
+  unfolding putOutcome
+  put-short h = rw (lt-ltb (length image) (at + length bytes) h)
+
+  module _ (room : at + length bytes ≤ length image) where
+    pub put-clear : isMarked ws k ≡ false → putOutcome k at ws image bytes ≡ stored k at bytes
+    unfolding putOutcome
+    put-clear e = rw (le-ltb (length image) (at + length bytes) room, e)
+
+    module _ (marked : isMarked ws k ≡ true) where
+      pub put-same : sameNumbers (take (length bytes) (drop at image)) bytes ≡ true → putOutcome k at ws image bytes ≡ repeated
+      unfolding putOutcome
+      put-same e = rw (le-ltb (length image) (at + length bytes) room, marked, e)
+
+      pub put-other : sameNumbers (take (length bytes) (drop at image)) bytes ≡ false → putOutcome k at ws image bytes ≡ refusing (refused 17)
+      unfolding putOutcome
+      put-other e = rw (le-ltb (length image) (at + length bytes) room, marked, e)
+
+-- a block of a record that is held in parts
+module _ (h : Head) (i : ℕ) (m : Module) (ws image : List ℕ) (d : Arrived) where
+  pub held-bad : (n : ℕ) → heldRefusal h i m (length image) d ≡ n → (n ≡ 0 → ⊥) → heldOutcome h i m ws image d ≡ refusing (refused n)
+  unfolding heldOutcome
+  held-bad n e z = rw (e, ne-eqb n 0 z)
+
+  pub held-good : heldRefusal h i m (length image) d ≡ 0
+      → heldOutcome h i m ws image d ≡ putOutcome (markOf i (d .block)) (m .start + d .block * h .«block_size») ws image (d .bytes)
+  unfolding heldOutcome
+  held-good e = rw (eq-eqb (heldRefusal h i m (length image) d) 0 e)
 
 -- an announcement
 module _ (r : Record) (a : Announced) where

@@ -6,14 +6,19 @@ use mathlib.Core.List.{List}
 use lib.Dec.{eqb}
 use Rattle.wire.specs.Fields.{byteAt}
 use Rattle.section.specs.Header.{applicationTable}
-use Rattle.section.specs.Answer.{refused}
+use Rattle.section.specs.declared.Checked.{Checked}
+use Rattle.section.specs.declared.Checked.the-variants as checked
+use Rattle.section.specs.Answer.{refused, onChecked}
+use Rattle.ait_read.specs.declared.ReadAnswer.the-variants as reading
+use Rattle.ait_read.specs.Acceptance.{tableJudged}
+use Rattle.ait_read.specs.Answers.{readTable, readAnswer}
 use Rattle.carousel_record.specs.declared.Carousel.{Carousel}
 use Rattle.carousel_step.specs.declared.Answer.{Answer}
 use Rattle.carousel_step.specs.declared.Answer.the-variants as answer
 use Rattle.carousel_step.specs.Step.{steppedOf}
 use Rattle.receiver.specs.declared.Fate.{Fate}
 use Rattle.receiver.specs.declared.Fate.the-variants as fate
-use Rattle.receiver.specs.Run.{tableFate, carouselFate, givenOf}
+use Rattle.receiver.specs.Run.{readFate, tableFate, judgedFate, carouselFate, givenOf}
 
 -- a table's is the reading's, every other's the step's
 module _ (c : Carousel) (s image : List ℕ) where
@@ -24,6 +29,15 @@ module _ (c : Carousel) (s image : List ℕ) where
   pub fate-other : eqb (byteAt s 0) applicationTable ≡ false → givenOf c s image .fate ≡ carouselFate (steppedOf c s image .answer)
   unfolding givenOf
   fate-other e = rw e
+
+-- a table's fate needs no more than its judging
+pub fate-judged : (s : List ℕ) → judgedFate (tableJudged s) ≡ tableFate s
+unfolding judgedFate readFate readAnswer
+fate-judged s = go (tableJudged s)
+  where
+    go : (x : Checked) → judgedFate x ≡ readFate (onChecked x (λ r. reading.Refused r) (λ h. reading.Accepted (readTable h s)))
+    go (checked.Refused r) = refl
+    go (checked.Accepted h) = refl
 
 -- no two answers of the carousel have one fate
 abbrev answerIn : Fate → Answer

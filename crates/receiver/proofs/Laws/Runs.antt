@@ -105,14 +105,15 @@ pub ran-is : (c : Carousel) (s image : List ℕ) (budget : ℕ) (d : Carousel) (
 ran-is c s image budget d l t p x e =
     (ap (λ (o : RunOutcome). record { passage = record { taken = o .taken; passed = o .passed; stop = o .stop }; state = o .state }) (sym e), ap (λ (o : RunOutcome). o .image) (sym e))
 
--- the loop's turn, from what code has in hand
-pub turned : (stretch image : List ℕ) (d : Carousel) (t p budget n : ℕ) (g : Given) (l part : List ℕ) → part ≡ take n (drop p stretch) → g ≡ givenOf d part image → l ≡ imageGiven d part image
+-- the loop's turn, from what code has in hand: the record x and the image l after the section `part`
+pub turned : (stretch image : List ℕ) (d : Carousel) (t p budget n : ℕ) (x : Carousel) (l part : List ℕ) → part ≡ take n (drop p stretch)
+    → x ≡ givenOf d part image .state → l ≡ imageGiven d part image
     → n ≡ wholeAt (drop p stretch) → (n ≡ 0 → ⊥) → t < budget
-    → ahead (t + 1) (p + n) (runs (budget - (t + 1)) (g .state) (drop (p + n) stretch) l) ≡ ahead t p (runs (budget - t) d (drop p stretch) image)
-turned stretch image d t p budget n g l part e f h w z b =
+    → ahead (t + 1) (p + n) (runs (budget - (t + 1)) x (drop (p + n) stretch) l) ≡ ahead t p (runs (budget - t) d (drop p stretch) image)
+turned stretch image d t p budget n x l part e f h w z b =
     let k : budget - (t + 1) ≡ budget - t - 1 = omega arith in
     let q = turn stretch image d t p (budget - t) n w z (omega arith) in
-    ap (λ (m : ℕ). ahead (t + 1) (p + n) (runs m (g .state) (drop (p + n) stretch) l)) k
-    ∙ ap₂ (λ (c : Carousel) (i : List ℕ). ahead (t + 1) (p + n) (runs (budget - t - 1) c (drop (p + n) stretch) i)) (ap (λ (x : Given). x .state) (f ∙ ap (λ (x : List ℕ). givenOf d x image) e))
+    ap (λ (m : ℕ). ahead (t + 1) (p + n) (runs m x (drop (p + n) stretch) l)) k
+    ∙ ap₂ (λ (c : Carousel) (i : List ℕ). ahead (t + 1) (p + n) (runs (budget - t - 1) c (drop (p + n) stretch) i)) (f ∙ ap (λ (s : List ℕ). givenOf d s image .state) e)
     (h ∙ ap (λ (x : List ℕ). imageGiven d x image) e)
     ∙ q

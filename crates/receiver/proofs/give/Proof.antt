@@ -1,10 +1,13 @@
 -- `receiver::give` meets its contract: a table leaves record and image; everything else is a step of the carousel.
-use mathlib.Core.Path.{_≡_, refl, sym, _∙_}
+use Prim.Native.Nat.{ℕ}
+use mathlib.Core.Path.{_≡_, refl, sym, ap, _∙_}
 use borrow.Author.Tests.{eq-eqb, ne-eqb}
 use Rattle.carousel_step.specs.declared.Stepped.{Stepped}
 use Rattle.receiver.specs.declared.Fate.{Fate}
 use Rattle.receiver.specs.declared.Given.{Given}
-use Rattle.receiver.specs.Run.{carouselFate, givenOf, imageGiven}
+use Rattle.receiver.specs.Run.{judgedFate, carouselFate, givenOf, imageGiven}
+use Rattle.ait_read.specs.Acceptance.{tableJudgedBy}
+use Rattle.receiver.proofs.Laws.Fates.{fate-judged}
 use borrow.Author.Needs.{needs}
 use Rattle.receiver.proofs.give.Statement.{statement}
 use Rattle.receiver.proofs.give.Tie as tie
@@ -23,14 +26,19 @@ stepped f r t e g = rw (e, g)
 byte-at-requires : tie.Need-byte-at-requires
 byte-at-requires c κs = search needs
 
+crc-of-requires : tie.Need-crc-of-requires
+crc-of-requires c κs = search needs
+
 table-fate-requires : tie.Need-table-fate-requires
 table-fate-requires c κs = search needs
 
 returns : tie.Need-returns
 unfolding givenOf imageGiven
 returns c =
-    let e = eq-eqb _ 0x74 (sym (c .before .before .byte-at .ensures .0) ∙ c .before .if1 .taken) in
-    rw (e, c .table-fate .ensures) (refl, refl)
+    let k = c .before .before in
+    let e = eq-eqb _ 0x74 (sym (k .before .byte-at .ensures .0) ∙ k .if1 .taken) in
+    let s = k .before .before .before .before .args .s .now in
+    rw (e, c .table-fate .ensures ∙ ap (λ (g : ℕ). judgedFate (tableJudgedBy g s)) (c .before .crc-of .ensures) ∙ fate-judged s) (refl, refl)
 
 step-requires : tie.Need-step-requires
 step-requires c κs = search needs
@@ -54,6 +62,7 @@ give-spec =
     tie.close
     (tie.spec
     byte-at-requires
+    crc-of-requires
     table-fate-requires
     returns
     step-requires

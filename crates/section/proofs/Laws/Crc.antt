@@ -57,12 +57,12 @@ bit-lt r d = go (eqb (r / 2 ^ 31) d)
     go true = omega arith
     go false = xor-lt 32 (r * 2 % 2 ^ 32) generator (omega arith) (lit< tt)
 
-bits-lt : (n b r : ℕ) → r < 2 ^ 32 → crcBits n b r < 2 ^ 32
+pub bits-lt : (n b r : ℕ) → r < 2 ^ 32 → crcBits n b r < 2 ^ 32
 unfolding crcBits
 bits-lt zero b r h = h
 bits-lt (suc n) b r h = bits-lt n b (crcBit r (b / 2 ^ n % 2)) (bit-lt r (b / 2 ^ n % 2))
 
-from-lt : (s : List ℕ) (r : ℕ) → r < 2 ^ 32 → crcFrom r s < 2 ^ 32
+pub from-lt : (s : List ℕ) (r : ℕ) → r < 2 ^ 32 → crcFrom r s < 2 ^ 32
 unfolding crcFrom
 from-lt [] r h = h
 from-lt (b ∷ s) r h = from-lt s (crcByte r b) (bits-lt 8 b r h)
@@ -88,12 +88,12 @@ own-bits (suc n) k r e =
     let u : crcBit (r * 2 ^ k % 2 ^ 32) (b / 2 ^ n % 2) ≡ r * 2 ^ suc k % 2 ^ 32 = bit-same (r * 2 ^ k % 2 ^ 32) (b / 2 ^ n % 2) (own-top n k r (omega arith)) ∙ omega arith in
     ap (crcBits n b) u ∙ own-bits n (suc k) r (omega arith)
 
-own-byte : (r b : ℕ) → r < 2 ^ 32 → b ≡ r / 2 ^ 24 → crcByte r b ≡ r * 256 % 2 ^ 32
+pub own-byte : (r b : ℕ) → r < 2 ^ 32 → b ≡ r / 2 ^ 24 → crcByte r b ≡ r * 256 % 2 ^ 32
 own-byte r b h e =
     let f : r ≡ r * 2 ^ 0 % 2 ^ 32 = omega arith in
     ap (λ (x : ℕ). crcBits 8 x r) e ∙ ap (crcBits 8 (r / 2 ^ 24)) f ∙ own-bits 8 0 r refl
 
-own-bytes : (r : ℕ) → r < 2 ^ 32 → crcFrom r (spelled 4 r) ≡ 0
+pub own-bytes : (r : ℕ) → r < 2 ^ 32 → crcFrom r (spelled 4 r) ≡ 0
 unfolding crcFrom spelled
 own-bytes r h =
     let r₁ : ℕ = r * 256 % 2 ^ 32 in

@@ -5,14 +5,14 @@ use borrow.Author.Needs.{needs}
 use Rattle.ait_read.proofs.acceptance.judge.Statement.{statement}
 use Rattle.ait_read.proofs.acceptance.judge.Tie as tie
 
-crc-requires : tie.Need-crc-requires
-crc-requires c κs = search needs
+crc-of-requires : tie.Need-crc-of-requires
+crc-of-requires c κs = search needs
 
 judge-by-requires : tie.Need-judge-by-requires
 judge-by-requires c κs = search needs
 
 returns : tie.Need-returns
-returns c = c .judge-by .ensures ∙ ap (λ g. tableJudgedBy g (c .before .before .before .args .s .now)) (c .before .crc .ensures)
+returns c = c .judge-by .ensures ∙ ap (λ g. tableJudgedBy g (c .before .before .before .args .s .now)) (c .before .crc-of .ensures)
 
 pub judge-spec : {M : Type 1} → statement M
-judge-spec = tie.close (tie.spec crc-requires judge-by-requires returns)
+judge-spec = tie.close (tie.spec crc-of-requires judge-by-requires returns)

@@ -28,7 +28,8 @@ enum-known-checked-2 : tie.Need-enum-known-checked-2
 enum-known-checked-2 c = search needs
 
 -- what the calls answered
-told : (c : tie.After-known-told2) → checkedBy (start-of-after-checked2 (c .before) .args .register) Application (start-of-after-checked2 (c .before) .args .s .now) ≡ Accepted (c .before .checked2 .given .0 .0)
+told : (c : tie.After-known-told2) → checkedBy (start-of-after-checked2 (c .before) .args .register) Application
+    (start-of-after-checked2 (c .before) .args .s .now) ≡ Accepted (c .before .checked2 .given .0 .0)
 told c = sym (c .before .before .before .check-by .ensures .0) ∙ c .before .checked2 .given .1
 
 long : (c : tie.After-known-told2) → 12 ≤ length (start-of-after-checked2 (c .before) .args .s .now)

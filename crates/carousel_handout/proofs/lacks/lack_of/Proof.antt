@@ -42,7 +42,7 @@ count s = says-count (s .args .c) (all-entries s) (few-modules s)
 -- the module's blocks, as code counts them
 blocks : (s : tie.Start) → blocksOf (s .args .c .«block_size») (getD (s .args .c .modules) (s .args .place) unused .size) ≡ blockCount (announcedBy (s .args .c)) (s .args .place)
 unfolding announcedBy
-blocks s = sym (ap (λ (m : Listed). blocksOf (s .args .c .«block_size») (m .size)) (says-module (s .args .c) (all-entries s) (few-modules s) (s .args .place) (s .pre .1)))
+blocks s = sym (ap (λ (m : Listed). blocksOf (s .args .c .«block_size») (m .size)) (says-module (s .args .c) (s .args .place) (s .pre .1)))
 
 -- are not too many
 most : (s : tie.Start) → blockCount (announcedBy (s .args .c)) (s .args .place) ≤ mostBlocks

@@ -6,7 +6,7 @@ use native.Mathlib.Omega.{arith}
 use lib.ListN.{length, take, length-replicate, length-set}
 use Rattle.carousel_messages.specs.declared.Listed.{Listed}
 use Rattle.carousel_messages.specs.Limits.{mostModules}
-use Rattle.carousel_messages.specs.Heard.{listOf}
+use Rattle.carousel_messages.specs.Heard.{noneListed, listOf}
 use Rattle.carousel_messages.proofs.Laws.Limits.{filled-next}
 use Rattle.carousel_messages.proofs.modules.read_modules.Statement.{statement}
 use Rattle.carousel_messages.proofs.modules.read_modules.Tie as tie
@@ -47,7 +47,7 @@ loop-again c =
     let m = c .module-at .result in (
       omega arith,
       length-set (l .loop .ms) i m ∙ l .loop .inv .1,
-      filled-next (l .loop .ms) list i m (omega arith) (omega (arith, s .pre .1)) (c .module-at .ensures) (l .loop .inv .2),
+      filled-next noneListed (l .loop .ms) list i m (omega arith) (omega (arith, s .pre .1)) (c .module-at .ensures) (l .loop .inv .2),
     )
 
 returns : tie.Need-returns Inv-loop μ-loop

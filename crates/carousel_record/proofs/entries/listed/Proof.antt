@@ -53,7 +53,7 @@ loop-again c =
     let i = l .loop .i in (
       omega arith,
       length-set (l .loop .ls) i _ ∙ l .loop .inv .1,
-      filled-next (l .loop .ls) (map listedIn ms) i _ (omega arith) (omega (arith, all s)) (sym (List·getD-map listedIn ms i unused)) (l .loop .inv .2),
+      filled-next noneListed (l .loop .ls) (map listedIn ms) i _ (omega arith) (omega (arith, all s)) (sym (List·getD-map listedIn ms i unused)) (l .loop .inv .2),
     )
 
 returns : tie.Need-returns Inv-loop μ-loop

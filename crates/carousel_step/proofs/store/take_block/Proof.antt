@@ -1,85 +1,96 @@
--- `carousel_step::store::take_block` meets its contract: what none of 12 to 16 meets has its place in the image, and is put there.
+-- `carousel_step::store::take_block` meets its contract: what none of 12 to 16 meets is put.
+use Prim.Native.Nat.{ℕ, _*_, _<_}
 use mathlib.Core.Path.{_≡_, refl, sym, _∙_}
 use native.Mathlib.Omega.{arith}
-use lib.ListN.{length, length-map}
+use native.Mathlib.Nat.{mul-le-mul-right}
+use lib.ListN.{length}
 use Rattle.carousel_messages.specs.Heard.{Arrived, arrivedIn}
-use Rattle.carousel_record.specs.Record.{Record, announcedBy, recordOf, placeOf}
-use Rattle.carousel_step.specs.Step.{blockRefusal}
-use Rattle.carousel_record.proofs.Laws.Rule.{Kept, kept, number-small, ruled-says, ruled-count}
-use Rattle.carousel_record.proofs.Laws.Says.{says-count}
-use Rattle.carousel_step.proofs.Laws.Outcomes.{arrived-bad, arrived-good}
-use Rattle.carousel_step.proofs.View.{Fits, fits, fits-in}
+use Rattle.carousel_step.specs.Held.{heldRefusal}
+use Rattle.carousel_step.proofs.Laws.Outcomes.{held-found, held-bad, held-good}
 use borrow.Author.Needs.{needs}
 use Rattle.carousel_step.proofs.store.take_block.Statement.{statement}
 use Rattle.carousel_step.proofs.store.take_block.Tie as tie
 
--- the places that stand before a place, by name
-abbrev start-of-else1 : tie.Else1 → tie.Start
-start-of-else1 c = c .before .before .before .before
-
--- the record, the block, and what is known at each place
-abbrev says : tie.Start → Record
-says s = recordOf (s .args .c)
-
+-- the block, and the places that stand before a place
 abbrev d : tie.Start → Arrived
 d s = arrivedIn (s .args .b) (s .args .bytes .now)
 
-count : (s : tie.Start) → length (announcedBy (s .args .c) .modules) ≡ s .args .c .count
-count s = says-count (s .args .c) (sym (length-map (s .args .c .modules) _) ∙ s .good .0 .1 .1 .1 .1 .1 .0 .1 .0 .1) (ruled-count (s .args .c) (s .pre))
+abbrev start-of-then1 : tie.Then1 → tie.Start
+start-of-then1 c = let k = c .before .before in k .before .before .before
 
-matches : (c : tie.Else1) → blockRefusal (announcedBy (c .before .before .before .before .args .c))
-    (length (c .before .before .before .before .args .image .now)) (d (c .before .before .before .before)) ≡ 0
+abbrev start-of-else1 : tie.Else1 → tie.Start
+start-of-else1 c = let k = c .before .before in k .before .before .before
+
+abbrev else1-of-after-struct-known3 : tie.After-struct-known3 → tie.Else1
+else1-of-after-struct-known3 c = c .before .before .before
+
+matches : (c : tie.Else1) → let s = start-of-else1 c in heldRefusal (s .args .h) (s .args .place) (s .args .m) (length (s .args .image .now)) (d s) ≡ 0
 matches c = sym (c .before .block-refusal .ensures) ∙ c .if1 .left
 
-its : (c : tie.Else1) → Fits (announcedBy (c .before .before .before .before .args .c)) (length (c .before .before .before .before .args .image .now)) (d (c .before .before .before .before))
-its c = fits _ _ _ (matches c)
+-- its place is one of those that are counted
+found : (c : tie.Else1) → let a = start-of-else1 c .args in a .place < a .h .count
+found c = let s = start-of-else1 c in let a = s .args in held-found (a .h) (a .place) (a .m) (length (a .image .now)) (d s) (matches c)
 
-keeping : (c : tie.Else1) → Kept (says (c .before .before .before .before))
-keeping c = let s = c .before .before .before .before in let u = its c .found in kept (says s) (omega arith) (ruled-says (s .args .c) (s .pre))
+-- its distance from its module's start: both factors are of 16 bits
+small-product : (x y : ℕ) → x < 65536 → y < 65536 → x * y < 4294967296
+small-product x y h k = let m = mul-le-mul-right {m = x} {n = 65535} y (omega arith) in omega arith
 
-place : (c : tie.After-place-of) → let s = start-of-else1 (c .before) in c .place-of .result ≡ placeOf (announcedBy (s .args .c)) (d s .number)
-unfolding arrivedIn
-place c = c .place-of .ensures
+distance : (c : tie.After-struct-known3) → let a = start-of-else1 (else1-of-after-struct-known3 c) .args in a .b .block * a .h .«block_size» < 4294967296
+distance c = small-product _ _ (c .before .before .struct-known .given .1 .1 .1 .0 .fits) (c .struct-known3 .given .1 .0 .fits)
 
 block-refusal-requires : tie.Need-block-refusal-requires
-block-refusal-requires c κs = ruled-count (c .before .before .args .c) (c .before .before .pre)
+block-refusal-requires c κs = search needs
 
 refuse-requires : tie.Need-refuse-requires
 refuse-requires c κs = search needs
 
 returns : tie.Need-returns
 returns c =
-    let b = c .before in
-    let s = b .before .before .before .before in
+    let s = start-of-then1 (c .before) in
+    let a = s .args in
     let e = c .before .before .block-refusal .ensures in
-    let o = arrived-bad (says s) (s .args .image .now) (d s) (λ z. c .before .if1 .taken (e ∙ z)) in
-    rw (o, c .refuse .ensures, e) (refl, refl)
+    let o = held-bad (a .h) (a .place) (a .m) (a .marks .now) (a .image .now) (d s) _ (sym e) (c .before .if1 .taken) in
+    rw o (c .refuse .ensures, refl, refl)
 
-place-of-requires : tie.Need-place-of-requires
-place-of-requires c κs = search needs
+cast-block : tie.Need-cast-block
+cast-block c = search needs
+
+cast-at : tie.Need-cast-at
+cast-at c = search needs
+
+cast-at-2 : tie.Need-cast-at-2
+cast-at-2 c = search needs
+
+mul-at : tie.Need-mul-at
+mul-at c = let m = distance c in omega arith
+
+add-at : tie.Need-add-at
+add-at c = let m = distance c in omega arith
+
+mul-put : tie.Need-mul-put
+mul-put c = let f = found (else1-of-after-struct-known3 c) in let k = c .struct-known3 .given .1 .1 .0 .fits in omega arith
+
+add-put : tie.Need-add-put
+add-put c = let f = found (else1-of-after-struct-known3 c) in let k = c .struct-known3 .given .1 .1 .0 .fits in omega arith
 
 put-requires : tie.Need-put-requires
-unfolding arrivedIn
-put-requires c κs =
-    let e = c .before .before in
-    let s = e .before .before .before .before in
-    let f = its e in
-    let k = keeping e in
-    let p = place (c .before) in
-    let n = count s in
-    let u = f .found in
-    (omega arith, ruled-count (s .args .c) (s .pre), number-small (says s) k _ _ (f .found) (f .within), rw p (fits-in (record { says = says s; image = s .args .image .now }) k (d s) f))
+put-requires c κs = search needs
 
 same-length : tie.Need-same-length
 same-length c = search needs
 
+same-length-2 : tie.Need-same-length-2
+same-length-2 c = search needs
+
 returns-2 : tie.Need-returns-2
+unfolding arrivedIn
 returns-2 c =
-    let p = c .before .before in
-    let e = p .before .before .before in
-    let s = e .before .before .before .before in
-    let o = arrived-good (says s) (s .args .image .now) (d s) (matches e) in
-    rw (o, ← place (p .before .before)) (p .put .ensures .0, p .put .ensures .1)
+    let p = c .before .before .before .before in
+    let e = else1-of-after-struct-known3 (p .before .before .before) in
+    let s = start-of-else1 e in
+    let a = s .args in
+    let q = p .put .ensures in
+    rw (held-good (a .h) (a .place) (a .m) (a .marks .now) (a .image .now) (d s) (matches e)) (q .0, q .1, q .2)
 
 pub take-block-spec : {M : Type 1} → statement M
 take-block-spec =
@@ -88,7 +99,14 @@ take-block-spec =
     block-refusal-requires
     refuse-requires
     returns
-    place-of-requires
+    cast-block
+    cast-at
+    cast-at-2
+    mul-at
+    add-at
+    mul-put
+    add-put
     put-requires
     same-length
+    same-length-2
     returns-2)

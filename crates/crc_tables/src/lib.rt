@@ -1,0 +1,115 @@
+// The CRC sixteen bytes at a time, by sixteen tables of 256 words that the caller lends: table k at
+// k * 256, in it for each byte the register that it leaves of a clear one when k clear bytes follow.
+//
+// A constant array is stored anew wherever it is named, so the tables are made once, by `tables`, in
+// a local of whoever checks sections, and lent from there. What `crc_by` answers is said for every
+// list that is lent (specs/By.antt); that by the tables of `tables` it is the CRC is `by-tables` of
+// proofs/Laws/Right.antt.
+mod make;
+
+ghost use mathlib.Core.Path.{_≡_};
+ghost use Prim.Native.Nat.{_<_, _≤_};
+ghost use lib.ListN.{length};
+ghost use Rattle.section.specs.Crc.{crcOf};
+ghost use Rattle.crc_tables.specs.By.{_⊕_, entryOf, four, eight, sixteen, ones, upTo7, upTo15, crcBy};
+pub use make::WORDS;
+pub use make::tables;
+
+// The register after all bytes of `s`, by these tables; by the CRC's own bits where they are too few.
+pub fn crc_by(tables: &[u32], s: &[u8]) -> u32
+    ensures { λ r. ⌜ r ≡ crcBy (now (tables .entry)) (now (s .entry)) ⌝ }
+{
+    if tables.len() < WORDS {
+        return section::crc(s);
+    }
+    let mut r: u32 = 0xFFFF_FFFF;
+    let mut i: usize = 0;
+    while 16 <= s.len() - i {
+        r = with_sixteen(tables, r, &s[i..]);
+        i += 16;
+    }
+    up_to_15(tables, r, &s[i..])
+}
+
+// The same by tables of its own: for one slice.
+pub fn crc_of(s: &[u8]) -> u32
+    ensures { λ r. ⌜ r ≡ crcOf (now (s .entry)) ⌝ }
+{
+    let t = tables();
+    crc_by(&t, s)
+}
+
+// The register `r` after the first sixteen bytes of `s`. What rests on `r` comes last: the other
+// entries are read before it is known.
+fn with_sixteen(t: &[u32], r: u32, s: &[u8]) -> u32
+    requires { ⌜ (4096 ≤ length (now t)) × (16 ≤ length (now s)) ⌝ }
+    ensures { λ x. ⌜ x ≡ sixteen (now (t .entry)) r (now (s .entry)) ⌝ }
+{
+    with_four(t, 8, 0, &s[4..])
+        ^ with_four(t, 4, 0, &s[8..])
+        ^ with_four(t, 0, 0, &s[12..])
+        ^ with_four(t, 12, r, s)
+}
+
+// The register `r` after all bytes of `s`, of which eight are taken at once where there are as many.
+fn up_to_15(t: &[u32], r: u32, s: &[u8]) -> u32
+    requires { ⌜ 4096 ≤ length (now t) ⌝ }
+    ensures { λ x. ⌜ x ≡ upTo15 (now (t .entry)) r (now (s .entry)) ⌝ }
+{
+    if s.len() < 8 {
+        return up_to_7(t, r, s);
+    }
+    up_to_7(t, with_eight(t, r, s), &s[8..])
+}
+
+// The register `r` after the first eight bytes of `s`.
+fn with_eight(t: &[u32], r: u32, s: &[u8]) -> u32
+    requires { ⌜ (4096 ≤ length (now t)) × (8 ≤ length (now s)) ⌝ }
+    ensures { λ x. ⌜ x ≡ eight (now (t .entry)) r (now (s .entry)) ⌝ }
+{
+    with_four(t, 0, 0, &s[4..]) ^ with_four(t, 4, r, s)
+}
+
+// The register `r` after all bytes of `s`, of which four are taken at once where there are as many.
+fn up_to_7(t: &[u32], r: u32, s: &[u8]) -> u32
+    requires { ⌜ 4096 ≤ length (now t) ⌝ }
+    ensures { λ x. ⌜ x ≡ upTo7 (now (t .entry)) r (now (s .entry)) ⌝ }
+{
+    if s.len() < 4 {
+        return with_ones(t, r, s);
+    }
+    with_ones(t, with_four(t, 0, r, s), &s[4..])
+}
+
+// The register `r` after the first four bytes of `s` and `k` clear ones.
+fn with_four(t: &[u32], k: usize, r: u32, s: &[u8]) -> u32
+    requires { ⌜ (k ≤ 12) × (4096 ≤ length (now t)) × (4 ≤ length (now s)) ⌝ }
+    ensures { λ x. ⌜ x ≡ four (now (t .entry)) k r (now (s .entry)) ⌝ }
+{
+    entry(t, k + 3, r >> 24, s[0])
+        ^ entry(t, k + 2, r >> 16, s[1])
+        ^ entry(t, k + 1, r >> 8, s[2])
+        ^ entry(t, k, r, s[3])
+}
+
+// The register `r` after all bytes of `s`, one after the other.
+fn with_ones(t: &[u32], r: u32, s: &[u8]) -> u32
+    requires { ⌜ 4096 ≤ length (now t) ⌝ }
+    ensures { λ x. ⌜ x ≡ ones (now (t .entry)) r (now (s .entry)) ⌝ }
+{
+    let mut x = r;
+    let mut i: usize = 0;
+    while i < s.len() {
+        x = (x << 8) ^ entry(t, 0, x >> 24, s[i]);
+        i += 1;
+    }
+    x
+}
+
+// The entry of table `k` at the low byte of `x` with `b` added without carry.
+fn entry(t: &[u32], k: usize, x: u32, b: u8) -> u32
+    requires { ⌜ (k < 16) × (4096 ≤ length (now t)) ⌝ }
+    ensures { λ y. ⌜ y ≡ entryOf (now (t .entry)) k (x ⊕ b) ⌝ }
+{
+    t[k * 256 + ((x as usize) ^ (b as usize)) % 256]
+}
