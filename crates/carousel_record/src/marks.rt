@@ -27,12 +27,13 @@ pub fn is_marked(words: &[u32], k: usize) -> bool
 pub fn set_mark(words: &mut [u32], k: usize)
     ensures { λ _. ⌜ now (words .exit) ≡ marksWith (now (words .entry)) k ⌝ }
 {
-    let w = k / 32;
-    if words.len() <= w {
+    let word = k / 32;
+    if words.len() <= word {
         return;
     }
     let bit = (k % 32) as u32;
-    words[w] = words[w] | (1u32 << bit);
+    let before = words[word];
+    words[word] = before | (1u32 << bit);
 }
 
 // Whether no mark from n on is set.

@@ -105,12 +105,13 @@ fn put(at: usize, k: usize, bytes: &[u8], marks: &mut [u32], image: &mut [u8]) -
 fn is_equal(a: &[u8], b: &[u8]) -> bool
     ensures { λ r. ⌜ r ≡ sameNumbers (now (a .entry)) (now (b .entry)) ⌝ }
 {
-    if a.len() != b.len() {
+    let n = a.len();
+    if n != b.len() {
         return false;
     }
     let mut all: u8 = 0;
     let mut i: usize = 0;
-    while i < a.len() {
+    while i < n {
         all |= a[i] ^ b[i];
         i += 1;
     }

@@ -9,6 +9,7 @@ use carousel_messages::MOST_MODULES;
 use carousel_messages::judge_by;
 use carousel_record::Carousel;
 use carousel_record::head_of;
+use carousel_record::is_ruled;
 use carousel_record::joined;
 use carousel_record::numbers_of;
 use carousel_record::place_in;
@@ -189,7 +190,8 @@ pub fn run(c: Carousel, stretch: &[u8], image: &mut [u8], budget: usize) -> Ran
     ensures { λ r. ⌜ (r ≡ ranOf c (now (stretch .entry)) (now (image .entry)) budget)
         × (now (image .exit) ≡ imageRan c (now (stretch .entry)) (now (image .entry)) budget) ⌝ }
 {
-    if !carousel_record::is_ruled(c) {
+    let ruled = is_ruled(c);
+    if !ruled {
         return ended(c, 0, 0, Stop::State);
     }
     let tables = crc_tables::tables();
@@ -318,7 +320,8 @@ fn hear(s: &[u8], register: u32) -> Judged
 fn give(c: Carousel, s: &[u8], image: &mut [u8]) -> Given
     ensures { λ r. ⌜ (r ≡ givenOf c (now (s .entry)) (now (image .entry))) × (now (image .exit) ≡ imageGiven c (now (s .entry)) (now (image .entry))) ⌝ }
 {
-    if wire::byte_at(s, 0) == section::APPLICATION_TABLE {
+    let table = wire::byte_at(s, 0);
+    if table == section::APPLICATION_TABLE {
         return Given {
             fate: table_fate(s, crc_tables::crc_of(s)),
             state: c,

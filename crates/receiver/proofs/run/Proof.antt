@@ -43,7 +43,7 @@ Whole h ms numbers marks =
     (numbers ≡ map numberIn ms) × (length numbers ≡ mostModules) × (h ≡ headOf (joinedOf h ms marks)) × (ruledOf (joinedOf h ms marks) ≡ true)
 
 abbrev Inv-loop : tie.InvT-loop
-Inv-loop stretch image₀ budget tables h₀ ms₀ numbers₀ marks₀ taken₀ passed₀ image h ms numbers marks taken passed =
+Inv-loop stretch image₀ budget kept tables h₀ ms₀ numbers₀ marks₀ taken₀ passed₀ image h ms numbers marks taken passed =
     (passed ≤ length stretch)
     × (taken ≤ budget)
     × (length image ≡ length image₀)
@@ -51,7 +51,7 @@ Inv-loop stretch image₀ budget tables h₀ ms₀ numbers₀ marks₀ taken₀ 
     × (ahead taken passed (runs (budget - taken) (joinedOf h ms marks) (drop passed stretch) image) ≡ runs budget (joinedOf h₀ ms₀ marks₀) stretch image₀)
 
 abbrev μ-loop : tie.MeasureT-loop
-μ-loop stretch image₀ budget tables h₀ ms₀ numbers₀ marks₀ taken₀ passed₀ image h ms numbers marks taken passed = budget - taken
+μ-loop stretch image₀ budget kept tables h₀ ms₀ numbers₀ marks₀ taken₀ passed₀ image h ms numbers marks taken passed = budget - taken
 
 -- the places that stand before a place, by name
 abbrev start-of-then1 : tie.Then1 Inv-loop μ-loop → tie.Start Inv-loop μ-loop
@@ -156,7 +156,8 @@ module _ (c : tie.After-hear Inv-loop μ-loop) (h : Head) (ms : List Module) (nu
   one-more : length l ≡ length (at .loop .image) → Whole h ms numbers marks → joinedOf h ms marks ≡ givenOf (held at) s (at .loop .image) .state → l ≡ imageGiven (held at) s (at .loop .image)
       → let a = start-of-loop at .args in
       let b = at .before in
-      Inv-loop (a .stretch .now) (a .image .now) (a .budget) (after-tables-of-after-marks b .tables .result) (b .before .before .before .head-of .result) (a .c .modules)
+      Inv-loop (a .stretch .now) (a .image .now) (a .budget) (else1-of-after-marks b .before .is-ruled .result)
+      (after-tables-of-after-marks b .tables .result) (b .before .before .before .head-of .result) (a .c .modules)
       (b .before .numbers-of .result) (a .c .marks) 0 0 l h ms numbers marks (at .loop .taken + 1) (at .loop .passed + w .whole-at .result)
   one-more same-length k e f =
       let a = start-of-loop at .args in (

@@ -15,17 +15,17 @@ returns c = sym (set-out (c .before .args .words .now) (c .before .args .k / 32)
 cast-bit : tie.Need-cast-bit
 cast-bit c = search needs
 
-mul-words : tie.Need-mul-words
-mul-words c = search needs
+mul-before : tie.Need-mul-before
+mul-before c = search needs
 
-slice-read-words : tie.Need-slice-read-words
-slice-read-words c = search needs
+slice-read-before : tie.Need-slice-read-before
+slice-read-before c = search needs
 
 shl-words : tie.Need-shl-words
 shl-words c = search needs
 
-mul-words-2 : tie.Need-mul-words-2
-mul-words-2 c = search needs
+mul-words : tie.Need-mul-words
+mul-words c = search needs
 
 slice-write-words : tie.Need-slice-write-words
 slice-write-words c = search needs
@@ -43,10 +43,10 @@ set-mark-spec =
     (tie.spec
     returns
     cast-bit
-    mul-words
-    slice-read-words
+    mul-before
+    slice-read-before
     shl-words
-    mul-words-2
+    mul-words
     slice-write-words
     same-length
     returns-2)

@@ -12,10 +12,10 @@ use Rattle.carousel_step.proofs.store.is_equal.Statement.{statement}
 use Rattle.carousel_step.proofs.store.is_equal.Tie as tie
 
 abbrev Inv-loop : tie.InvT-loop
-Inv-loop a b all₀ i₀ all i = (i ≤ length a) × (length a ≡ length b) × ((eqb all 0 && sameNumbers (drop i a) (drop i b)) ≡ sameNumbers a b)
+Inv-loop a b n all₀ i₀ all i = (i ≤ length a) × (length a ≡ length b) × ((eqb all 0 && sameNumbers (drop i a) (drop i b)) ≡ sameNumbers a b)
 
 abbrev μ-loop : tie.MeasureT-loop
-μ-loop a b all₀ i₀ all i = length a - i
+μ-loop a b n all₀ i₀ all i = length a - i
 
 returns : tie.Need-returns Inv-loop μ-loop
 returns c = sym (bytes-lengths _ _ (c .if1 .taken))
