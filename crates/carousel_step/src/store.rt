@@ -18,7 +18,7 @@ ghost use Rattle.carousel_record.specs.Record.{sameNumbers};
 ghost use Rattle.carousel_record.specs.Changes.{overwrite};
 ghost use Rattle.carousel_step.specs.declared.Answer.the-variants.{Refused};
 ghost use Rattle.carousel_step.specs.Step.{answerOf, imageAfter};
-ghost use Rattle.carousel_step.specs.Held.{heldRefusal, heldOutcome, putOutcome, marksAfter};
+ghost use Rattle.carousel_step.specs.Held.{heldOutcome, putOutcome, marksAfter};
 
 // A block of a section, for the module `m` that was found for it at a place: 12 to 17, "stored" or "repeated". The rule is not
 // checked: whoever takes many sections has checked it before.
@@ -35,39 +35,28 @@ pub fn take_block(
         × (now (marks .exit) ≡ marksAfter (now (marks .entry)) (heldOutcome h place m (now (marks .entry)) (now (image .entry)) (arrivedIn b (now (bytes .entry)))))
         × (now (image .exit) ≡ imageAfter (now (image .entry)) (heldOutcome h place m (now (marks .entry)) (now (image .entry)) (arrivedIn b (now (bytes .entry))))) ⌝ }
 {
-    let number = block_refusal(h, place, m, b, bytes, image.len());
-    if number != 0 {
-        return refuse(number);
-    }
-    let block = b.block as usize;
-    let at = m.start as usize + block * h.block_size as usize;
-    put(at, MOST_BLOCKS * place + block, bytes, marks, image)
-}
-
-// The lowest of 12 to 16 that meets a block, the image having `room` bytes; 0 where none does.
-fn block_refusal(h: Head, place: usize, m: Module, b: Block, bytes: &[u8], room: usize) -> u8
-    ensures { λ r. ⌜ r ≡ heldRefusal h place m room (arrivedIn b (now (bytes .entry))) ⌝ }
-{
     let n = h.count as usize;
     if n == 0 {
-        return 12;
+        return refuse(12);
     }
     if h.download != b.download {
-        return 12;
+        return refuse(12);
     }
     if n <= place {
-        return 13;
+        return refuse(13);
     }
     if m.version != b.version {
-        return 14;
+        return refuse(14);
     }
-    if room < h.bytes {
-        return 15;
+    if image.len() < h.bytes {
+        return refuse(15);
     }
-    if !is_block(h.block_size, m.size, b.block as usize, bytes.len()) {
-        return 16;
+    let block = b.block as usize;
+    if !is_block(h.block_size, m.size, block, bytes.len()) {
+        return refuse(16);
     }
-    0
+    let at = m.start as usize + block * h.block_size as usize;
+    put(at, MOST_BLOCKS * place + block, bytes, marks, image)
 }
 
 pub fn refuse(number: u8) -> Answer

@@ -3,12 +3,10 @@ use Prim.Native.Nat.{ℕ, _+_, _*_, _≤_, _<_}
 use mathlib.Core.Path.{_≡_, refl, ap, ap₂}
 use mathlib.Core.Bool.{Bool, true, false, not, cond, _&&_, _||_}
 use mathlib.Core.List.{List}
-use native.Mathlib.Omega.{arith}
 use lib.Dec.{eqb, ltb}
 use lib.ListN.{length, take, drop}
-use borrow.Author.Tests.{eq-eqb, ne-eqb, lt-ltb, le-ltb, ltb-true, not-false}
+use borrow.Author.Tests.{eq-eqb, ne-eqb, lt-ltb, le-ltb}
 use Rattle.wire.specs.Tests.{firstMet}
-use Rattle.wire.proofs.Laws.Order.{none-exactly}
 use Rattle.section.specs.declared.Refusal.{Refusal}
 use Rattle.section.specs.Answer.{refused}
 use Rattle.carousel_messages.specs.declared.Announcement.{Announcement}
@@ -26,7 +24,7 @@ use Rattle.carousel_step.specs.Step.{StepOutcome, refusing, new, same, r
 use Rattle.carousel_step.specs.Step.{matched, sameAnnounced, onAnnounced, onArrived, onHeard, outcomeOf, imageAfter, returning, steppedOf}
 use Rattle.carousel_step.specs.Step.{imageOf}
 use Rattle.carousel_record.specs.Refusals.{meets13}
-use Rattle.carousel_step.specs.Held.{heldTests, heldRefusal, putOutcome, heldOutcome}
+use Rattle.carousel_step.specs.Held.{heldRefusal, putOutcome, heldOutcome}
 
 -- 12 to 16, one after another, by the head of a record and the entry that was found
 module _ (h : Head) (i : ℕ) (m : Module) (n : ℕ) (d : Arrived) where
@@ -78,13 +76,6 @@ module _ (h : Head) (i : ℕ) (m : Module) (n : ℕ) (d : Arrived) where
             pub is-matching : fits ≡ true → heldRefusal h i m n d ≡ 0
             unfolding heldRefusal firstMet
             is-matching e = rw (not-12, not-13, eq-eqb (m .version) (d .version) version, le-ltb n (h .bytes) room, its-16, e)
-
--- so what none of them meets has its place among the counted ones
-pub held-found : (h : Head) (i : ℕ) (m : Module) (n : ℕ) (d : Arrived) → heldRefusal h i m n d ≡ 0 → i < h .count
-unfolding heldRefusal
-held-found h i m n d e =
-    let t = none-exactly (heldTests h i m n d) (λ z. omega arith, (λ z. omega arith, (λ z. omega arith, (λ z. omega arith, (λ z. omega arith, tt))))) .0 e in
-    ltb-true i (h .count) (not-false _ (t .1 .0))
 
 -- a matching block
 module _ (r : Record) (image : List ℕ) (i : ℕ) (d : Arrived) where
