@@ -94,10 +94,10 @@ fn put(at: usize, k: usize, bytes: &[u8], marks: &mut [u32], image: &mut [u8]) -
 fn is_equal(a: &[u8], b: &[u8]) -> bool
     ensures { λ r. ⌜ r ≡ sameNumbers (now (a .entry)) (now (b .entry)) ⌝ }
 {
-    let n = a.len();
-    if n != b.len() {
+    if a.len() != b.len() {
         return false;
     }
+    let n = a.len();
     let mut all: u8 = 0;
     let mut i: usize = 0;
     while i < n {
