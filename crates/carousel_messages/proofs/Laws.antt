@@ -1,4 +1,5 @@
 pub mod Limits
 pub mod Refusals
 pub mod Listed
+pub mod Reading
 pub mod Heard

@@ -47,9 +47,12 @@ fn read_modules(list: &[u8], count: usize) -> [Listed; MOST_MODULES]
 {
     let none = none_listed();
     let mut ms = [none; MOST_MODULES];
+    let mut at: usize = 0;
     let mut i: usize = 0;
     while i < count {
-        ms[i] = module_at(list, i);
+        let from = &list[at..];
+        ms[i] = module_at(from, 0);
+        at += wire::measured_size(from, 8, 7);
         i += 1;
     }
     ms

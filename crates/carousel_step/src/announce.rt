@@ -60,11 +60,14 @@ fn is_same_list(ms: [Module; MOST_MODULES], n: usize, list: &[u8]) -> bool
     requires { ⌜ (n ≤ mostModules) × (n ≡ length (listOf (now list))) ⌝ }
     ensures { λ r. ⌜ r ≡ sameModules (map listedIn (take n ms)) (listOf (now (list .entry))) ⌝ }
 {
+    let mut at: usize = 0;
     let mut i: usize = 0;
     while i < n {
-        if !is_same_module(ms[i], module_at(list, i)) {
+        let from = &list[at..];
+        if !is_same_module(ms[i], module_at(from, 0)) {
             return false;
         }
+        at += wire::measured_size(from, 8, 7);
         i += 1;
     }
     true
@@ -92,11 +95,14 @@ fn made_afresh(c: Carousel, a: Announcement, list: &[u8]) -> Carousel
     next.block_size = a.block_size;
     next.count = a.count as u16;
     let mut sum: u32 = 0;
+    let mut at: usize = 0;
     let mut i: usize = 0;
     while i < a.count {
-        let l = module_at(list, i);
+        let from = &list[at..];
+        let l = module_at(from, 0);
         next.modules[i] = entry(l, sum);
         sum += l.size;
+        at += wire::measured_size(from, 8, 7);
         i += 1;
     }
     next

@@ -1,5 +1,5 @@
 -- The CRC taken sixteen bytes at a time, by sixteen tables of 256 words that lie one after the other in one list: whatever the list holds.
-use Prim.Native.Nat.{ℕ, zero, suc, _+_, _*_, _/_, _%_, _^_}
+use Prim.Native.Nat.{ℕ, zero, suc, _+_, _-_, _*_, _/_, _%_, _^_}
 use mathlib.Core.Bool.{cond}
 use mathlib.Core.List.{List, [], _∷_}
 use lib.Dec.{ltb}
@@ -23,11 +23,7 @@ four t k r s =
     ⊕ entryOf t (k + 1) (r / 2 ^ 8 ⊕ getD s 2 0)
     ⊕ entryOf t k (r ⊕ getD s 3 0)
 
--- the register r after the first eight bytes of s, all at once
-unfoldable pub eight : (t : List ℕ) (r : ℕ) (s : List ℕ) → ℕ
-eight t r s = four t 0 0 (drop 4 s) ⊕ four t 4 r s
-
--- after the first sixteen
+-- the register r after the first sixteen bytes of s, all at once
 unfoldable pub sixteen : (t : List ℕ) (r : ℕ) (s : List ℕ) → ℕ
 sixteen t r s = four t 8 0 (drop 4 s) ⊕ four t 4 0 (drop 8 s) ⊕ four t 0 0 (drop 12 s) ⊕ four t 12 r s
 
@@ -40,13 +36,14 @@ unfoldable pub ones : (t : List ℕ) (r : ℕ) → List ℕ → ℕ
 ones t r [] = r
 ones t r (b ∷ s) = ones t (one t r b) s
 
--- after a group of four, where there are as many, and then the rest
-unfoldable pub upTo7 : (t : List ℕ) (r : ℕ) (s : List ℕ) → ℕ
-upTo7 t r s = cond (ltb (length s) 4) (ones t r s) (ones t (four t 0 r s) (drop 4 s))
+-- what some bytes leave of a clear register, each by the table that counts those after it
+unfoldable pub fromClear : (t : List ℕ) → List ℕ → ℕ
+fromClear t [] = 0
+fromClear t (b ∷ s) = entryOf t (length s) b ⊕ fromClear t s
 
--- after a group of eight, where there are as many, and then the rest
+-- the register r after all bytes of s, all at once where there are four
 unfoldable pub upTo15 : (t : List ℕ) (r : ℕ) (s : List ℕ) → ℕ
-upTo15 t r s = cond (ltb (length s) 8) (upTo7 t r s) (upTo7 t (eight t r s) (drop 8 s))
+upTo15 t r s = cond (ltb (length s) 4) (ones t r s) (fromClear t (drop 4 s) ⊕ four t (length s - 4) r s)
 
 -- after n groups of sixteen, and then the rest
 unfoldable pub groups : (t : List ℕ) (n r : ℕ) → List ℕ → ℕ

@@ -11,7 +11,7 @@ ghost use mathlib.Core.Path.{_≡_};
 ghost use Prim.Native.Nat.{_<_, _≤_};
 ghost use lib.ListN.{length};
 ghost use Rattle.section.specs.Crc.{crcOf};
-ghost use Rattle.crc_tables.specs.By.{_⊕_, entryOf, four, eight, sixteen, ones, upTo7, upTo15, crcBy};
+ghost use Rattle.crc_tables.specs.By.{_⊕_, entryOf, four, sixteen, ones, fromClear, upTo15, crcBy};
 pub use make::WORDS;
 pub use make::tables;
 
@@ -31,10 +31,16 @@ pub fn crc_by(tables: &[u32], s: &[u8]) -> u32
     up_to_15(tables, r, &s[i..])
 }
 
-// The same by tables of its own: for one slice.
+// Below so many bytes the CRC's own bits are as quick as making the tables.
+const PAYS: usize = 112;
+
+// The same by tables of its own, where they pay: for one slice.
 pub fn crc_of(s: &[u8]) -> u32
     ensures { λ r. ⌜ r ≡ crcOf (now (s .entry)) ⌝ }
 {
+    if s.len() < PAYS {
+        return section::crc(s);
+    }
     let t = tables();
     crc_by(&t, s)
 }
@@ -51,34 +57,33 @@ fn with_sixteen(t: &[u32], r: u32, s: &[u8]) -> u32
         ^ with_four(t, 12, r, s)
 }
 
-// The register `r` after all bytes of `s`, of which eight are taken at once where there are as many.
+// The register `r` after all bytes of `s`, which are under sixteen: each by the table that counts
+// those after it.
 fn up_to_15(t: &[u32], r: u32, s: &[u8]) -> u32
-    requires { ⌜ 4096 ≤ length (now t) ⌝ }
+    requires { ⌜ (4096 ≤ length (now t)) × (length (now s) < 16) ⌝ }
     ensures { λ x. ⌜ x ≡ upTo15 (now (t .entry)) r (now (s .entry)) ⌝ }
-{
-    if s.len() < 8 {
-        return up_to_7(t, r, s);
-    }
-    up_to_7(t, with_eight(t, r, s), &s[8..])
-}
-
-// The register `r` after the first eight bytes of `s`.
-fn with_eight(t: &[u32], r: u32, s: &[u8]) -> u32
-    requires { ⌜ (4096 ≤ length (now t)) × (8 ≤ length (now s)) ⌝ }
-    ensures { λ x. ⌜ x ≡ eight (now (t .entry)) r (now (s .entry)) ⌝ }
-{
-    with_four(t, 0, 0, &s[4..]) ^ with_four(t, 4, r, s)
-}
-
-// The register `r` after all bytes of `s`, of which four are taken at once where there are as many.
-fn up_to_7(t: &[u32], r: u32, s: &[u8]) -> u32
-    requires { ⌜ 4096 ≤ length (now t) ⌝ }
-    ensures { λ x. ⌜ x ≡ upTo7 (now (t .entry)) r (now (s .entry)) ⌝ }
 {
     if s.len() < 4 {
         return with_ones(t, r, s);
     }
-    with_ones(t, with_four(t, 0, r, s), &s[4..])
+    let k = s.len() - 4;
+    from_clear(t, &s[4..]) ^ with_four(t, k, r, s)
+}
+
+// What the bytes of `s`, under sixteen, leave of a clear register.
+fn from_clear(t: &[u32], s: &[u8]) -> u32
+    requires { ⌜ (4096 ≤ length (now t)) × (length (now s) < 16) ⌝ }
+    ensures { λ x. ⌜ x ≡ fromClear (now (t .entry)) (now (s .entry)) ⌝ }
+{
+    let mut x: u32 = 0;
+    let mut k = s.len();
+    let mut i: usize = 0;
+    while i < s.len() {
+        k -= 1;
+        x ^= entry(t, k, 0, s[i]);
+        i += 1;
+    }
+    x
 }
 
 // The register `r` after the first four bytes of `s` and `k` clear ones.

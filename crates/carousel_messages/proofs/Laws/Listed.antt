@@ -65,7 +65,7 @@ module _ (list : List ℕ) where
 abbrev Nth : ℕ → List ℕ → List (List ℕ) → Type 0
 Nth k xs is = (getD is k [] ≡ take (moduleKind (drop (endOf k 0 is) xs)) (drop (endOf k 0 is) xs)) × (moduleKind (drop (endOf k 0 is) xs) ≡ 0 → ⊥)
 
-some-size : (xs : List ℕ) → 0 < length (items moduleKind xs) → moduleKind xs ≡ 0 → ⊥
+pub some-size : (xs : List ℕ) → 0 < length (items moduleKind xs) → moduleKind xs ≡ 0 → ⊥
 some-size xs h z = let e = ap length (items-stop moduleKind module-kind xs z) in omega arith
 
 nth : (k : ℕ) (xs : List ℕ) → k < length (items moduleKind xs) → Nth k xs (items moduleKind xs)

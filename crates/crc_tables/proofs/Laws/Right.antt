@@ -2,7 +2,7 @@
 use mathlib.Core.Path.{_≡_, refl, sym, ap, ap₂, subst⁻¹, _∙_}
 use mathlib.Core.Bool.{Bool, true, false, cond}
 use mathlib.Core.List.{List, [], _∷_, _++_}
-use Prim.Native.Nat.{ℕ, zero, suc, _+_, _*_, _/_, _%_, _^_, _<_, _≤_}
+use Prim.Native.Nat.{ℕ, zero, suc, _+_, _-_, _*_, _/_, _%_, _^_, _<_, _≤_}
 use native.Mathlib.Omega.{arith}
 use lib.Dec.{ltb, lit<}
 use lib.ListN.{length, getD, drop, length-drop, replicate, length-replicate}
@@ -12,7 +12,7 @@ use borrow.Author.Tests.{le-ltb, ltb-false}
 use Rattle.wire.specs.Fields.{spelled}
 use Rattle.section.specs.Crc.{allOnes, crcByte, crcFrom, crcOf}
 use Rattle.section.proofs.Laws.Crc.{from-next, from-append, bits-lt, from-lt, own-byte, own-bytes}
-use Rattle.crc_tables.specs.By.{_⊕_, entryOf, four, eight, sixteen, one, ones, upTo7, upTo15, groups, crcBy}
+use Rattle.crc_tables.specs.By.{_⊕_, entryOf, four, sixteen, one, ones, fromClear, upTo15, groups, crcBy}
 use Rattle.crc_tables.specs.Tables.{left, crcTables}
 use Rattle.crc_tables.proofs.Laws.Xor.{xor-assoc, twice}
 use Rattle.crc_tables.proofs.Laws.Linear.{byte-xor, added, from-xor, added-clear}
@@ -101,13 +101,6 @@ four-right k r s hk h bs =
     let e₀ = entry-right k r (getD s 3 0) (omega arith) (bs 3) in
     (λ i. e₃ i ⊕ e₂ i ⊕ e₁ i ⊕ e₀ i) ∙ sym (four-left k r _ _ _ _ h)
 
-eight-right : (r : ℕ) (s : List ℕ) → r < 2 ^ 32 → Bytes s → eight crcTables r s ≡ crcFrom r (firstFour s ++ firstFour (drop 4 s))
-unfolding eight
-eight-right r s h bs =
-    let b : List ℕ = firstFour (drop 4 s) in
-    ap₂ bitXor (four-right 0 0 (drop 4 s) (omega arith) (lit< tt) (bytes-drop 4 s bs)) (four-right 4 r s (omega arith) h bs)
-    ∙ xor-comm (crcFrom 0 b) (crcFrom r (firstFour s ++ replicate 4 0)) ∙ join (firstFour s) b r h
-
 sixteen-right : (r : ℕ) (s : List ℕ) → r < 2 ^ 32 → Bytes s
     → sixteen crcTables r s ≡ crcFrom r (firstFour s ++ (firstFour (drop 4 s) ++ (firstFour (drop 8 s) ++ firstFour (drop 12 s))))
 unfolding sixteen
@@ -146,37 +139,36 @@ four-more i r s h =
     from-next r 0 t (omega arith) ∙ from-next _ 1 t (omega arith) ∙ from-next _ 2 t (omega arith) ∙ from-next _ 3 t (omega arith)
     ∙ ap (crcFrom (crcFrom r (firstFour t))) (drop-drop 4 i s)
 
-upTo7-right : (r : ℕ) (s : List ℕ) → r < 2 ^ 32 → Bytes s → upTo7 crcTables r s ≡ crcFrom r s
-unfolding upTo7
-upTo7-right r s h bs = go (ltb (length s) 4) refl
+clear-right : (s : List ℕ) → length s < 16 → Bytes s → fromClear crcTables s ≡ crcFrom 0 s
+unfolding fromClear crcFrom
+clear-right [] h bs = refl
+clear-right (b ∷ s) h bs =
+    ap₂ bitXor (entry-right (length s) 0 b (omega arith) (bs 0)) (clear-right s (omega arith) (λ i. bs (suc i))) ∙ sym (first (length s) b s refl)
+
+upTo15-right : (r : ℕ) (s : List ℕ) → length s < 16 → r < 2 ^ 32 → Bytes s → upTo15 crcTables r s ≡ crcFrom r s
+unfolding upTo15
+upTo15-right r s l h bs = go (ltb (length s) 4) refl
   where
-    go : (t : Bool) → ltb (length s) 4 ≡ t → cond t (ones crcTables r s) (ones crcTables (four crcTables 0 r s) (drop 4 s)) ≡ crcFrom r s
+    go : (t : Bool) → ltb (length s) 4 ≡ t → cond t (ones crcTables r s) (fromClear crcTables (drop 4 s) ⊕ four crcTables (length s - 4) r s) ≡ crcFrom r s
     go true e = ones-right s r h bs
     go false e =
-        ap (λ (x : ℕ). ones crcTables x (drop 4 s)) (four-right 0 r s (omega arith) h bs)
-        ∙ ones-right (drop 4 s) (crcFrom r (firstFour s)) (from-lt (firstFour s) r h) (bytes-drop 4 s bs) ∙ sym (four-more 0 r s (ltb-false (length s) 4 e))
+        let a : List ℕ = firstFour s in
+        let b : List ℕ = drop 4 s in
+        let n : length b ≡ length s - 4 = length-drop 4 s in
+        let x : ℕ = crcFrom r (a ++ replicate (length b) 0) in
+        let f : four crcTables (length s - 4) r s ≡ x =
+        four-right (length s - 4) r s (omega arith) h bs ∙ ap (λ (m : ℕ). crcFrom r (a ++ replicate m 0)) (sym n) in
+        ap₂ bitXor (clear-right b (omega arith) (bytes-drop 4 s bs)) f
+        ∙ xor-comm (crcFrom 0 b) x ∙ join a b r h ∙ from-append r a b ∙ sym (four-more 0 r s (ltb-false (length s) 4 e))
 
-upTo15-right : (r : ℕ) (s : List ℕ) → r < 2 ^ 32 → Bytes s → upTo15 crcTables r s ≡ crcFrom r s
-unfolding upTo15 crcFrom
-upTo15-right r s h bs = go (ltb (length s) 8) refl
-  where
-    go : (t : Bool) → ltb (length s) 8 ≡ t → cond t (upTo7 crcTables r s) (upTo7 crcTables (eight crcTables r s) (drop 8 s)) ≡ crcFrom r s
-    go true e = upTo7-right r s h bs
-    go false e =
-        let k : 8 ≤ length s = ltb-false (length s) 8 e in
-        let a : List ℕ = firstFour s ++ firstFour (drop 4 s) in
-        ap (λ (x : ℕ). upTo7 crcTables x (drop 8 s)) (eight-right r s h bs)
-        ∙ upTo7-right (crcFrom r a) (drop 8 s) (from-lt a r h) (bytes-drop 8 s bs)
-        ∙ sym (four-more 0 r s (omega arith) ∙ four-more 4 _ s k)
-
-groups-right : (n r : ℕ) (s : List ℕ) → n * 16 ≤ length s → r < 2 ^ 32 → Bytes s → groups crcTables n r s ≡ crcFrom r s
+groups-right : (n r : ℕ) (s : List ℕ) → n * 16 ≤ length s → length s < n * 16 + 16 → r < 2 ^ 32 → Bytes s → groups crcTables n r s ≡ crcFrom r s
 unfolding groups crcFrom
-groups-right zero r s k h bs = upTo15-right r s h bs
-groups-right (suc n) r s k h bs =
+groups-right zero r s k l h bs = upTo15-right r s (omega arith) h bs
+groups-right (suc n) r s k l h bs =
     let e = length-drop 16 s in
     let a : List ℕ = firstFour s ++ (firstFour (drop 4 s) ++ (firstFour (drop 8 s) ++ firstFour (drop 12 s))) in
     ap (λ (x : ℕ). groups crcTables n x (drop 16 s)) (sixteen-right r s h bs)
-    ∙ groups-right n (crcFrom r a) (drop 16 s) (omega arith) (from-lt a r h) (bytes-drop 16 s bs)
+    ∙ groups-right n (crcFrom r a) (drop 16 s) (omega arith) (omega arith) (from-lt a r h) (bytes-drop 16 s bs)
     ∙ sym (four-more 0 r s (omega arith) ∙ four-more 4 _ s (omega arith) ∙ four-more 8 _ s (omega arith) ∙ four-more 12 _ s (omega arith))
 
 pub by-tables : (s : List ℕ) → Bytes s → crcBy crcTables s ≡ crcOf s
@@ -185,7 +177,7 @@ by-tables s bs =
     let e = length-tables in
     let f : ltb (length crcTables) 4096 ≡ false = le-ltb (length crcTables) 4096 (omega arith) in
     ap (λ (t : Bool). cond t (crcOf s) (groups crcTables (length s / 16) allOnes s)) f
-    ∙ groups-right (length s / 16) allOnes s (omega arith) (lit< tt) bs
+    ∙ groups-right (length s / 16) allOnes s (omega arith) (omega arith) (lit< tt) bs
 
 -- for a caller: what `crc_by` answered of the tables that it was lent
 pub lent : (t s : List ℕ) (x : ℕ) → t ≡ crcTables → Bytes s → x ≡ crcBy t s → x ≡ crcOf s

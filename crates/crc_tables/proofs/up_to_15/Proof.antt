@@ -1,56 +1,57 @@
 -- `crc_tables::up_to_15` meets its contract.
 use borrow.Author.Needs.{needs}
 use Prim.Native.Nat.{_-_}
-use mathlib.Core.Path.{_≡_, sym, ap₂, _∙_}
+use mathlib.Core.Path.{_≡_, sym, ap, ap₂, _∙_}
 use lib.ListN.{length, take, drop}
-use Rattle.crc_tables.specs.By.{upTo7}
-use Rattle.crc_tables.proofs.Laws.Walk.{rest, under8, from8}
+use lib.Bits.{bitXor}
+use Rattle.crc_tables.specs.By.{fromClear}
+use Rattle.crc_tables.proofs.Laws.Walk.{rest, under4, from4}
 use Rattle.crc_tables.proofs.up_to_15.Statement.{statement}
 use Rattle.crc_tables.proofs.up_to_15.Tie as tie
 
--- the places that stand before a place, by name
-abbrev start-of-else1 : tie.Else1 → tie.Start
-start-of-else1 c = c .before .before .before
-
-up-to-7-requires : tie.Need-up-to-7-requires
-up-to-7-requires c κs = search needs
+with-ones-requires : tie.Need-with-ones-requires
+with-ones-requires c κs = search needs
 
 returns : tie.Need-returns
-returns c = c .up-to-7 .ensures ∙ sym (under8 _ _ _ (c .before .if1 .taken))
+returns c = c .with-ones .ensures ∙ sym (under4 _ _ _ (c .before .if1 .taken))
 
-with-eight-requires : tie.Need-with-eight-requires
-with-eight-requires c κs = search needs
+sub-k : tie.Need-sub-k
+sub-k c = search needs
 
-sub-up-to-7 : tie.Need-sub-up-to-7
-sub-up-to-7 c = search needs
+sub-from-clear : tie.Need-sub-from-clear
+sub-from-clear c = search needs
 
-part-up-to-7-start : tie.Need-part-up-to-7-start
-part-up-to-7-start c = search needs
+part-from-clear-start : tie.Need-part-from-clear-start
+part-from-clear-start c = search needs
 
-part-up-to-7-end : tie.Need-part-up-to-7-end
-part-up-to-7-end c = search needs
+part-from-clear-end : tie.Need-part-from-clear-end
+part-from-clear-end c = search needs
 
-up-to-7-requires-2 : tie.Need-up-to-7-requires-2
-up-to-7-requires-2 c κs = search needs
+from-clear-requires : tie.Need-from-clear-requires
+from-clear-requires c κs = search needs
+
+with-four-requires : tie.Need-with-four-requires
+with-four-requires c κs = search needs
 
 returns-2 : tie.Need-returns-2
 returns-2 c =
-    let a = start-of-else1 (c .before .before .before) .args in
+    let l = c .before .before .before in
+    let a = l .before .before .before .args in
     let t = a .t .now in
     let s = a .s .now in
-    let x = c .before .before .with-eight .result in
-    let e : c .up-to-72 .result ≡ upTo7 t x (take (length s - 8) (drop 8 s)) = c .up-to-72 .ensures in
-    e ∙ ap₂ (upTo7 t) (c .before .before .with-eight .ensures) (rest s 8) ∙ sym (from8 _ _ _ (c .before .before .before .if1 .left))
+    let e : c .before .from-clear .result ≡ fromClear t (take (length s - 4) (drop 4 s)) = c .before .from-clear .ensures in
+    ap₂ bitXor (e ∙ ap (fromClear t) (rest s 4)) (c .with-four .ensures) ∙ sym (from4 t (a .r) s (l .if1 .left))
 
 pub up-to-15-spec : {M : Type 1} → statement M
 up-to-15-spec =
     tie.close
     (tie.spec
-    up-to-7-requires
+    with-ones-requires
     returns
-    with-eight-requires
-    sub-up-to-7
-    part-up-to-7-start
-    part-up-to-7-end
-    up-to-7-requires-2
+    sub-k
+    sub-from-clear
+    part-from-clear-start
+    part-from-clear-end
+    from-clear-requires
+    with-four-requires
     returns-2)
