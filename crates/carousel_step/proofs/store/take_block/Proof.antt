@@ -195,7 +195,8 @@ returns-7 : tie.Need-returns-7
 unfolding arrivedIn
 returns-7 c =
     let p = c .before .before .before .before in
-    let e = p .before .before .before .before .before in
+    let k = p .before .before .before in
+    let e = k .before .before in
     let s = start6 e in
     let a = s .args in
     let q = p .put .ensures in
