@@ -1,9 +1,10 @@
 -- A block for a record that is held in parts: where the record keeps its rule, and the parts are its own, it comes to what 01 says.
-use Prim.Native.Nat.{ℕ, _+_, _*_, _≤_, _<_}
+use Prim.Native.Nat.{ℕ, _+_, _*_, _%_, _≤_, _<_}
 use mathlib.Core.Path.{_≡_, refl, sym, ap, ap₂, _∙_}
 use mathlib.Core.Bool.{Bool, true, false, not, cond, _||_}
 use mathlib.Core.List.{List, [], _∷_}
 use native.Mathlib.Omega.{arith}
+use native.Mathlib.Nat.{mod-eq-of-lt}
 use lib.Dec.{eqb, ltb}
 use lib.ListN.{length, getD, take, drop}
 use borrow.Author.Tests.{eqb-true, eqb-false, ltb-true, le-ltb}
@@ -118,6 +119,10 @@ module _ (c : Carousel) (entries : length (c .modules) ≡ mostModules) (ruled :
       go false e =
           let n = eqb-false (blockRefusal a (length image) d) 0 e in
           held-bad (headOf c) i m (c .marks) image d (blockRefusal a (length image) d) same-refusal n ∙ sym (arrived-bad (recordOf c) image d n)
+
+-- an entry that is counted is the one that is read
+pub found-entry : (ms : List Module) (n : ℕ) → n ≤ mostModules → (i : ℕ) → i < n → getD ms (i % mostModules) unused ≡ getD ms i unused
+found-entry ms n few i l = ap (λ (k : ℕ). getD ms k unused) (let h : i < mostModules = omega arith in mod-eq-of-lt h)
 
 -- a record in its parts is the record
 pub joined-own : (c : Carousel) → joinedOf (headOf c) (c .modules) (c .marks) ≡ c

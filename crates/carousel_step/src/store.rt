@@ -59,6 +59,7 @@ pub fn take_block(
     put(at, MOST_BLOCKS * place + block, bytes, marks, image)
 }
 
+// A refusal that has no place.
 pub fn refuse(number: u8) -> Answer
     ensures { λ r. ⌜ r ≡ Refused (refused number) ⌝ }
 {

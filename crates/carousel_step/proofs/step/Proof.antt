@@ -1,13 +1,12 @@
 -- `carousel_step::step` meets its contract: 1 first, then what the section is, then what the record makes of it.
 use borrow.Author.Needs.{needs}
 use borrow.Author.Tests.{not-true, not-false}
-use Prim.Native.Nat.{ℕ, _+_, _-_, _%_, _≤_, _<_}
+use Prim.Native.Nat.{ℕ, _+_, _-_, _≤_}
 use mathlib.Core.Path.{_≡_, sym, ap, _∙_}
 use mathlib.Core.Bool.{true}
 use mathlib.Core.List.{List}
 use native.Mathlib.Omega.{arith}
-use native.Mathlib.Nat.{mod-eq-of-lt}
-use lib.ListN.{length, getD, take, drop, length-map}
+use lib.ListN.{length, take, drop, length-map}
 use Rattle.carousel_record.specs.Marks.{markWords}
 use Rattle.wire.proofs.Laws.Finders.{part}
 use Rattle.carousel_messages.specs.declared.Announcement.{Announcement}
@@ -16,14 +15,14 @@ use Rattle.carousel_messages.specs.Limits.{total, mostBytes, mostModules}
 use Rattle.carousel_messages.specs.Judged.{judgedBy, judgedOf}
 use Rattle.carousel_messages.specs.Heard.{spanOf, listOf, announcedIn, arrivedIn, heardIn, heardOf, sizesOf}
 use Rattle.carousel_messages.proofs.Laws.Heard.{announcement-inside, count-said, heard-small, block-inside, heard-limits}
-use Rattle.carousel_record.specs.Record.{recordOf, ruledOf, unused}
+use Rattle.carousel_record.specs.Record.{recordOf, ruledOf}
 use Rattle.wire.specs.Tests.{firstMet}
 use Rattle.carousel_record.specs.declared.Carousel.{Carousel}
 use Rattle.carousel_step.specs.declared.Answer.{Answer}
 use Rattle.carousel_step.specs.declared.Stepped.{Stepped}
 use Rattle.carousel_step.specs.Step.{StepOutcome, onAnnounced, onArrived, imageAfter, returning, steppedOf, imageOf, numberOfAnswer, stepTests}
 use Rattle.carousel_step.proofs.Exact.{step-number}
-use Rattle.carousel_step.proofs.Held.{held-answer, held-record, held-image}
+use Rattle.carousel_step.proofs.Held.{found-entry, held-answer, held-record, held-image}
 use Rattle.carousel_record.proofs.Laws.Places.{bytes-most}
 use Rattle.carousel_record.proofs.Laws.Rule.{ruled-count}
 use Rattle.carousel_step.proofs.Laws.Outcomes.{announced-image, stepped-is, comes-broken, comes-refused, comes-announced, comes-carried}
@@ -60,10 +59,6 @@ all-words s = sym (length-map (s .args .c .marks) _) ∙ s .good .0 .1 .1 .1 .1 
 
 all-entries : (s : tie.Start) → length (s .args .c .modules) ≡ mostModules
 all-entries s = sym (length-map (s .args .c .modules) _) ∙ s .good .0 .1 .1 .1 .1 .1 .0 .1 .0 .1
-
--- an entry that is counted is the one that is read
-found-entry : (c : Carousel) → c .count ≤ mostModules → (i : ℕ) → i < c .count → getD (c .modules) (i % mostModules) unused ≡ getD (c .modules) i unused
-found-entry c few i l = ap (λ (k : ℕ). getD (c .modules) k unused) (let h : i < mostModules = omega arith in mod-eq-of-lt h)
 
 ruled : (c : tie.Else1) → ruledOf (c .before .before .before .before .args .c) ≡ true
 ruled c = sym (c .before .is-ruled .ensures) ∙ not-false _ (c .if1 .left)
@@ -226,7 +221,7 @@ returns-4 c =
     let q = m .before .before in
     let z = all-entries (start-of-after-judge-by j) in
     let o = q .before .before .head-of .ensures in
-    let f = found-entry (s .c) (ruled-count (s .c) u) (q .place-of .result) in
+    let f = found-entry (s .c .modules) (s .c .count) (ruled-count (s .c) u) (q .place-of .result) in
     let e = w .take-block .ensures in
     let r = held-answer (s .c) z u (s .image .now) b _ _ _ _ _ o l (q .place-of .ensures) f _ (e .0) in
     let d = c .joined .ensures ∙ held-record (s .c) z u (s .image .now) b _ _ _ _ _ o l (q .place-of .ensures) f _ (e .1) in

@@ -1,18 +1,16 @@
 -- `receiver::run` meets its contract. The invariant: the record in its parts is whole and keeps its rule, and the run from here on, after what was taken and passed, is the run of the
 -- whole.
 use borrow.Author.Needs.{needs}
-use Prim.Native.Nat.{ℕ, _+_, _-_, _%_, _≤_, _<_}
+use Prim.Native.Nat.{ℕ, _+_, _-_, _≤_, _<_}
 use mathlib.Core.Path.{_≡_, refl, sym, ap, ap₂, _∙_}
 use mathlib.Core.Bool.{true}
 use mathlib.Core.List.{List, map}
 use native.Mathlib.Omega.{arith}
-use native.Mathlib.Nat.{mod-eq-of-lt}
-use lib.ListN.{length, getD, take, drop, length-drop, length-map}
+use lib.ListN.{length, take, drop, length-drop, length-map}
 use lib.Seq.{length-take-le}
 use borrow.Author.Tests.{not-true, not-false}
 use Rattle.wire.proofs.Laws.Loops.{tail}
 use Rattle.wire.proofs.Laws.Finders.{part}
-use Rattle.section.specs.Crc.{crcOf}
 use Rattle.crc_tables.proofs.Laws.Right.{Bytes, lent}
 use Rattle.carousel_messages.specs.declared.Block.{Block}
 use Rattle.carousel_messages.specs.declared.Judged.the-variants as judged
@@ -22,11 +20,10 @@ use Rattle.carousel_messages.proofs.Laws.Heard.{block-inside}
 use Rattle.carousel_record.specs.declared.Carousel.{Carousel}
 use Rattle.carousel_record.specs.declared.Head.{Head}
 use Rattle.carousel_record.specs.declared.Module.{Module}
-use Rattle.carousel_record.specs.Marks.{markWords}
-use Rattle.carousel_record.specs.Record.{announcedBy, headOf, joinedOf, numberIn, placeAmong, placeOf, ruledOf, unused}
+use Rattle.carousel_record.specs.Record.{announcedBy, headOf, joinedOf, numberIn, placeAmong, placeOf, ruledOf}
 use Rattle.carousel_record.proofs.Laws.Rule.{ruled-count}
 use Rattle.carousel_record.proofs.Laws.Entries.{among-entries}
-use Rattle.carousel_step.proofs.Held.{joined-own, held-record, held-image}
+use Rattle.carousel_step.proofs.Held.{found-entry, joined-own, held-record, held-image}
 use Rattle.receiver.specs.declared.Stop.{Stop}
 use Rattle.receiver.specs.declared.Given.{Given}
 use Rattle.receiver.specs.declared.Ran.{Ran}
@@ -196,10 +193,6 @@ numbers-of-requires c κs = search needs
 said : (h : Head) (ms : List Module) (ws : List ℕ) (k : ℕ) → placeAmong k (take (h .count) (map numberIn ms)) ≡ placeOf (announcedBy (joinedOf h ms ws)) k
 unfolding announcedBy
 said h ms ws k = among-entries k (h .count) ms
-
--- an entry that is counted is the one that is read
-found-entry : (ms : List Module) (n : ℕ) → n ≤ mostModules → (i : ℕ) → i < n → getD ms (i % mostModules) unused ≡ getD ms i unused
-found-entry ms n few i l = ap (λ (k : ℕ). getD ms k unused) (let h : i < mostModules = omega arith in mod-eq-of-lt h)
 
 -- other marks leave the head as it is
 same-head : (h : Head) (ms : List Module) (ws us : List ℕ) → h ≡ headOf (joinedOf h ms ws) → h ≡ headOf (joinedOf h ms us)
