@@ -12,7 +12,6 @@ use carousel_messages::MOST_MODULES;
 use carousel_record::Carousel;
 use carousel_record::head_of;
 use carousel_record::is_ruled;
-use carousel_record::joined;
 use carousel_record::place_of;
 use section::Refusal;
 use store::refuse;
@@ -68,9 +67,11 @@ pub fn step(c: Carousel, s: &[u8], image: &mut [u8]) -> Stepped
             let m = ms[i % MOST_MODULES];
             let mut marks = c.marks;
             let answer = take_block(h, i, m, b, &s[at..e], &mut marks, image);
+            let mut next = c;
+            next.marks = marks;
             Stepped {
                 answer: answer,
-                state: joined(h, ms, marks),
+                state: next,
             }
         }
     }

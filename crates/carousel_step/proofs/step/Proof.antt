@@ -15,7 +15,8 @@ use Rattle.carousel_messages.specs.Limits.{total, mostBytes, mostModules}
 use Rattle.carousel_messages.specs.Judged.{judgedBy, judgedOf}
 use Rattle.carousel_messages.specs.Heard.{spanOf, listOf, announcedIn, arrivedIn, heardIn, heardOf, sizesOf}
 use Rattle.carousel_messages.proofs.Laws.Heard.{announcement-inside, count-said, heard-small, block-inside, heard-limits}
-use Rattle.carousel_record.specs.Record.{recordOf, ruledOf}
+use Rattle.carousel_record.specs.declared.Head.{Head}
+use Rattle.carousel_record.specs.Record.{recordOf, headOf, joinedOf, ruledOf}
 use Rattle.wire.specs.Tests.{firstMet}
 use Rattle.carousel_record.specs.declared.Carousel.{Carousel}
 use Rattle.carousel_step.specs.declared.Answer.{Answer}
@@ -59,6 +60,10 @@ all-words s = sym (length-map (s .args .c .marks) _) ∙ s .good .0 .1 .1 .1 .1 
 
 all-entries : (s : tie.Start) → length (s .args .c .modules) ≡ mostModules
 all-entries s = sym (length-map (s .args .c .modules) _) ∙ s .good .0 .1 .1 .1 .1 .1 .0 .1 .0 .1
+
+-- the record with other marks, by its own head
+own-parts : (c : Carousel) (h : Head) (ws : List ℕ) → h ≡ headOf c → joinedOf (headOf c) (c .modules) ws ≡ joinedOf h (c .modules) ws
+own-parts c h ws e = ap (λ (x : Head). joinedOf x (c .modules) ws) (sym e)
 
 ruled : (c : tie.Else1) → ruledOf (c .before .before .before .before .args .c) ≡ true
 ruled c = sym (c .before .is-ruled .ensures) ∙ not-false _ (c .if1 .left)
@@ -183,9 +188,6 @@ slice-aggregate-take-block c =
 take-block-requires : tie.Need-take-block-requires
 take-block-requires c κs = search needs
 
-joined-requires : tie.Need-joined-requires
-joined-requires c κs = search needs
-
 returns-2 : tie.Need-returns-2
 returns-2 c =
     let j = c .before .before .before in
@@ -209,7 +211,7 @@ same-length c = search needs
 
 returns-4 : tie.Need-returns-4
 returns-4 c =
-    let w = c .before .before .before .before in
+    let w = c .before .before .before in
     let m = after-marks-of-after-take-block w in
     let k = after-struct-known2-of-after-marks m in
     let j = after-judge-by-of-after-struct-known2 k in
@@ -224,7 +226,7 @@ returns-4 c =
     let f = found-entry (s .c .modules) (s .c .count) (ruled-count (s .c) u) (q .place-of .result) in
     let e = w .take-block .ensures in
     let r = held-answer (s .c) z u (s .image .now) b _ _ _ _ _ o l (q .place-of .ensures) f _ (e .0) in
-    let d = c .joined .ensures ∙ held-record (s .c) z u (s .image .now) b _ _ _ _ _ o l (q .place-of .ensures) f _ (e .1) in
+    let d = own-parts (s .c) _ _ o ∙ held-record (s .c) z u (s .image .now) b _ _ _ _ _ o l (q .place-of .ensures) f _ (e .1) in
     numbered _ _ _ _ _ ((λ i. record { answer = r i; state = d i }) ∙ sym (p .0))
     (held-image (s .c) z u (s .image .now) b _ _ _ _ _ o l (q .place-of .ensures) f _ (e .2) ∙ sym (p .1))
 
@@ -255,7 +257,6 @@ step-spec =
     part-take-block-end
     slice-aggregate-take-block
     take-block-requires
-    joined-requires
     returns-2
     returns-3
     same-length
