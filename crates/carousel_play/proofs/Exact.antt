@@ -10,7 +10,7 @@ use lib.ListN.{length, drop, length-map, length-take}
 use borrow.Author.Tests.{lt-ltb, le-ltb, ltb-true, ltb-false, eq-eqb, ne-eqb, eqb-true, not-true, not-false}
 use Rattle.wire.specs.Tests.{Tests, holds, RisingFrom}
 use Rattle.wire.proofs.Laws.Tests.{neither, clash, lowest-met}
-use Rattle.wire.proofs.Laws.Order.{None, none-exactly, nth-exactly}
+use Rattle.wire.proofs.Laws.Order.{None, none-exactly, nth-exactly, unmet}
 use Rattle.carousel_messages.specs.Limits.{mostModules, beyond10, twice11}
 use Rattle.carousel_messages.specs.Heard.{Announced, sizesOf, numbersOf}
 use Rattle.carousel_messages.proofs.Good.{ten-exactly as ten-facts, distinct-there, distinct-back}
@@ -25,11 +25,6 @@ use Rattle.carousel_play.specs.Calls.{toPlay, InLimits, Different, limit
 use Rattle.carousel_play.proofs.Laws.Limits.{not-ten}
 use Rattle.carousel_play.proofs.Laws.Places.{places}
 use Rattle.carousel_play.proofs.Laws.Chosen.{announcement-size, section-size, chosen}
-
--- what a test that is not met says, and so what one that is met says
-unmet : (b : Bool) {A : Type 0} → (b ≡ false) ↔ A → (b ≡ true) ↔ (A → ⊥)
-unmet true e = (λ x h. clash true refl (e .1 h), λ x. refl)
-unmet false e = (λ x. absurd (clash false x refl), λ x. absurd (x (e .0 refl)))
 
 module _ (p : Playlist) where
   abbrev a : Announced

@@ -1,7 +1,7 @@
--- The two ways in which a record changes, and the one in which an image does. 01, "The carousel record".
+-- The two ways in which a record changes. 01, "The carousel record".
 use Prim.Native.Nat.{ℕ, _+_, _-_}
 use mathlib.Core.List.{List, [], _∷_, _++_}
-use lib.ListN.{length, take, drop, replicate}
+use lib.ListN.{length, replicate}
 use Rattle.carousel_messages.specs.declared.Listed.{Listed}
 use Rattle.carousel_messages.specs.Limits.{mostModules}
 use Rattle.carousel_messages.specs.Heard.{Announced, sizesOf}
@@ -40,7 +40,3 @@ afresh r a = record { announced = a; starts = sums 0 (sizesOf (a .modules)); mar
 
 unfoldable pub marking : Record → ℕ → Record
 marking r k = record { announced = r .announced; starts = r .starts; marks = marksWith (r .marks) k }
-
--- the image with these bytes from index `at` on, and every other byte as it was
-unfoldable pub overwrite : List ℕ → ℕ → List ℕ → List ℕ
-overwrite image at bytes = take at image ++ (bytes ++ drop (at + length bytes) image)

@@ -4,6 +4,7 @@ use mathlib.Core.Bool.{Bool, true, false, not, cond, _&&_}
 use mathlib.Core.List.{List, [], _∷_, map}
 use lib.Dec.{eqb, leb}
 use lib.ListN.{length, getD, take, drop}
+use Rattle.wire.specs.Copies.{sameNumbers}
 use Rattle.carousel_messages.specs.declared.Listed.{Listed}
 use Rattle.carousel_messages.specs.Limits.{mostModules, mostBlocks, total, beyond10, twice11}
 use Rattle.carousel_messages.specs.Heard.{noneListed, sizesOf, numbersOf, placeIn, Announced}
@@ -91,13 +92,6 @@ missingOf r i = clearAmong (r .marks) (mostBlocks * i) 0 (blockCount (r .announc
 
 abbrev pub completeOf : Record → ℕ → Bool
 completeOf r i = eqb (length (missingOf r i)) 0
-
--- whether two lists of numbers are the same
-unfoldable pub sameNumbers : List ℕ → List ℕ → Bool
-sameNumbers [] [] = true
-sameNumbers [] (y ∷ ys) = false
-sameNumbers (x ∷ xs) [] = false
-sameNumbers (x ∷ xs) (y ∷ ys) = eqb x y && sameNumbers xs ys
 
 -- "if any, the limits of refusals 10 and 11 hold ..; with none, all is zero"
 unfoldable pub withinLimits : Announced → Bool

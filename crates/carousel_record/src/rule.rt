@@ -12,11 +12,12 @@ ghost use mathlib.Core.Path.{_≡_};
 ghost use mathlib.Core.List.{map};
 ghost use Prim.Native.Nat.{_≤_};
 ghost use lib.ListN.{drop, take};
+ghost use Rattle.wire.specs.Copies.{sameNumbers};
 ghost use Rattle.carousel_messages.specs.Limits.{mostModules};
 ghost use Rattle.carousel_record.specs.Blocks.{blocksOf};
 ghost use Rattle.carousel_record.specs.Marks.{moduleWords, marksWithin};
 ghost use Rattle.carousel_messages.specs.Heard.{sizesOf};
-ghost use Rattle.carousel_record.specs.Record.{announcedBy, listedIn, startIn, sums, sameNumbers, isUnused, allUnused, withinLimits, ruledOf};
+ghost use Rattle.carousel_record.specs.Record.{announcedBy, listedIn, startIn, sums, isUnused, allUnused, withinLimits, ruledOf};
 
 // Whether a record keeps its rule.
 pub fn is_ruled(c: Carousel) -> bool

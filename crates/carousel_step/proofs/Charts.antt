@@ -10,6 +10,8 @@ use borrow.Author.Tests.{lt-ltb, le-ltb}
 use Rattle.wire.specs.Fields.{fieldAt}
 use Rattle.wire.specs.Tests.{firstMet}
 use Rattle.wire.specs.Items.{framed, itemsIn, items}
+use Rattle.wire.specs.Copies.{overwrite}
+use Rattle.wire.proofs.Laws.Tests.{fails}
 use Rattle.section.specs.Answer.{refused}
 use Rattle.carousel_messages.specs.declared.Listed.{Listed}
 use Rattle.carousel_messages.specs.Limits.{total}
@@ -22,12 +24,11 @@ use Rattle.carousel_record.specs.Blocks.{blocksOf, blockLengthOf}
 use Rattle.carousel_record.specs.Marks.{isMarked}
 use Rattle.carousel_record.specs.Record.{announcedBy, startsBy, recordOf, blockAt, ruledOf}
 use Rattle.carousel_record.specs.Refusals.{meets13, meets15}
-use Rattle.carousel_record.specs.Changes.{emptyRecord, entries, madeAfresh, withMark, overwrite}
+use Rattle.carousel_record.specs.Changes.{emptyRecord, entries, madeAfresh, withMark}
 use Rattle.carousel_record.proofs.Laws.Places.{some-modules}
 use Rattle.carousel_step.specs.declared.Answer.the-variants as answer
 use Rattle.carousel_step.specs.Step.{meets12, meets14, meets16, blockRefusal, sameModules, sameAnnounced, refusing, new, stored}
 use Rattle.carousel_step.specs.Step.{matched, onArrived, onHeard, outcomeOf, steppedOf, imageOf}
-use Rattle.carousel_step.proofs.Laws.Bytes.{fails}
 use Rattle.carousel_step.proofs.Laws.Outcomes.{announced-new, stepped-is}
 use Rattle.carousel_step.proofs.Simulation.{empty-ruled}
 use Rattle.carousel_step.proofs.Soundings.{comes, left-ruled}

@@ -9,6 +9,7 @@ use lib.Dec.{eqb, ltb}
 use lib.ListN.{length, getD, take, drop}
 use borrow.Author.Tests.{eqb-true, eqb-false, ltb-true, le-ltb}
 use Rattle.wire.specs.Tests.{firstMet}
+use Rattle.wire.specs.Copies.{sameNumbers}
 use Rattle.section.specs.Answer.{refused}
 use Rattle.carousel_messages.specs.declared.Block.{Block}
 use Rattle.carousel_messages.specs.declared.Listed.{Listed}
@@ -19,7 +20,7 @@ use Rattle.carousel_record.specs.declared.Module.{Module}
 use Rattle.carousel_record.specs.declared.Head.{Head}
 use Rattle.carousel_record.specs.Blocks.{blocksOf, blockLengthOf}
 use Rattle.carousel_record.specs.Marks.{markOf, isMarked}
-use Rattle.carousel_record.specs.Record.{Record, announcedBy, recordOf, listedIn, bytesOf, headOf, joinedOf, moduleAt, placeOf, received, blockAt, sameNumbers, ruledOf, unused}
+use Rattle.carousel_record.specs.Record.{Record, announcedBy, recordOf, listedIn, bytesOf, headOf, joinedOf, moduleAt, placeOf, received, blockAt, ruledOf, unused}
 use Rattle.carousel_record.specs.Refusals.{meets13, meets15}
 use Rattle.carousel_record.specs.Changes.{withMark}
 use Rattle.carousel_record.proofs.Laws.Rule.{kept, ruled-says, ruled-count}

@@ -9,6 +9,7 @@ use lib.ListN.{length, replicate, length-replicate}
 use lib.Seq.{take-at, drop-at}
 use borrow.Author.Tests.{eq-eqb, eqb-true, le-leb}
 use Rattle.wire.proofs.Laws.Tests.{clash}
+use Rattle.wire.specs.Copies.{sameNumbers}
 use Rattle.section.specs.Answer.{refused}
 use Rattle.carousel_messages.specs.declared.Listed.{Listed}
 use Rattle.carousel_messages.specs.Limits.{mostModules, beyond10, twice11}
@@ -16,7 +17,7 @@ use Rattle.carousel_messages.specs.Heard.{Announced, Heard, refusal, announced,
 use Rattle.carousel_messages.proofs.Laws.Heard.{heard-limits}
 use Rattle.carousel_record.specs.declared.Carousel.{Carousel}
 use Rattle.carousel_record.specs.Marks.{moduleWords, markWords}
-use Rattle.carousel_record.specs.Record.{Record, listedIn, startIn, announcedBy, startsBy, recordOf, placeOf, sums, sameNumbers, withinLimits, ruled, unused, allUnused, ruledOf}
+use Rattle.carousel_record.specs.Record.{Record, listedIn, startIn, announcedBy, startsBy, recordOf, placeOf, sums, withinLimits, ruled, unused, allUnused, ruledOf}
 use Rattle.carousel_record.specs.Changes.{emptyRecord, entries, madeAfresh, withMark, afresh, marking}
 use Rattle.carousel_step.specs.Step.{blockRefusal, sameAnnounced, StepOutcome, refusing, new, same, repeated, stored, matched, onArrived}
 use Rattle.carousel_step.specs.Step.{onAnnounced, onHeard, outcomeOf, carouselAfter, recordAfter, steppedOf}

@@ -7,6 +7,7 @@ use lib.ListN.{replicate}
 use Rattle.wire.specs.Fields.{fieldAt}
 use Rattle.wire.specs.Tests.{firstMet}
 use Rattle.wire.specs.Items.{framed, itemsIn, items}
+use Rattle.wire.specs.Copies.{sameNumbers, overwrite}
 use Rattle.section.specs.Answer.{refused}
 use Rattle.carousel_messages.specs.Limits.{someBad, total, beyond10, among, twice11}
 use Rattle.carousel_messages.specs.Heard.{Announced, Arrived, Heard, announced, arrived, listOf, announcedIn, arrivedIn, heardIn, heardOf, placeIn}
@@ -17,8 +18,8 @@ use Rattle.carousel_step.specs.declared.Answer.the-variants as answer
 use Rattle.carousel_step.specs.declared.Stepped.{Stepped}
 use Rattle.carousel_record.specs.Blocks.{blocksOf, blockLengthOf}
 use Rattle.carousel_record.specs.Marks.{markWords, isMarked, marksWith, clearAmong}
-use Rattle.carousel_record.specs.Record.{Record, announcedBy, startsBy, recordOf, sums, blockAt, missingOf, completeOf, sameNumbers, withinLimits, ruledOf}
-use Rattle.carousel_record.specs.Changes.{emptyRecord, entries, madeAfresh, withMark, afresh, marking, overwrite}
+use Rattle.carousel_record.specs.Record.{Record, announcedBy, startsBy, recordOf, sums, blockAt, missingOf, completeOf, withinLimits, ruledOf}
+use Rattle.carousel_record.specs.Changes.{emptyRecord, entries, madeAfresh, withMark, afresh, marking}
 use Rattle.carousel_step.specs.Step.{meets12, meets14, meets16, blockRefusal, bytesDiffer, sameModules, sameAnnounced, refusing, new, same, repeated, stored}
 use Rattle.carousel_record.specs.Refusals.{meets13, meets15}
 use Rattle.carousel_step.specs.Step.{matched, onArrived, onAnnounced, onHeard, outcomeOf, recordAfter, imageAfter, steppedOf, imageOf}

@@ -9,6 +9,7 @@ use lib.Dec.{eqb}
 use lib.ListN.{length, getD, take, drop}
 use borrow.Author.Tests.{eqb-true}
 use Rattle.wire.proofs.Laws.Tests.{clash}
+use Rattle.wire.specs.Copies.{overwrite}
 use Rattle.section.specs.declared.Refusal.{Refusal}
 use Rattle.section.specs.Answer.{refused}
 use Rattle.carousel_messages.specs.Heard.{Announced, Arrived, Heard, refusal, announced, arrived, heardOf}
@@ -17,7 +18,7 @@ use Rattle.carousel_step.specs.declared.Answer.{Answer}
 use Rattle.carousel_step.specs.declared.Answer.the-variants as answer
 use Rattle.carousel_record.specs.Marks.{markOf, isMarked, marksWith}
 use Rattle.carousel_record.specs.Record.{Record, announcedBy, recordOf, placeOf, received, blockAt, ruledOf}
-use Rattle.carousel_record.specs.Changes.{madeAfresh, withMark, overwrite}
+use Rattle.carousel_record.specs.Changes.{madeAfresh, withMark}
 use Rattle.carousel_step.specs.Step.{blockRefusal, bytesDiffer, sameAnnounced, StepOutcome, refusing, new, same, repeated, stored, matched, onArrived, onAnnounced, onHeard, outcomeOf}
 use Rattle.carousel_step.specs.Step.{answerOf, carouselAfter, imageAfter, steppedOf, imageOf}
 use Rattle.carousel_step.proofs.Views.{isNew}

@@ -10,12 +10,13 @@ use lib.ListN.{length, take, drop}
 use borrow.Author.Tests.{eqb-true, eqb-false, ltb-true, ltb-false, not-false}
 use Rattle.wire.proofs.Laws.Tests.{neither, clash}
 use Rattle.wire.proofs.Laws.Order.{none-exactly}
+use Rattle.wire.specs.Copies.{sameNumbers, overwrite}
 use Rattle.section.specs.Answer.{refused}
 use Rattle.carousel_messages.specs.Heard.{Announced, Arrived, Heard, refusal, announced, arrived}
 use Rattle.carousel_step.specs.declared.Answer.the-variants as answer
 use Rattle.carousel_record.specs.Marks.{markOf}
-use Rattle.carousel_record.specs.Record.{Record, moduleAt, placeOf, bytesOf, blockCount, blockLength, received, blockAt, sameNumbers}
-use Rattle.carousel_record.specs.Changes.{marking, overwrite}
+use Rattle.carousel_record.specs.Record.{Record, moduleAt, placeOf, bytesOf, blockCount, blockLength, received, blockAt}
+use Rattle.carousel_record.specs.Changes.{marking}
 use Rattle.carousel_step.specs.Step.{meets12, meets14, meets16, blockTests, blockRefusal, bytesDiffer, sameAnnounced}
 use Rattle.carousel_record.specs.Refusals.{meets13, meets15}
 use Rattle.carousel_step.specs.Step.{refusing, new, same, repeated, stored, matched, onArrived, onAnnounced, onHeard, answerOf}

@@ -3,10 +3,11 @@ use Prim.Native.Nat.{ℕ}
 use mathlib.Core.Bool.{Bool, true, false, cond}
 use mathlib.Core.List.{List}
 use lib.ListN.{take, drop}
+use Rattle.wire.specs.Copies.{sameNumbers}
 use Rattle.section.specs.Answer.{refused}
 use Rattle.carousel_step.specs.declared.Answer.{Answer}
 use Rattle.carousel_step.specs.declared.Answer.the-variants as answer
-use Rattle.carousel_record.specs.Record.{Record, blockLength, received, blockAt, sameNumbers}
+use Rattle.carousel_record.specs.Record.{Record, blockLength, received, blockAt}
 use Rattle.carousel_step.specs.Step.{StepOutcome, refusing, new, same, repeated, stored, recordAfter, imageAfter}
 
 -- one record, by what it says, and one image, carried from call to call; and both after a section that came to o

@@ -5,13 +5,13 @@ use mathlib.Core.List.{List, [], _∷_}
 use lib.Dec.{eqb, ltb}
 use lib.ListN.{length, take, drop}
 use Rattle.wire.specs.Tests.{Tests, firstMet}
+use Rattle.wire.specs.Copies.{sameNumbers}
 use Rattle.section.specs.Answer.{refused}
 use Rattle.carousel_messages.specs.Heard.{Arrived}
 use Rattle.carousel_record.specs.declared.Module.{Module}
 use Rattle.carousel_record.specs.declared.Head.{Head}
 use Rattle.carousel_record.specs.Blocks.{blocksOf, blockLengthOf}
 use Rattle.carousel_record.specs.Marks.{markOf, isMarked, marksWith}
-use Rattle.carousel_record.specs.Record.{sameNumbers}
 use Rattle.carousel_step.specs.Step.{StepOutcome, refusing, new, same, repeated, stored}
 
 -- 12 to 16 of a block, by the record's head h, and the entry m that was found for it at place i; the image is of length n

@@ -5,6 +5,7 @@ use mathlib.Core.List.{List, [], _∷_, _++_}
 use lib.Dec.{eqb, ltb}
 use lib.ListN.{length, take, drop}
 use Rattle.wire.specs.Tests.{Tests, firstMet}
+use Rattle.wire.specs.Copies.{sameNumbers, overwrite}
 use Rattle.section.specs.declared.Refusal.{Refusal}
 use Rattle.section.specs.Answer.{refused}
 use Rattle.carousel_messages.specs.declared.Listed.{Listed}
@@ -15,9 +16,9 @@ use Rattle.carousel_step.specs.declared.Answer.{Answer}
 use Rattle.carousel_step.specs.declared.Answer.the-variants as answer
 use Rattle.carousel_step.specs.declared.Stepped.{Stepped}
 use Rattle.carousel_record.specs.Marks.{markOf}
-use Rattle.carousel_record.specs.Record.{Record, recordOf, moduleAt, placeOf, blockCount, blockLength, received, blockAt, sameNumbers, ruledOf}
+use Rattle.carousel_record.specs.Record.{Record, recordOf, moduleAt, placeOf, blockCount, blockLength, received, blockAt, ruledOf}
 use Rattle.carousel_record.specs.Refusals.{meets13, meets15}
-use Rattle.carousel_record.specs.Changes.{madeAfresh, withMark, afresh, marking, overwrite}
+use Rattle.carousel_record.specs.Changes.{madeAfresh, withMark, afresh, marking}
 
 -- 12: "DDB: no announcement, or downloadId differs"
 unfoldable pub meets12 : Announced → Arrived → Bool

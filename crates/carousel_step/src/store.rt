@@ -9,13 +9,11 @@ use carousel_record::is_marked;
 use carousel_record::set_mark;
 use section::Refusal;
 use section::Spot;
+use wire::copy_at;
+use wire::is_equal;
 ghost use mathlib.Core.Path.{_≡_};
-ghost use Prim.Native.Nat.{_+_, _≤_};
-ghost use lib.ListN.{length};
 ghost use Rattle.section.specs.Answer.{refused};
 ghost use Rattle.carousel_messages.specs.Heard.{arrivedIn};
-ghost use Rattle.carousel_record.specs.Record.{sameNumbers};
-ghost use Rattle.carousel_record.specs.Changes.{overwrite};
 ghost use Rattle.carousel_step.specs.declared.Answer.the-variants.{Refused};
 ghost use Rattle.carousel_step.specs.Step.{answerOf, imageAfter};
 ghost use Rattle.carousel_step.specs.Held.{heldOutcome, putOutcome, marksAfter};
@@ -86,36 +84,7 @@ fn put(at: usize, k: usize, bytes: &[u8], marks: &mut [u32], image: &mut [u8]) -
         }
         return refuse(17);
     }
-    copy_at(bytes, image, at);
+    copy_at(image, at, bytes);
     set_mark(marks, k);
     Answer::Stored
-}
-
-// Without an early return, so that it becomes vector code.
-fn is_equal(a: &[u8], b: &[u8]) -> bool
-    ensures { λ r. ⌜ r ≡ sameNumbers (now (a .entry)) (now (b .entry)) ⌝ }
-{
-    if a.len() != b.len() {
-        return false;
-    }
-    let n = a.len();
-    let mut all: u8 = 0;
-    let mut i: usize = 0;
-    while i < n {
-        all |= a[i] ^ b[i];
-        i += 1;
-    }
-    all == 0
-}
-
-// Writes all of `bytes` into the image from index `at` on.
-fn copy_at(bytes: &[u8], image: &mut [u8], at: usize)
-    requires { ⌜ at + length (now bytes) ≤ length (now image) ⌝ }
-    ensures { λ _. ⌜ now (image .exit) ≡ overwrite (now (image .entry)) at (now (bytes .entry)) ⌝ }
-{
-    let mut j: usize = 0;
-    while j < bytes.len() {
-        image[at + j] = bytes[j];
-        j += 1;
-    }
 }

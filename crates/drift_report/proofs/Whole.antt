@@ -22,7 +22,8 @@ use Rattle.carousel_handout.specs.declared.Report.the-variants as report
 use Rattle.carousel_handout.specs.Calls.{handoutNumber, handedOut, reportOf}
 use Rattle.section.specs.Header.{applicationTable}
 use Rattle.wire.specs.Fields.{byteAt}
-use Rattle.receiver.specs.Run.{wholeAt, givenOf, imageGiven, halted, runAfter, stopAt, RunOutcome, runs, runOf}
+use Rattle.section.specs.Whole.{wholeAt}
+use Rattle.receiver.specs.Run.{givenOf, imageGiven, halted, runAfter, stopAt, RunOutcome, runs, runOf}
 use Rattle.receiver.specs.declared.Stop.the-variants as stop
 use Rattle.drift_list.specs.declared.Fields.{Fields}
 use Rattle.drift_list.specs.declared.Fix.{Fix}

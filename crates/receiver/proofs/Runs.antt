@@ -20,8 +20,9 @@ use Rattle.receiver.specs.declared.Fate.{Fate}
 use Rattle.receiver.specs.declared.Took.{Took}
 use Rattle.receiver.specs.declared.Stop.{Stop}
 use Rattle.receiver.specs.declared.Stop.the-variants as stop
-use Rattle.receiver.specs.Run.{wholeAt, stopAt, tableFate, carouselFate, givenOf, imageGiven, tookOf, imageTook, RunOutcome, halted, runAfter, runs, runOf, sectionsOf, fatesOf, Held, walk}
-use Rattle.receiver.proofs.Laws.Places.{whole-fits, whole-three}
+use Rattle.section.specs.Whole.{wholeAt}
+use Rattle.receiver.specs.Run.{stopAt, tableFate, carouselFate, givenOf, imageGiven, tookOf, imageTook, RunOutcome, halted, runAfter, runs, runOf, sectionsOf, fatesOf, Held, walk}
+use Rattle.section.proofs.Laws.Whole.{whole-fits, whole-three}
 use Rattle.receiver.proofs.Laws.Runs.{took-one, ahead, same-counts, ahead-none, runs-stop, runs-next, run-state, run-ruled}
 
 -- what a run leaves, as a record and an image

@@ -13,7 +13,8 @@ use Rattle.section.specs.declared.Checked.{Checked}
 use Rattle.section.specs.declared.Checked.the-variants as checked
 use Rattle.section.specs.declared.Spot.{Spot}
 use Rattle.section.specs.declared.Spot.the-variants.{Nowhere}
-use Rattle.section.specs.Header.{lengthOf, applicationTable}
+use Rattle.section.specs.Header.{applicationTable}
+use Rattle.section.specs.Whole.{isShort, wholeAt}
 use Rattle.ait_read.specs.declared.ReadAnswer.{ReadAnswer}
 use Rattle.ait_read.specs.declared.ReadAnswer.the-variants as reading
 use Rattle.ait_read.specs.Answers.{readAnswer, readNumber}
@@ -32,21 +33,9 @@ use Rattle.receiver.specs.declared.Took.{Took}
 use Rattle.receiver.specs.declared.Given.{Given}
 use Rattle.receiver.specs.declared.Ran.{Ran}
 
--- what the section at the head of a stretch says of its length: "3 + L bytes"
-abbrev pub saidLength : List ℕ → ℕ
-saidLength s = 3 + lengthOf s
-
--- "fewer than 3 or 3 + L bytes"
-abbrev pub isShort : List ℕ → Bool
-isShort s = ltb (length s) 3 || ltb (length s) (saidLength s)
-
 -- "nothing left, stop "end"; byte 0xFF, stop "stuffing"; fewer than 3 or 3 + L bytes, stop "short"; budget used up, stop "budget""
 unfoldable pub stopAt : List ℕ → Stop
 stopAt s = cond (eqb (length s) 0) stop.End (cond (eqb (byteAt s 0) 0xFF) stop.Stuffing (cond (isShort s) stop.Short stop.Budget))
-
--- the length of the whole section that a stretch begins with; 0 where one of the first three stops stands
-unfoldable pub wholeAt : List ℕ → ℕ
-wholeAt s = cond (isShort s || eqb (byteAt s 0) 0xFF) 0 (saidLength s)
 
 -- "0x74 by the application rules (kind "table" when accepted), every other by the carousel's"
 abbrev pub rulesOf : List ℕ → Rules

@@ -18,6 +18,7 @@ use carousel_step::take_block;
 use section::Checked;
 use section::Refusal;
 use section::Spot;
+use section::whole_at;
 ghost use mathlib.Core.Path.{_≡_};
 ghost use mathlib.Core.Bool.{true};
 ghost use Prim.Native.Nat.{_≤_};
@@ -25,12 +26,9 @@ ghost use lib.ListN.{length};
 ghost use Rattle.ait_read.specs.Acceptance.{tableJudgedBy};
 ghost use Rattle.carousel_messages.specs.Judged.{judgedBy};
 ghost use Rattle.carousel_record.specs.Record.{ruledOf};
-ghost use Rattle.receiver.specs.Run.{stoppedBy, wholeAt, stopAt, givenOf, imageGiven, tookOf, imageTook, numberTook, tookNumber, ranOf, imageRan, judgedFate, carouselFate};
+ghost use Rattle.receiver.specs.Run.{stoppedBy, stopAt, givenOf, imageGiven, tookOf, imageTook, numberTook, tookNumber, ranOf, imageRan, judgedFate, carouselFate};
 ghost use Rattle.receiver.specs.Run.{numberOfFate, placeOfFate};
 ghost use Rattle.receiver.specs.Kinds.{kindNumber, stopNumber};
-
-// The byte that fills a stretch after its last section.
-const STUFFING: u8 = 0xFF;
 
 // Why a run stops.
 pub enum Stop {
@@ -273,23 +271,6 @@ fn ended(c: Carousel, taken: usize, passed: usize, stop: Stop) -> Ran
     }
 }
 
-// The length of the section that a stretch begins with; 0 where it begins with no whole one.
-fn whole_at(s: &[u8]) -> usize
-    ensures { λ r. ⌜ (r ≡ wholeAt (now (s .entry))) × (r ≤ length (now (s .entry))) ⌝ }
-{
-    if s.len() < 3 {
-        return 0;
-    }
-    if wire::byte_at(s, 0) == STUFFING {
-        return 0;
-    }
-    let n = 3 + wire::twelve_at(s, 1);
-    if s.len() < n {
-        return 0;
-    }
-    n
-}
-
 // Why a run stops at a place where it takes nothing.
 fn stop_at(s: &[u8]) -> Stop
     ensures { λ r. ⌜ r ≡ stopAt (now (s .entry)) ⌝ }
@@ -297,7 +278,7 @@ fn stop_at(s: &[u8]) -> Stop
     if s.len() == 0 {
         return Stop::End;
     }
-    if wire::byte_at(s, 0) == STUFFING {
+    if wire::byte_at(s, 0) == section::STUFFING {
         return Stop::Stuffing;
     }
     if whole_at(s) == 0 {

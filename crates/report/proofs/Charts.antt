@@ -24,7 +24,8 @@ use Rattle.carousel_step.proofs.Steps.{new-leaves-image, refusal-changes-nothin
 use Rattle.carousel_step.proofs.Charts.{widened, beyond-the-image}
 use Rattle.receiver.specs.declared.Took.{Took}
 use Rattle.receiver.specs.declared.Stop.the-variants as stop
-use Rattle.receiver.specs.Run.{wholeAt, stopAt, carouselFate, givenOf, imageGiven}
+use Rattle.section.specs.Whole.{wholeAt}
+use Rattle.receiver.specs.Run.{stopAt, carouselFate, givenOf, imageGiven}
 use Rattle.receiver.proofs.Laws.Runs.{took-stop, took-one}
 use Rattle.report.specs.Report.{kindName, stopName, placeField, header, lineOf, lastLine, budget, printed}
 use Rattle.report.proofs.Laws.Lines.{textFrom, text-ends, text-goes-on, printed-is}

@@ -21,7 +21,8 @@ use Rattle.receiver.specs.declared.Stop.{Stop}
 use Rattle.receiver.specs.declared.Stop.the-variants as stop
 use Rattle.receiver.specs.declared.Fate.{Fate}
 use Rattle.receiver.specs.declared.Fate.the-variants as fate
-use Rattle.receiver.specs.Run.{rulesOf, numberOfFate, placeOfFate, saidLength, isShort, wholeAt, givenOf, imageGiven, runOf, fatesOf}
+use Rattle.section.specs.Whole.{saidLength, isShort, wholeAt}
+use Rattle.receiver.specs.Run.{rulesOf, numberOfFate, placeOfFate, givenOf, imageGiven, runOf, fatesOf}
 use Rattle.receiver.proofs.Laws.Refusals.{take-known, take-told}
 use Rattle.receiver.proofs.Runs.{fates-counted, taken-most, taken-third}
 use Rattle.report.specs.Report.{kindName, stopName, placeField, header, lineOf, linesFrom, lastLine, budget, printed}

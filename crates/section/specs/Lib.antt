@@ -2,3 +2,4 @@ pub mod Crc
 pub mod Header
 pub mod Refusals
 pub mod Answer
+pub mod Whole

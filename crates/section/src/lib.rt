@@ -10,6 +10,7 @@ ghost use Prim.Native.Nat.{_≤_};
 ghost use lib.ListN.{length};
 ghost use Rattle.section.specs.Header.{isTable, limitOf, headerOf};
 ghost use Rattle.section.specs.Refusals.{refusalBy, refusalOf, misframed, spotOf};
+ghost use Rattle.section.specs.Whole.{wholeAt};
 ghost use Rattle.section.specs.Answer.{numberOfChecked, checkedBy, checkedOf};
 pub use register::crc;
 
@@ -18,6 +19,9 @@ pub const APPLICATION_TABLE: u8 = 0x74;
 pub const ANNOUNCEMENT_TABLE: u8 = 0x3B;
 
 pub const BLOCK_TABLE: u8 = 0x3C;
+
+// The byte that fills a stretch after its last section.
+pub const STUFFING: u8 = 0xFF;
 
 // The largest lengths L: of an application section, and of a carousel section.
 pub const APPLICATION_LIMIT: usize = 1021;
@@ -71,6 +75,23 @@ pub fn check(s: &[u8], rules: Rules) -> Checked
     ensures { λ r. ⌜ (r ≡ checkedOf rules (now (s .entry))) × (numberOfChecked r ≡ refusalOf rules (now (s .entry))) ⌝ }
 {
     check_by(s, rules, crc(s))
+}
+
+// The length of the section that a stretch begins with; 0 where it begins with no whole one.
+pub fn whole_at(s: &[u8]) -> usize
+    ensures { λ r. ⌜ (r ≡ wholeAt (now (s .entry))) × (r ≤ length (now (s .entry))) ⌝ }
+{
+    if s.len() < 3 {
+        return 0;
+    }
+    if wire::byte_at(s, 0) == STUFFING {
+        return 0;
+    }
+    let n = 3 + wire::twelve_at(s, 1);
+    if s.len() < n {
+        return 0;
+    }
+    n
 }
 
 // The same for whoever has the register already: what `s` leaves, or any other number.

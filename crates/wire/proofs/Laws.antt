@@ -13,3 +13,5 @@ pub mod Counted
 pub mod Finders
 pub mod Parts
 pub mod Nth
+pub mod Copies
+pub mod Pieces

@@ -4,3 +4,5 @@ pub mod Signed
 pub mod Tests
 pub mod Items
 pub mod Places
+pub mod Copies
+pub mod Pieces

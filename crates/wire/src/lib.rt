@@ -3,13 +3,17 @@
 // A byte past the end of a slice reads as 0, so every reader answers for every slice and every
 // place, and asks nothing of its caller. What a field is, is said in specs/Fields.antt; what a list
 // of items is, and what lies where, in specs/Items.antt and specs/Places.antt; what the first of
-// some numbered tests is, in specs/Tests.antt.
+// some numbered tests is, in specs/Tests.antt; what bytes laid over others are, in specs/Copies.antt.
+mod copies;
+
 ghost use mathlib.Core.Path.{_≡_};
-ghost use Prim.Native.Nat.{_<_};
+ghost use Prim.Native.Nat.{_<_, min};
 ghost use lib.ListN.{take, drop};
 ghost use Rattle.wire.specs.Places.{after, bytes};
 ghost use Rattle.wire.specs.Items.{measured, items, endOf};
 ghost use Rattle.wire.specs.Fields.{byteAt, twelveAt, sixteenAt, thirtyTwoAt};
+pub use copies::copy_at;
+pub use copies::is_equal;
 
 // A part of a slice: where it starts and how many bytes it has; or nothing.
 pub enum Place {
@@ -137,4 +141,14 @@ pub fn bytes_at(x: &[u8], at: usize, n: usize) -> Place
         return Place::Nothing;
     }
     Place::At { start: at, size: n }
+}
+
+// Whichever is less.
+pub fn lesser(m: usize, n: usize) -> usize
+    ensures { λ r. ⌜ r ≡ min m n ⌝ }
+{
+    if m < n {
+        return m;
+    }
+    n
 }

@@ -9,6 +9,7 @@ use lib.ListN.{length, getD, take, drop, length-map, length-take, drop-of-length
 use lib.Seq.{drop-cons, getD-take, drop-drop}
 use lib.Dec.{eqb}
 use borrow.Author.Tests.{eq-eqb, ne-eqb}
+use Rattle.wire.specs.Copies.{sameNumbers}
 use Rattle.carousel_messages.specs.declared.Listed.{Listed}
 use Rattle.carousel_record.specs.declared.Module.{Module}
 use Rattle.carousel_messages.proofs.Laws.Limits.{take-map}
@@ -16,7 +17,7 @@ use Rattle.carousel_record.specs.declared.Carousel.{Carousel}
 use Rattle.carousel_record.specs.Blocks.{blocksOf}
 use Rattle.carousel_record.specs.Marks.{moduleWords, clearFrom, marksWithin}
 use Rattle.carousel_messages.specs.Heard.{sizesOf, placeIn}
-use Rattle.carousel_record.specs.Record.{listedIn, startIn, numberIn, placeAmong, announcedBy, sums, sameNumbers, unused, isUnused, allUnused}
+use Rattle.carousel_record.specs.Record.{listedIn, startIn, numberIn, placeAmong, announcedBy, sums, unused, isUnused, allUnused}
 
 module _ (ms : List Module) (n : ℕ) (h : n ≤ length ms) where
   abbrev listed : List Listed

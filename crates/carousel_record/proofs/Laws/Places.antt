@@ -8,11 +8,12 @@ use lib.Dec.{eqb, ltb}
 use lib.ListN.{length, getD, length-map}
 use borrow.Author.Tests.{eq-eqb, ne-eqb, eqb-true, eqb-false, ltb-false}
 use Rattle.wire.proofs.Laws.Tests.{both, neither, clash}
+use Rattle.wire.specs.Copies.{sameNumbers}
 use Rattle.carousel_messages.specs.declared.Listed.{Listed}
 use Rattle.carousel_messages.specs.Limits.{largestBlock, mostModules, mostBlocks, mostBytes, badSize, someBad, total, beyond10, among, twice11}
 use Rattle.carousel_messages.specs.Heard.{noneListed, sizesOf, numbersOf, placeIn}
 use Rattle.carousel_messages.proofs.Laws.Limits.{among-place, Within, within}
-use Rattle.carousel_record.specs.Record.{sums, sameNumbers}
+use Rattle.carousel_record.specs.Record.{sums}
 
 -- the same numbers are the same list
 pub same-is : (xs ys : List ℕ) → sameNumbers xs ys ≡ true → xs ≡ ys

@@ -8,12 +8,13 @@ use lib.Dec.{eqb, leb, lit≤}
 use lib.ListN.{length, drop, length-map, length-set, length-replicate}
 use borrow.Author.Tests.{eq-eqb, ne-eqb, eqb-true, leb-true, not-true}
 use Rattle.wire.proofs.Laws.Tests.{both}
+use Rattle.wire.specs.Copies.{sameNumbers}
 use Rattle.carousel_messages.specs.Limits.{mostModules, mostBlocks, beyond10, twice11}
 use Rattle.carousel_messages.specs.Heard.{Announced, sizesOf, numbersOf}
 use Rattle.carousel_record.specs.declared.Carousel.{Carousel}
 use Rattle.carousel_record.specs.Blocks.{blocksOf}
 use Rattle.carousel_record.specs.Marks.{moduleWords, markWords, markOf, isMarked, marksWith, marksWithin}
-use Rattle.carousel_record.specs.Record.{Record, recordOf, moduleAt, sums, blockCount, sameNumbers, withinLimits, ruled, allUnused, ruledOf}
+use Rattle.carousel_record.specs.Record.{Record, recordOf, moduleAt, sums, blockCount, withinLimits, ruled, allUnused, ruledOf}
 use Rattle.carousel_record.specs.Changes.{afresh, marking}
 use Rattle.carousel_record.proofs.Laws.Tests.{joint}
 use Rattle.carousel_record.proofs.Laws.Marks.{within-fresh, within-with, within-means}

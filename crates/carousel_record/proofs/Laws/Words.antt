@@ -8,10 +8,10 @@ use native.Mathlib.Nat.{one-mul, mod-eq-of-lt, div-zero, div-one, div-le-self}
 use native.Mathlib.Omega.{arith}
 use lib.Dec.{eqb}
 use lib.Pow.{pow-lt}
-use lib.Bits.{bitOr, or-zero-l, or-add-and, and-le-r}
+use lib.Bits.{bitOr}
 use lib.ListN.{length, getD, drop, drop-of-length-le}
 use lib.Seq.{drop-cons}
-use borrow.Author.Tests.{ne-eqb, eqb-true, eqb-false}
+use Rattle.wire.proofs.Laws.Copies.{or-none}
 use Rattle.carousel_record.specs.Blocks.{blocksOf}
 use Rattle.carousel_record.specs.Marks.{clearFrom}
 
@@ -42,14 +42,6 @@ module _ (ws : List ℕ) (i n : ℕ) where
   pub word-done : length ws ≤ i → clearFrom n (drop i ws) ≡ true
   unfolding clearFrom
   word-done l = rw (drop-of-length-le ws l)
-
--- words taken together: nothing is set in two of them exactly where nothing is in either
-pub or-none : (a b : ℕ) → eqb (bitOr a b) 0 ≡ (eqb a 0 && eqb b 0)
-or-none a b = go (eqb a 0) refl
-  where
-    go : (t : Bool) → eqb a 0 ≡ t → eqb (bitOr a b) 0 ≡ (t && eqb b 0)
-    go true e = rw (eqb-true a 0 e, or-zero-l b)
-    go false e = ne-eqb (bitOr a b) 0 (λ z. let p = or-add-and a b in let q = and-le-r a b in eqb-false a 0 e (omega arith))
 
 -- all those before word k in one, and the rest
 module _ (ws : List ℕ) (all k : ℕ) where

@@ -6,7 +6,7 @@ use mathlib.Core.Logic.{_⊎_, inl, inr}
 use native.Mathlib.Omega.{arith}
 use lib.ListN.{length, getD, take, drop, length-append, length-take, length-drop, take-append-drop}
 use lib.Seq.{length-take-le, take-append-seam, take-append-le, drop-append-le, drop-append-add, drop-at, drop-drop, getD-take, getD-drop}
-use Rattle.carousel_record.specs.Changes.{overwrite}
+use Rattle.wire.specs.Copies.{overwrite}
 
 -- a byte is the first from its place on
 from : (l : List ℕ) (p : ℕ) → getD l p 0 ≡ getD (drop p l) 0 0

@@ -7,6 +7,7 @@ use lib.Dec.{eqb, ltb}
 use lib.ListN.{length, take, drop}
 use borrow.Author.Tests.{eq-eqb, ne-eqb, lt-ltb, le-ltb}
 use Rattle.wire.specs.Tests.{firstMet}
+use Rattle.wire.specs.Copies.{sameNumbers}
 use Rattle.section.specs.declared.Refusal.{Refusal}
 use Rattle.section.specs.Answer.{refused}
 use Rattle.carousel_messages.specs.declared.Announcement.{Announcement}
@@ -19,7 +20,7 @@ use Rattle.carousel_record.specs.declared.Module.{Module}
 use Rattle.carousel_record.specs.declared.Head.{Head}
 use Rattle.carousel_record.specs.Blocks.{blocksOf, blockLengthOf}
 use Rattle.carousel_record.specs.Marks.{markOf, isMarked}
-use Rattle.carousel_record.specs.Record.{Record, recordOf, moduleAt, placeOf, bytesOf, blockCount, blockLength, received, blockAt, sameNumbers, ruledOf}
+use Rattle.carousel_record.specs.Record.{Record, recordOf, moduleAt, placeOf, bytesOf, blockCount, blockLength, received, blockAt, ruledOf}
 use Rattle.carousel_step.specs.Step.{StepOutcome, refusing, new, same, repeated, stored, meets12, meets14, meets16, blockRefusal, bytesDiffer}
 use Rattle.carousel_step.specs.Step.{matched, sameAnnounced, onAnnounced, onArrived, onHeard, outcomeOf, imageAfter, returning, steppedOf}
 use Rattle.carousel_step.specs.Step.{imageOf}

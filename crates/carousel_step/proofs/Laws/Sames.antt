@@ -1,15 +1,24 @@
 -- The record's modules and the announced ones, two at a time, as the loop that compares them takes them.
-use Prim.Native.Nat.{ℕ, _+_, _≤_, _<_}
-use mathlib.Core.Path.{_≡_}
+use Prim.Native.Nat.{ℕ, suc, _+_, _≤_, _<_}
+use mathlib.Core.Path.{_≡_, refl, ap}
 use mathlib.Core.Bool.{Bool, true, false, _&&_}
-use mathlib.Core.List.{List, _∷_, map}
+use mathlib.Core.List.{List, [], _∷_, map}
 use lib.Dec.{eqb}
 use lib.ListN.{length, getD, take, drop, drop-of-length-le}
+use Rattle.wire.proofs.Laws.Tests.{fails}
 use Rattle.carousel_messages.specs.declared.Listed.{Listed}
 use Rattle.carousel_record.specs.declared.Module.{Module}
 use Rattle.carousel_record.specs.Record.{listedIn, unused}
 use Rattle.carousel_record.proofs.Laws.Entries.{next, none-left}
 use Rattle.carousel_step.specs.Step.{sameModules}
+
+-- lists of two lengths are not the same
+pub modules-lengths : (xs ys : List Listed) → (length xs ≡ length ys → ⊥) → sameModules xs ys ≡ false
+unfolding sameModules
+modules-lengths [] [] h = absurd (h refl)
+modules-lengths [] (y ∷ ys) h = refl
+modules-lengths (x ∷ xs) [] h = refl
+modules-lengths (x ∷ xs) (y ∷ ys) h = rw (modules-lengths xs ys (λ e. h (ap suc e))) (fails (eqb (x .number) (y .number) && eqb (x .size) (y .size) && eqb (x .version) (y .version)))
 
 module _ (ms : List Module) (n : ℕ) (h : n ≤ length ms) (i : ℕ) where
   abbrev listed : List Listed

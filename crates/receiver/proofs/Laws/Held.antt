@@ -10,6 +10,7 @@ use lib.Seq.{getD-drop}
 use borrow.Author.Tests.{eqb-true}
 use Rattle.wire.specs.Fields.{byteAt}
 use Rattle.wire.proofs.Laws.Tests.{clash, both}
+use Rattle.wire.specs.Copies.{sameNumbers}
 use Rattle.crc_tables.proofs.Laws.Right.{Bytes}
 use Rattle.section.specs.declared.Rules.the-variants.{Carousel as Carousels}
 use Rattle.section.specs.declared.Refusal.{Refusal}
@@ -21,7 +22,7 @@ use Rattle.carousel_messages.specs.Judged.{judgedOf, numberOfJudged}
 use Rattle.carousel_messages.specs.Heard.{arrivedIn, spanOf, sizesOf}
 use Rattle.carousel_messages.proofs.Exact as messages
 use Rattle.carousel_record.specs.declared.Carousel.{Carousel}
-use Rattle.carousel_record.specs.Record.{recordOf, sums, sameNumbers, withinLimits, ruled, ruledOf}
+use Rattle.carousel_record.specs.Record.{recordOf, sums, withinLimits, ruled, ruledOf}
 use Rattle.carousel_record.specs.Marks.{markWords}
 use Rattle.carousel_record.proofs.Laws.Rule.{ruled-says}
 use Rattle.carousel_step.specs.Step.{StepOutcome, refusing, onArrived, carouselAfter, imageAfter, steppedOf, imageOf, returning}

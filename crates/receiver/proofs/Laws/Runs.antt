@@ -14,7 +14,8 @@ use Rattle.receiver.specs.declared.Stop.the-variants as stop
 use Rattle.receiver.specs.declared.What.the-variants as what
 use Rattle.receiver.specs.declared.Given.{Given}
 use Rattle.receiver.specs.declared.Took.{Took}
-use Rattle.receiver.specs.Run.{wholeAt, stopAt, givenOf, imageGiven, stoppedBy, tookOf, imageTook, RunOutcome, halted, runAfter, runs, runOf, ranOf, imageRan}
+use Rattle.section.specs.Whole.{wholeAt}
+use Rattle.receiver.specs.Run.{stopAt, givenOf, imageGiven, stoppedBy, tookOf, imageTook, RunOutcome, halted, runAfter, runs, runOf, ranOf, imageRan}
 
 module _ (c : Carousel) (s image : List ℕ) (budget : ℕ) where
   pub took-state : ruledOf c ≡ false → (tookOf c s image budget ≡ stoppedBy c stop.State) × (imageTook c s image budget ≡ image)

@@ -29,10 +29,11 @@ use Rattle.receiver.specs.declared.What.{What}
 use Rattle.receiver.specs.declared.What.the-variants as what
 use Rattle.receiver.specs.declared.Given.{Given}
 use Rattle.receiver.specs.declared.Took.{Took}
-use Rattle.receiver.proofs.Laws.Places.{whole-fits}
+use Rattle.section.proofs.Laws.Whole.{whole-fits}
 use Rattle.receiver.proofs.Laws.Runs.{took-stop, took-budget, took-one, runs-stop, runs-done, runs-next}
 use Rattle.receiver.proofs.Runs.{given-rule}
-use Rattle.receiver.specs.Run.{stopAt, wholeAt, readFate, tableFate, carouselFate, givenOf, imageGiven, numberOfFate, givenNumber, stoppedBy}
+use Rattle.section.specs.Whole.{wholeAt}
+use Rattle.receiver.specs.Run.{stopAt, readFate, tableFate, carouselFate, givenOf, imageGiven, numberOfFate, givenNumber, stoppedBy}
 use Rattle.receiver.specs.Run.{tookOf, imageTook, numberTook, tookNumber, halted, runAfter, runs, fatesOf}
 
 -- THE NUMBER OF ONE SECTION is that of the paper's table, whichever rules it goes by

@@ -27,7 +27,8 @@ use Rattle.carousel_step.proofs.Held.{found-entry, joined-own, held-record, hel
 use Rattle.receiver.specs.declared.Stop.{Stop}
 use Rattle.receiver.specs.declared.Given.{Given}
 use Rattle.receiver.specs.declared.Ran.{Ran}
-use Rattle.receiver.specs.Run.{wholeAt, stopAt, givenOf, imageGiven, runs, runOf}
+use Rattle.section.specs.Whole.{wholeAt}
+use Rattle.receiver.specs.Run.{stopAt, givenOf, imageGiven, runs, runOf}
 use Rattle.receiver.proofs.Runs.{given-rule}
 use Rattle.receiver.proofs.Laws.Runs.{ahead, ahead-none, ahead-halted, run-state, run-ruled, runs-stop, runs-done, turned, ran-is}
 use Rattle.receiver.proofs.Laws.Held.{given-refused, given-carried, ruled-words, part-bytes}

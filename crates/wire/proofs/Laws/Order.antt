@@ -105,3 +105,8 @@ nth-from n b vs k (u ∷ us) r = go (u .1) (nth-from n b vs (u .0) us (r .1))
 
 pub nth-exactly : (us : Tests) (n : ℕ) (b : Bool) (vs : Tests) → RisingFrom 0 (us ++ (n, b) ∷ vs) → (firstMet (us ++ (n, b) ∷ vs) ≡ n) ↔ (None us × (b ≡ true))
 nth-exactly us n b vs r = nth-from n b vs 0 us r
+
+-- what a test that is not met says, and so what one that is met says
+pub unmet : (b : Bool) {A : Type 0} → (b ≡ false) ↔ A → (b ≡ true) ↔ (A → ⊥)
+unmet true e = (λ x h. clash true refl (e .1 h), λ x. refl)
+unmet false e = (λ x. absurd (clash false x refl), λ x. absurd (x (e .0 refl)))

@@ -19,6 +19,11 @@ pub neither : (a b : Bool) → (a || b) ≡ false → (a ≡ false) × (b ≡ fa
 neither true b e = let z : _≡_ {A = ℕ} 0 1 = cc in absurd (omega arith)
 neither false b e = (refl, e)
 
+-- a test and one that fails
+pub fails : (t : Bool) → (t && false) ≡ false
+fails true = refl
+fails false = refl
+
 -- one test more in front, by whether it holds
 module _ (t : ℕ × Bool) (ts : Tests) where
   first-hit : t .1 ≡ true → firstMet (t ∷ ts) ≡ t .0

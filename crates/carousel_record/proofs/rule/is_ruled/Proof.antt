@@ -5,12 +5,13 @@ use mathlib.Core.Bool.{Bool, true, _&&_}
 use mathlib.Core.List.{map}
 use native.Mathlib.Omega.{arith}
 use lib.ListN.{length, take, length-map}
+use Rattle.wire.specs.Copies.{sameNumbers}
 use Rattle.carousel_messages.specs.Limits.{mostModules}
 use Rattle.carousel_record.specs.declared.Carousel.{Carousel}
 use Rattle.carousel_record.specs.Blocks.{blocksOf}
 use Rattle.carousel_record.specs.Marks.{moduleWords, markWords, marksWithin}
 use Rattle.carousel_messages.specs.Heard.{sizesOf}
-use Rattle.carousel_record.specs.Record.{announcedBy, startsBy, listedIn, startIn, sums, sameNumbers, withinLimits, ruled, ruledOf}
+use Rattle.carousel_record.specs.Record.{announcedBy, startsBy, listedIn, startIn, sums, withinLimits, ruled, ruledOf}
 use borrow.Author.Needs.{needs}
 use Rattle.carousel_record.proofs.rule.is_ruled.Statement.{statement}
 use Rattle.carousel_record.proofs.rule.is_ruled.Tie as tie

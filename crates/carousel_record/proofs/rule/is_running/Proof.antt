@@ -5,8 +5,9 @@ use mathlib.Core.List.{map}
 use Prim.Native.Nat.{_-_, _*_, _≤_}
 use native.Mathlib.Omega.{arith}
 use lib.ListN.{length, take, drop}
+use Rattle.wire.specs.Copies.{sameNumbers}
 use Rattle.carousel_messages.specs.Heard.{sizesOf}
-use Rattle.carousel_record.specs.Record.{listedIn, startIn, sums, sameNumbers}
+use Rattle.carousel_record.specs.Record.{listedIn, startIn, sums}
 use Rattle.carousel_record.proofs.Laws.Entries.{running-off, running-next, running-done}
 use Rattle.carousel_record.proofs.rule.is_running.Statement.{statement}
 use Rattle.carousel_record.proofs.rule.is_running.Tie as tie

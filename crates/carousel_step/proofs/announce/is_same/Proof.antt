@@ -8,7 +8,7 @@ use borrow.Author.Tests.{eq-eqb, ne-eqb}
 use Rattle.carousel_messages.specs.Heard.{listOf, announcedIn}
 use Rattle.carousel_record.specs.Record.{listedIn, announcedBy}
 use Rattle.carousel_step.specs.Step.{sameAnnounced}
-use Rattle.carousel_step.proofs.Laws.Bytes.{modules-lengths}
+use Rattle.carousel_step.proofs.Laws.Sames.{modules-lengths}
 use Rattle.carousel_record.proofs.Laws.Says.{listed-length}
 use borrow.Author.Needs.{needs}
 use Rattle.carousel_step.proofs.announce.is_same.Statement.{statement}

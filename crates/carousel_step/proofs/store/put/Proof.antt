@@ -4,7 +4,8 @@ use mathlib.Core.Path.{_≡_, refl, sym, ap, _∙_}
 use mathlib.Core.Bool.{Bool, true, false}
 use native.Mathlib.Omega.{arith}
 use lib.ListN.{length, take, drop}
-use Rattle.carousel_record.specs.Record.{sameNumbers}
+use Rattle.wire.specs.Copies.{sameNumbers}
+use Rattle.wire.proofs.Laws.Copies.{laid-fits}
 use Rattle.carousel_step.proofs.Laws.Outcomes.{put-short, put-clear, put-same, put-other}
 use borrow.Author.Needs.{needs}
 use Rattle.carousel_step.proofs.store.put.Statement.{statement}
@@ -126,7 +127,7 @@ returns-4 c =
     rw o (c .refuse3 .ensures, refl, refl)
 
 copy-at-requires : tie.Need-copy-at-requires
-copy-at-requires c κs = let r = room (else2-of-else3 (c .before)) in omega arith
+copy-at-requires c κs = search needs
 
 set-mark-requires : tie.Need-set-mark-requires
 set-mark-requires c κs = search needs
@@ -145,7 +146,7 @@ returns-5 c =
     let e = else2-of-else3 f in
     let a = start-of-else2 e .args in
     let o = put-clear (a .k) (a .at) (a .marks .now) (a .image .now) (a .bytes .now) (room e) (sym (f .before .is-marked .ensures) ∙ f .if3 .left) in
-    rw o (refl, m .set-mark .ensures, w .copy-at .ensures)
+    rw o (refl, m .set-mark .ensures, w .copy-at .ensures ∙ laid-fits (a .image .now) (a .at) (a .bytes .now) (room e))
 
 pub put-spec : {M : Type 1} → statement M
 put-spec =

@@ -1,10 +1,10 @@
--- `receiver::whole_at` meets its contract: three reasons for none, and else what is said.
+-- `section::whole_at` meets its contract: three reasons for none, and else what is said.
 use mathlib.Core.Path.{sym, _∙_}
 use native.Mathlib.Omega.{arith}
-use Rattle.receiver.proofs.Laws.Places.{whole-few, whole-stuffing, whole-short, whole-is}
+use Rattle.section.proofs.Laws.Whole.{whole-few, whole-stuffing, whole-short, whole-is}
 use borrow.Author.Needs.{needs}
-use Rattle.receiver.proofs.whole_at.Statement.{statement}
-use Rattle.receiver.proofs.whole_at.Tie as tie
+use Rattle.section.proofs.whole_at.Statement.{statement}
+use Rattle.section.proofs.whole_at.Tie as tie
 
 -- the places that stand before a place, by name
 abbrev start-of-else1 : tie.Else1 → tie.Start

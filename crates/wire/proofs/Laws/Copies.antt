@@ -1,4 +1,4 @@
--- Two lists of numbers, or of modules, compared one place at a time.
+-- Two lists of bytes compared one place at a time, and bytes laid over others.
 use Prim.Native.Nat.{ℕ, suc, _+_, _≤_, _<_}
 use mathlib.Core.Path.{_≡_, refl, sym, ap, _∙_}
 use mathlib.Core.Bool.{Bool, true, false, _&&_}
@@ -8,17 +8,10 @@ use native.Mathlib.Omega.{arith}
 use lib.Dec.{eqb}
 use lib.ListN.{length, getD, drop, drop-of-length-le}
 use lib.Seq.{drop-cons}
-use borrow.Author.Tests.{eq-eqb, ne-eqb, eqb-true, eqb-false}
-use lib.Bits.{bitOr, bitXor, xor-self, xor-add-and, and-le-l, and-le-r}
-use Rattle.carousel_record.proofs.Laws.Words.{or-none}
-use Rattle.carousel_messages.specs.declared.Listed.{Listed}
-use Rattle.carousel_record.specs.Record.{sameNumbers}
-use Rattle.carousel_step.specs.Step.{sameModules}
-
--- a test and one that fails
-pub fails : (t : Bool) → (t && false) ≡ false
-fails true = refl
-fails false = refl
+use lib.Bits.{bitOr, bitXor, or-zero-l, or-add-and, xor-self, xor-add-and, and-le-l, and-le-r}
+use borrow.Author.Tests.{eq-eqb, ne-eqb, eqb-true, eqb-false, le-leb, lt-leb}
+use Rattle.wire.specs.Copies.{sameNumbers, overwrite, laidAt}
+use Rattle.wire.proofs.Laws.Tests.{fails}
 
 pub bytes-lengths : (xs ys : List ℕ) → (length xs ≡ length ys → ⊥) → sameNumbers xs ys ≡ false
 unfolding sameNumbers
@@ -27,12 +20,13 @@ bytes-lengths [] (y ∷ ys) h = refl
 bytes-lengths (x ∷ xs) [] h = refl
 bytes-lengths (x ∷ xs) (y ∷ ys) h = rw (bytes-lengths xs ys (λ e. h (ap suc e))) (fails (eqb x y))
 
-pub modules-lengths : (xs ys : List Listed) → (length xs ≡ length ys → ⊥) → sameModules xs ys ≡ false
-unfolding sameModules
-modules-lengths [] [] h = absurd (h refl)
-modules-lengths [] (y ∷ ys) h = refl
-modules-lengths (x ∷ xs) [] h = refl
-modules-lengths (x ∷ xs) (y ∷ ys) h = rw (modules-lengths xs ys (λ e. h (ap suc e))) (fails (eqb (x .number) (y .number) && eqb (x .size) (y .size) && eqb (x .version) (y .version)))
+-- words taken together: nothing is set in two of them exactly where nothing is in either
+pub or-none : (a b : ℕ) → eqb (bitOr a b) 0 ≡ (eqb a 0 && eqb b 0)
+or-none a b = go (eqb a 0) refl
+  where
+    go : (t : Bool) → eqb a 0 ≡ t → eqb (bitOr a b) 0 ≡ (t && eqb b 0)
+    go true e = rw (eqb-true a 0 e, or-zero-l b)
+    go false e = ne-eqb (bitOr a b) 0 (λ z. let p = or-add-and a b in let q = and-le-r a b in eqb-false a 0 e (omega arith))
 
 -- two numbers differ in no bit exactly where they are the same
 xor-none : (a b : ℕ) → eqb (bitXor a b) 0 ≡ eqb a b
@@ -65,3 +59,13 @@ module _ (xs ys : List ℕ) (i : ℕ) where
       alone : (t : Bool) → (t && true) ≡ t
       alone true = refl
       alone false = refl
+
+-- bytes that fit are laid; others leave all as it was
+module _ (out : List ℕ) (at : ℕ) (bytes : List ℕ) where
+  pub laid-fits : at + length bytes ≤ length out → laidAt out at bytes ≡ overwrite out at bytes
+  unfolding laidAt
+  laid-fits h = rw (le-leb _ _ h)
+
+  pub laid-short : length out < at + length bytes → laidAt out at bytes ≡ out
+  unfolding laidAt
+  laid-short h = rw (lt-leb _ _ h)

@@ -1,4 +1,4 @@
--- `carousel_step::store::is_equal` meets its contract. The invariant: no bit differs so far, and what is left is the same, just where all is.
+-- `wire::copies::is_equal` meets its contract. The invariant: no bit differs so far, and what is left is the same, just where all is.
 use borrow.Author.Needs.{needs}
 use Prim.Native.Nat.{_-_, _≤_}
 use mathlib.Core.Path.{_≡_, refl, sym, _∙_}
@@ -6,10 +6,10 @@ use mathlib.Core.Bool.{_&&_}
 use native.Mathlib.Omega.{arith}
 use lib.Dec.{eqb}
 use lib.ListN.{length, drop}
-use Rattle.carousel_record.specs.Record.{sameNumbers}
-use Rattle.carousel_step.proofs.Laws.Bytes.{bytes-lengths, mixed-next, mixed-done}
-use Rattle.carousel_step.proofs.store.is_equal.Statement.{statement}
-use Rattle.carousel_step.proofs.store.is_equal.Tie as tie
+use Rattle.wire.specs.Copies.{sameNumbers}
+use Rattle.wire.proofs.Laws.Copies.{bytes-lengths, mixed-next, mixed-done}
+use Rattle.wire.proofs.copies.is_equal.Statement.{statement}
+use Rattle.wire.proofs.copies.is_equal.Tie as tie
 
 abbrev Inv-loop : tie.InvT-loop
 Inv-loop a b n all₀ i₀ all i = (i ≤ length a) × (length a ≡ length b) × ((eqb all 0 && sameNumbers (drop i a) (drop i b)) ≡ sameNumbers a b)
