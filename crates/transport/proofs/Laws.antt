@@ -1,0 +1,9 @@
+pub mod Packets
+pub mod Feeding
+pub mod Rule
+pub mod Wholes
+pub mod States
+pub mod Hands
+pub mod Taking
+pub mod Answers
+pub mod Calls
