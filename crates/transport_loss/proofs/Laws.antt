@@ -1,0 +1,4 @@
+pub mod Sections
+pub mod Carry
+pub mod Loss
+pub mod Written

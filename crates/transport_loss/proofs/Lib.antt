@@ -1,0 +1,9 @@
+pub mod Laws
+pub mod Promise
+pub mod Earned
+pub mod Limits
+pub mod Encoded
+pub mod Writer
+pub mod Places
+pub mod Soundings
+pub mod Calls

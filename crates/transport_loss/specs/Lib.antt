@@ -1,0 +1,4 @@
+pub mod Stream
+pub mod Promise
+pub mod Encoder
+pub mod Writer
