@@ -15,6 +15,7 @@ use native.Mathlib.Omega.{arith}
 use lib.ListN.{length}
 use borrow.Author.Tests.{lt-ltb, le-ltb}
 use Rattle.wire.specs.Tests.{firstMet}
+use Rattle.wire.specs.Copies.{overwrite}
 use Rattle.section.specs.Answer.{refused}
 use Rattle.carousel_messages.specs.Limits.{mostModules, mostBlocks, mostBytes, total, beyond10}
 use Rattle.carousel_messages.specs.Heard.{Announced, Arrived, arrived, heardOf}
@@ -23,7 +24,7 @@ use Rattle.carousel_messages.proofs.Soundings.{block1023, block1024, wide, wide
 use Rattle.carousel_record.specs.declared.Carousel.{Carousel}
 use Rattle.carousel_record.specs.Marks.{markWords, markOf, isMarked}
 use Rattle.carousel_record.specs.Record.{announcedBy, recordOf, bytesOf, blockCount, ruledOf}
-use Rattle.carousel_record.specs.Changes.{emptyRecord, withMark, overwrite}
+use Rattle.carousel_record.specs.Changes.{emptyRecord, withMark}
 use Rattle.carousel_record.specs.Refusals.{meets13, meets15}
 use Rattle.carousel_record.proofs.Laws.Places.{bytes-most, few-modules}
 use Rattle.carousel_record.proofs.Laws.Rule.{kept, marks-mean, ruled-says}

@@ -19,3 +19,4 @@ pub mod Taken
 pub mod Stretches
 pub mod Sent
 pub mod Player
+pub mod Transport

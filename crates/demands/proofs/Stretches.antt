@@ -11,8 +11,10 @@ use Rattle.wire.specs.Items.{joined}
 use Rattle.section.specs.Header.{lengthOf}
 use Rattle.receiver.specs.declared.Stop.{Stop}
 use Rattle.receiver.specs.declared.Stop.the-variants as stop
-use Rattle.receiver.specs.Run.{saidLength, wholeAt, givenOf, imageGiven, RunOutcome, runAfter, runs, sectionsOf, Held, given, walk}
-use Rattle.receiver.proofs.Laws.Places.{whole-few, whole-is, stop-end}
+use Rattle.section.specs.Whole.{saidLength, wholeAt}
+use Rattle.receiver.specs.Run.{givenOf, imageGiven, RunOutcome, runAfter, runs, sectionsOf, Held, given, walk}
+use Rattle.section.proofs.Laws.Whole.{whole-few, whole-is}
+use Rattle.receiver.proofs.Laws.Places.{stop-end}
 use Rattle.receiver.proofs.Laws.Runs.{runs-stop, runs-next}
 use Rattle.demands.specs.Demand.{Holds}
 

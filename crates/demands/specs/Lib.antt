@@ -1,2 +1,3 @@
 pub mod Demand
 pub mod Shore
+pub mod Transport
