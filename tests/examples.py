@@ -1,9 +1,9 @@
 #!/usr/bin/env python3
-"""The captures and modules of examples/, made by the second programs, and what README shows of them.
+"""The captures and modules of examples/, made by the second programs, and what README shows of them. (capture.ts is made by tests/transport.py.)
 
     examples.py          compare the stored files with what is made here, and README with what the second programs print of them
     examples.py --write  the same, but first write the files
-    examples.py built    the same, and run what README shows, `./run PROGRAM [ARGUMENT] < CAPTURE` and `./run player .. | ./run PROGRAM [ARGUMENT]`
+    examples.py built    the same, and run what README shows: `./run PROGRAM [ARGUMENTS] < FILE`, or programs one after another, `./run .. | ./run ..`
 """
 import re
 import subprocess
@@ -13,15 +13,19 @@ import driftlist
 import player
 import program
 import test_inspect
+import transport
 from receiver import byte5, ddb, dii
 from second import ROOT
 from test_ait import ait, app, d00, d02, desc
 
-# a program by its arguments and its input
+# a program by its arguments and its input: what goes to standard output, and what to standard error
 SECOND = {
-    "receive": lambda arguments, stdin: program.program(stdin),
-    "inspect": lambda arguments, stdin: test_inspect.printed(stdin),
-    "driftlist": lambda arguments, stdin: driftlist.printed([a.encode() for a in arguments], stdin)[0],
+    "receive": lambda arguments, stdin: (program.program(stdin), b""),
+    "inspect": lambda arguments, stdin: (test_inspect.printed(stdin), b""),
+    "driftlist": driftlist.printed,
+    "player": lambda arguments, stdin: player.printed(arguments, ROOT),
+    "sections": transport.sections_printed,
+    "packets": transport.packets_printed,
 }
 
 # ---- the carousel of both captures: a drift list of 100 bytes and a chart of 60, in blocks of 40
@@ -127,35 +131,38 @@ def check_files(write):
         check_file(name, contents(module), write)
 
 
-# ---- README: each `./run PROGRAM [ARGUMENT] < examples/CAPTURE`, or `./run player .. | ./run PROGRAM [ARGUMENT]`, with what it prints below it
+# ---- README: each command of one or more programs, with what it prints below it: what they say on standard error, then what the last one writes
 
-COMMAND = re.compile(r"    \$ (?:\./run player (?P<played>[\w ./]+) \| )?\./run (?P<name>\w+)(?P<arguments>(?: \w+)*)(?: < (?P<capture>examples/\S+))?")
+STAGE = re.compile(r"\./run (?P<name>\w+)(?P<arguments>(?: [\w./]+)*)(?: < (?P<file>examples/\S+))?(?P<unseen> > /dev/null)?")
 
 
 def shown():
-    """Each command that README shows with what it prints, and that text; `...` stands for lines left out."""
+    """Each command that README shows with what it prints, its programs, and that text; `...` stands for lines left out."""
     lines = (ROOT / "README.md").read_text().splitlines()
     for n, line in enumerate(lines):
-        command = COMMAND.fullmatch(line)
-        if command:
-            text = []
-            while n + 1 < len(lines) and lines[n + 1].startswith("    ") and not lines[n + 1].startswith("    $"):
-                n += 1
-                text.append(lines[n][4:])
-            yield command, text
+        if not line.startswith("    $ ./run "):
+            continue
+        stages = [STAGE.fullmatch(stage) for stage in line[6:].split(" | ")]
+        assert all(stages), line
+        text = []
+        while n + 1 < len(lines) and lines[n + 1].startswith("    ") and not lines[n + 1].startswith("    $"):
+            n += 1
+            text.append(lines[n][4:])
+        yield line[6:], stages, text
 
 
-def input_of(command, built):
-    """What the command's last program reads: a capture, or what the player writes, the second program's or, where it is built, its own."""
-    if command["capture"]:
-        return (ROOT / command["capture"]).read_bytes()
-    arguments = command["played"].split()
-    wanted, said = player.printed([a.encode() for a in arguments], ROOT)
-    assert said == b"", (arguments, said)
-    if built:
-        got = subprocess.run([ROOT / "run", "player", *arguments], stdout=subprocess.PIPE, check=True, cwd=ROOT).stdout
-        assert got == wanted, "./run player %s writes something else" % " ".join(arguments)
-    return wanted
+def printed(stages, built):
+    """What they print, one after another, by the second programs; and where they are built, by themselves too."""
+    out, told = b"", b""
+    for stage in stages:
+        stdin, name, arguments = (ROOT / stage["file"]).read_bytes() if stage["file"] else out, stage["name"], stage["arguments"].split()
+        out, said = SECOND[name]([a.encode() for a in arguments], stdin)
+        told += said
+        if built:
+            got = subprocess.run([ROOT / "run", name, *arguments], input=stdin, capture_output=True, check=True, cwd=ROOT)
+            # Before it, ./run may say what it had to prove.
+            assert got.stdout == out and got.stderr.endswith(said), "%s prints\n%s%s" % (stage[0], got.stderr.decode(), got.stdout[:2000])
+    return told if stages[-1]["unseen"] else told + out
 
 
 def agree(text, printed):
@@ -166,16 +173,12 @@ def agree(text, printed):
 
 def check_readme(built):
     commands = list(shown())
-    told = [c for c, _ in commands]
-    assert {c["name"] for c in told} == set(SECOND) and {c["capture"] for c in told if c["capture"]} == {"examples/" + n for n in CAPTURES}, told
-    assert {c["name"] for c in told if c["played"]} == {"inspect", "driftlist"}, told
-    for command, text in commands:
-        stdin, name, arguments = input_of(command, built), command["name"], command["arguments"].split()
-        wanted = SECOND[name](arguments, stdin).decode()
-        assert agree(text, wanted), "README shows of%s what is not printed:\n%s" % (command[0], wanted)
-        if built:
-            got = subprocess.run([ROOT / "run", name, *arguments], input=stdin, stdout=subprocess.PIPE, check=True).stdout.decode()
-            assert got == wanted, "%s prints\n%s" % (command[0], got)
+    stages = [stage for _, stages, _ in commands for stage in stages]
+    assert {s["name"] for s in stages} == set(SECOND), stages
+    assert {s["file"] for s in stages if s["file"]} == {"examples/" + n for n in (*CAPTURES, "capture.ts")}, stages
+    for command, stages, text in commands:
+        wanted = printed(stages, built).decode()
+        assert agree(text, wanted), "README shows of %s what is not printed:\n%s" % (command, wanted)
     return len(commands)
 
 
