@@ -4,11 +4,13 @@
  * lent: there is nothing to check first. What C can not say is left to the caller: each pointer is to as many
  * bytes as its length says, or numbers (for a length of 0 it is not read); the record, the section and the
  * image of one call do not overlap, nor do the numbers of a list and the bytes it is written to, nor the bytes
- * that a section is written to and the playlist or the image it is made from; and nothing else changes what is
- * lent while the call runs. No call keeps a pointer, allocates, blocks or uses anything but what it is lent.
+ * that a section is written to and the playlist or the image it is made from, nor packets, their state and the
+ * bytes that sections are handed on to, nor a section and the packets it is written to; and nothing else changes
+ * what is lent while the call runs. No call keeps a pointer, allocates, blocks or uses anything but what it is
+ * lent.
  *
- * A refusal (1 to 21, and 30 to 37, below) changes nothing: not the record, not the image, not the bytes to
- * be written to. */
+ * A refusal (1 to 21, 25, 30 to 37, and 40 to 43, below) changes nothing: not the record, not the image, not the
+ * state, not the bytes to be written to. */
 #ifndef NEBOSVAR_H
 #define NEBOSVAR_H
 
@@ -20,7 +22,8 @@ extern "C" {
 #endif
 
 /* Refusals: the paper's numbers, in its words. A DII is an announcement, a DDB a block, an AIT an application table; L is the section's length.
- * 21 is the shore player's. From 30 on they are the drift list's, and 36 and 37 its writer's. */
+ * 21 is the shore player's. From 30 on they are the drift list's, and 36 and 37 its writer's; 25 and those from 40 on are the
+ * packets', whose calls give 1, 2, 3 and 21 too. */
 enum {
     NEBOSVAR_ACCEPTED = 0,
     NEBOSVAR_BAD_RECORD = 1,                 /* record breaks its rule (carousel calls) */
@@ -44,6 +47,7 @@ enum {
     NEBOSVAR_NO_PLACE = 19,                  /* no such place */
     NEBOSVAR_INCOMPLETE = 20,                /* module not complete */
     NEBOSVAR_SHORT_BUFFER = 21,              /* a short buffer */
+    NEBOSVAR_OUT_OF_RANGE = 25,              /* PID above 0x1FFF, or counter above 15 */
     NEBOSVAR_LIST_LENGTH = 30,               /* length */
     NEBOSVAR_LIST_COORDINATE = 31,           /* coordinate range */
     NEBOSVAR_LIST_MINUTE = 32,               /* minute */
@@ -51,7 +55,11 @@ enum {
     NEBOSVAR_LIST_SPARE = 34,                /* spare */
     NEBOSVAR_LIST_STATE = 35,                /* state 3, or state against coordinates */
     NEBOSVAR_LIST_WIDTH = 36,                /* a value too wide for its field, or a count that isn't the number of records */
-    NEBOSVAR_LIST_ROOM = 37                  /* a short buffer */
+    NEBOSVAR_LIST_ROOM = 37,                 /* a short buffer */
+    NEBOSVAR_PACKET_LENGTH = 40,             /* not 188 bytes */
+    NEBOSVAR_PACKET_SYNC = 41,               /* sync */
+    NEBOSVAR_PACKET_PID = 42,                /* other PID */
+    NEBOSVAR_PACKET_FIELD = 43               /* transport error, scrambled, adaptation control 00, or a field that runs past the packet */
 };
 
 /* Where a section broke, `refused_at` below: a byte, counted from the section's first as 0. Refusals 2 to 6 have it:
@@ -389,6 +397,68 @@ nebosvar_counted nebosvar_section_count(const nebosvar_playlist *playlist);
  * every place, with 15 where the image is shorter than the sizes together; then with 19; then with 21. A refusal writes nothing, and what
  * `out` has past the section stays as it was. */
 nebosvar_written nebosvar_write_section(const nebosvar_playlist *playlist, const uint8_t *image, size_t length, uint32_t identifier, size_t place, uint8_t *out, size_t room);
+
+/* Transport packets, of 188 bytes each. Out of those of one PID come the whole sections that they carry, end to end, as
+ * nebosvar_run takes them; sections are not judged here. An exact repeat of the last packet is passed over; any other break of the
+ * counter drops the section that has begun, and the next begins at a unit start, the breaking packet's own included.
+ *
+ * What is kept from call to call is the state: bytes that the program holds and lends, at first all zeros, one state for each PID. Bytes 0
+ * to 187 are the last packet that was not refused (zeros: none yet), 188 and 189 how many bytes are in hand (the high byte first), and from
+ * 190 on are these: the section that has begun and is not whole. Bytes past them are not looked at and not changed. A state that packets
+ * of this PID can not have left is 1: too short; or its last packet would be refused; or something is in hand before the first packet; or
+ * what is in hand begins with 0xFF, or is a whole section. On a refusal all other fields are 0. */
+
+enum { /* limits of packets */
+    NEBOSVAR_TRANSPORT_STATE = 4287, /* bytes of a state; more may be lent */
+    NEBOSVAR_TRANSPORT_ROOM = 4281,  /* least room for what one packet hands on */
+    NEBOSVAR_MOST_PACKETS = 23       /* of one section */
+};
+
+enum { /* what became of a packet */
+    NEBOSVAR_FED_REFUSED = 0,
+    NEBOSVAR_FED_TAKEN = 1,
+    NEBOSVAR_FED_BROKEN = 2,  /* taken, though the counter broke */
+    NEBOSVAR_FED_REPEATED = 3 /* passed over: nothing changed */
+};
+
+typedef struct {
+    size_t size;     /* bytes of whole sections at the start of `out` */
+    uint8_t refusal; /* 1, 21, 40, 41, 42, 43; 0 where the packet was not refused */
+    uint8_t kind;
+} nebosvar_fed;
+
+typedef struct {
+    size_t passed;    /* bytes of `packets` that were gone through: go on there */
+    size_t size;      /* bytes of whole sections at the start of `out` */
+    size_t taken;     /* packets of the PID that were used, with or without payload, breaking ones included */
+    size_t repeated;
+    size_t broken;
+    size_t refused40; /* and so on: how many packets were refused with this number */
+    size_t refused41;
+    size_t refused42;
+    size_t refused43;
+    uint8_t refusal;  /* 1 or 21, and then nothing was passed; else 0 */
+} nebosvar_gathered;
+
+typedef struct {
+    size_t packets;  /* written, 188 bytes each */
+    uint8_t refusal;
+} nebosvar_packed;
+
+/* Takes one packet. It can refuse with 1; then with 21, where `out` has fewer than NEBOSVAR_TRANSPORT_ROOM bytes; then with 40 to 43.
+ * What lies past the sections in `out` stays as it was. */
+nebosvar_fed nebosvar_feed(uint16_t pid, const uint8_t *packet, size_t length, uint8_t *state, size_t state_length, uint8_t *out, size_t room);
+
+/* Takes the packets of a stretch one by one, as long as `out` has NEBOSVAR_TRANSPORT_ROOM bytes left before each: so fewer than all may be
+ * passed. A rest of fewer than 188 bytes is one packet, refused with 40 and not kept. A refused packet is counted and does not stop the rest.
+ * It can itself refuse with 1 and 21, before the first packet. */
+nebosvar_gathered nebosvar_gather(uint16_t pid, const uint8_t *packets, size_t length, uint8_t *state, size_t state_length, uint8_t *out, size_t room);
+
+/* Writes the packets of one section at the start of `out`: unit start and a pointer of 0 in the first, the counters from `counter` on, 0xFF
+ * behind the section. It can refuse with 2, for a section that is not 3 + L bytes long; then with 3, for one that begins with 0xFF; then with
+ * 21; then with 25. A refusal writes nothing, and what `out` has past the packets stays as it was. NEBOSVAR_MOST_PACKETS * 188 bytes are
+ * always enough. */
+nebosvar_packed nebosvar_write_packets(uint16_t pid, uint8_t counter, const uint8_t *section, size_t length, uint8_t *out, size_t room);
 
 #ifdef __cplusplus
 }

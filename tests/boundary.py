@@ -17,6 +17,8 @@ HEADER = ROOT / "include" / "nebosvar.h"
 SOURCES = [CRATES / c / "src" / "lib.rt" for c in ("nebosvar", "ait_numbers", "carousel_record", "carousel_messages", "carousel_play")]
 DRIFT = CRATES / "drift_list" / "src" / "lib.rt"
 ROWS = CRATES / "drift_list" / "specs" / "Writing.antt"
+TRANSPORT = [CRATES / c / "src" / "lib.rt" for c in ("transport", "transport_write")]
+PACKETS = CRATES / "nebosvar" / "src" / "packets.rt"
 LIMITS = [CRATES / c / "src" / f for c, f in (("carousel_messages", "limits.rt"), ("carousel_record", "marks.rt"), ("carousel_play", "lib.rt"))]
 
 # ---- names that differ, and why
@@ -41,12 +43,17 @@ STRUCTS = {
     "Listed": "listed",
     "Playlist": "playlist",
     "CountedOut": "counted",
+    "FedOut": "fed",
+    "GatheredOut": "gathered",
+    "PackedOut": "packed",
 }
 RUST_STRUCTS = {"Row": "fix"}  # in Rust, `Fix` is a record that was read
 PARAMETERS = {"c": "record"}  # `record` is a word of the contracts' language
-LENGTHS = {"image": "room", "out": "room"}  # a slice is a pointer and a length; where it is written to, that has a name of its own
+LENGTHS = {"image": "room", "out": "room", "state": "state_length"}  # a slice is a pointer and a length; where it is written to, that has a name of its own
 READ = {"nebosvar_write_section": ["image"]}  # the shore's image is not written to
 ARRAYS = {"language": ["first", "second", "third"]}  # three fields are an array
+# Of packets: in a header, which has the limits of all; in the source; in the Rust crate.
+TRANSPORT_LIMITS = [("TRANSPORT_STATE", "STATE_LENGTH", "STATE"), ("TRANSPORT_ROOM", "LEAST_ROOM", "ROOM"), ("MOST_PACKETS", "MOST_PACKETS", "MOST_PACKETS")]
 VARIANTS = {"KIND_REFUSED": "KIND_NONE"}  # the section's kind where it was refused
 WORDS = {"×": "*", "not as above": "not as in the paper"}  # of the paper's table, in a header
 C_TYPES = {"uint8_t": "u8", "uint16_t": "u16", "uint32_t": "u32", "int32_t": "i32", "size_t": "usize"}
@@ -78,6 +85,12 @@ def limits():
         for name, value in re.findall(r"^pub const (\w+): \w+ = ([^;]+);", path.read_text(), re.M):
             numbers[name] = eval(re.sub(r"\w+::", "", value).replace("/", "//"), {}, numbers)
     return numbers
+
+
+def transport_limits(text):
+    """The limits of packets that a crate's text gives, under the header's names."""
+    numbers = {name: int(value.replace("_", "")) for name, value in re.findall(r"^pub const (\w+): usize = ([\d_]+);", text, re.M)}
+    return [(name, numbers.get(here, numbers.get(there))) for name, here, there in TRANSPORT_LIMITS]
 
 
 def field(name, type_):
@@ -197,6 +210,8 @@ def source_constants():
         variants("ITEM", item_kinds(numbers)),
         variants("FOUND", found[1:]),
         variants("STATE", matched(DRIFT, "state_number")),
+        transport_limits("".join(p.read_text() for p in TRANSPORT)),
+        variants("FED", matched(PACKETS, "kind_number")),
         *([(name, int(value, 16))] for name, value in places),
     ]
 
@@ -346,10 +361,11 @@ def others(raw):
         ("    int32_t minute;\n", "    uint16_t minute;\n"),
         ("    int32_t minute;\n", "    int32_t minute;\n    int32_t spare;\n"),
         ("    NEBOSVAR_STATE_LASTKNOWN = 2\n", "    NEBOSVAR_STATE_LASTKNOWN = 2,\n    NEBOSVAR_STATE_REFUSED = 3\n"),
-        ("NEBOSVAR_LIST_ROOM = 37  ", "NEBOSVAR_LIST_ROOM = 38  "),
+        ("NEBOSVAR_LIST_ROOM = 37,", "NEBOSVAR_LIST_ROOM = 38,"),
         ("/* spare */", "/* minute */"),
         ("nebosvar_list nebosvar_list_read", "nebosvar_written nebosvar_list_read"),
-        ("size_t length, uint8_t *out, size_t room", "size_t length, const uint8_t *out, size_t room"),
+        ("*numbers, size_t length, uint8_t *out, size_t room", "*numbers, size_t length, const uint8_t *out, size_t room"),
+        ("*section, size_t length, uint8_t *out, size_t room", "*section, size_t length, const uint8_t *out, size_t room"),
         ("size_t place, uint8_t *out, size_t room", "size_t place, const uint8_t *out, size_t room"),
         ("const uint8_t *image, size_t length", "uint8_t *image, size_t length"),
         ("const uint8_t *image, size_t length", "const uint8_t *image, size_t room"),
@@ -360,6 +376,12 @@ def others(raw):
         ("nebosvar_listed modules[NEBOSVAR_MOST_MODULES]", "nebosvar_listed modules[NEBOSVAR_MODULE_WORDS + 1]"),
         ("NEBOSVAR_LARGEST_SECTION = 4096 ", "NEBOSVAR_LARGEST_SECTION = 4095 "),
         ("NEBOSVAR_SHORT_BUFFER = 21,", "NEBOSVAR_SHORT_BUFFER = 22,"),
+        ("NEBOSVAR_TRANSPORT_STATE = 4287,", "NEBOSVAR_TRANSPORT_STATE = 4286,"),
+        ("NEBOSVAR_MOST_PACKETS = 23 ", "NEBOSVAR_MOST_PACKETS = 22 "),
+        ("    size_t refused43;\n", ""),
+        ("const uint8_t *packets, size_t length", "uint8_t *packets, size_t length"),
+        ("nebosvar_packed nebosvar_write_packets", "nebosvar_written nebosvar_write_packets"),
+        ("/* other PID */", "/* sync */"),
     ):
         assert raw.count(old) == 1, old
         yield "%r for %r" % (new, old), raw.replace(old, new)
@@ -411,8 +433,8 @@ def rust_places():
 
 def rust_constants():
     """The numbers that the Rust crate takes for each case, by C's names; and those that it gives."""
-    prefix = {"Kind": "KIND", "Stop": "STOP", "Class": "CLASS", "Control": "CONTROL", "Descriptor": "DESCRIPTOR", "Item": "ITEM", "Label": "FOUND", "State": "STATE"}
-    text = "".join(blank((RUST / f).read_text()) for f in ("answer.rs", "table.rs", "drift.rs"))
+    prefix = {"Kind": "KIND", "Stop": "STOP", "Class": "CLASS", "Control": "CONTROL", "Descriptor": "DESCRIPTOR", "Item": "ITEM", "Label": "FOUND", "State": "STATE", "PacketKind": "FED"}
+    text = "".join(blank((RUST / f).read_text()) for f in ("answer.rs", "table.rs", "drift.rs", "transport.rs"))
     taken = [("%s_%s" % (prefix[e], v.upper()), int(n)) for n, e, v in re.findall(r"(\d+) => (?:Ok\()?(\w+)::(\w+)", text) if e in prefix]
     given = []
     for enum, name in (("ItemKind", "ITEM"), ("State", "STATE")):

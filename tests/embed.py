@@ -1,6 +1,7 @@
 #!/usr/bin/env python3
 """The C side: include/nebosvar.h declares what the source exports, by name, order, type and number (tests/boundary.py), and the C programs, compiled with
 every warning an error, print what the programs in Python print: examples/receive.c the paper's lines, and of each module what the receiver says;
+examples/capture.c the same of sections that come in packets;
 tests/table.c the lines of `inspect`; tests/list.c what tests/driftlist.py reads of a drift list, which it also writes again; tests/play.c the
 sections that tests/player.py makes.
 
@@ -28,7 +29,7 @@ def compare_declarations():
     """The header and the Rust crate beside the source; and that the comparison finds every wrong header."""
     wanted, raw = boundary.source(), boundary.HEADER.read_text()
     found = list(boundary.faults(wanted, raw))
-    assert not found and len(wanted["calls"]) >= 18, "\n".join(found)
+    assert not found and len(wanted["calls"]) >= 21, "\n".join(found)
     counts = tuple(sum(map(len, part)) for part in (wanted["structs"].values(), (ps for ps, _ in wanted["calls"].values()), wanted["constants"]))
     print("embed.py: include/nebosvar.h has the source's %d calls, %d fields, %d parameters and %d constants" % (len(wanted["calls"]), *counts))
     declared = boundary.rust()
@@ -44,16 +45,18 @@ def compare_declarations():
 def compare_rust(numbers):
     """Every number that the Rust crate takes for a case, or gives for one, and none left out."""
     taken, given = boundary.rust_constants()
-    for told, enums in ((taken, ("KIND", "STOP", "CLASS", "CONTROL", "DESCRIPTOR", "ITEM", "FOUND", "STATE")), (given, ("ITEM", "STATE"))):
-        named = {n: k for n, k in numbers.items() if n.split("_")[0] in enums and n != "KIND_NONE"}
+    for told, enums in ((taken, ("KIND", "STOP", "CLASS", "CONTROL", "DESCRIPTOR", "ITEM", "FOUND", "STATE", "FED")), (given, ("ITEM", "STATE"))):
+        named = {n: k for n, k in numbers.items() if n.split("_")[0] in enums and n not in ("KIND_NONE", "FED_REFUSED")}
         assert set(told) == set(named.items()), set(told) ^ set(named.items())
     assert boundary.rust_places() == {n: numbers[n] for n in ("COMMON", "NOWHERE")}, boundary.rust_places()
     assert list(boundary.rust_limits().items()) == list(boundary.limits().items()), (boundary.rust_limits(), boundary.limits())
+    packets = boundary.transport_limits((boundary.RUST / "transport.rs").read_text())
+    assert packets == [(n, numbers[n]) for n, _ in packets], packets
     words, printed = boundary.short_words(), boundary.rust_words()
-    assert len(words) == 29 and words == printed, set(words.items()) ^ set(printed.items())
+    assert len(words) == 34 and words == printed, set(words.items()) ^ set(printed.items())
     print(
         "embed.py: the Rust crate has the same structs and calls, the same number for each of %d cases, the same %d limits, and the same words for %d refusals"
-        % (len(set(taken)), len(boundary.rust_limits()), len(words))
+        % (len(set(taken)), len(boundary.rust_limits()) + len(packets), len(words))
     )
 
 
@@ -228,6 +231,64 @@ def check_plays(command):
     print("embed.py: tests/play.c writes the sections of tests/player.py for %d playlists, and refuses %d" % (met["sections"], sum(met.values()) - met["sections"]))
 
 
+def packets_of(pid, sections, counter=0):
+    """Each section begins a packet, and 0xFF fills its last: lists of packets, one for each section."""
+    for s in sections:
+        pieces = [(b"\0" + s)[k : k + 184].ljust(184, b"\xff") for k in range(0, len(s) + 1, 184)]
+        yield [bytes([0x47, (k == 0) << 6 | pid >> 8, pid & 255, 0x10 | (counter + k) % 16]) + piece for k, piece in enumerate(pieces)]
+        counter += len(pieces)
+
+
+def captures():
+    """Streams: the sections of one PID in packets among others, some twice; and with one packet of a section lost, which loses that section alone."""
+    rnd = random.Random(188)
+    for k in range(60):
+        sizes = [rnd.randint(1, 9_000) for _ in range(rnd.randint(1, 4))]
+        a = player.Announced(2026, 1_000, [player.Module(n, size, 3) for n, size in enumerate(sizes, 1)])
+        sections = player.rotation(a, rnd.randbytes(sum(sizes)), 0x80000002)
+        pid, lost = rnd.randrange(1, 0x2000), rnd.randrange(1, len(sections)) if k % 2 else None
+        laid = list(packets_of(pid, sections, k))
+        yield pid, laid, sections, lost
+
+
+def stream_of(rnd, pid, laid, lost):
+    """The packets of a stream, without one of the section that is lost, and how many were taken, repeated, broken and refused."""
+    stream, counts = [], dict.fromkeys(("taken", "repeated", "broken", "refused"), 0)
+    for place, packets in enumerate(laid):
+        gone = rnd.randrange(len(packets)) if place == lost else None
+        for k, packet in enumerate(packets):
+            if k == gone:
+                continue
+            times = rnd.choice([1, 1, 1, 2])
+            stream += [packet] * times
+            counts["taken"] += 1
+            counts["repeated"] += times - 1
+            stream += [rnd.choice([b"\x47" + (pid ^ 1).to_bytes(2, "big"), b"\x46" + pid.to_bytes(2, "big")]) + bytes(185)] * rnd.randrange(3)
+    last = lost == len(laid) - 1 and stream.count(laid[-1][-1]) == 0  # nothing comes after it to show the loss
+    counts["broken"] = int(lost is not None and not last)
+    counts["refused"] = len(stream) - counts["taken"] - counts["repeated"]
+    return b"".join(stream), counts
+
+
+def check_captures(command):
+    """The example that takes a carousel out of a transport stream."""
+    rnd, met = random.Random(13_818), {"complete": 0, "incomplete": 0}
+    for pid, laid, sections, lost in captures():
+        data, counts = stream_of(rnd, pid, laid, lost)
+        heard = b"".join(s for place, s in enumerate(sections) if place != lost)
+        image = bytearray(player.TOGETHER)
+        _, _, record = program.run(heard, len(sections), program.Record(), image)
+        numbers = [m.number for m in record.used()] + [40_000]
+        lines = [module_line(record, image, n) for n in numbers]
+        wanted = "".join("%s,%d\n" % c for c in counts.items()) + "".join(l + "\n" for l in lines)
+        got = subprocess.run([*command, *map(str, [pid, *numbers])], input=data, capture_output=True, check=True, timeout=program.LIMIT).stdout
+        program.check_same("a capture of %d bytes" % len(data), got, wanted.encode())
+        for l in lines[:-1]:
+            met[l.split(",")[2]] += 1
+    assert min(met.values()) >= 20, met
+    print("embed.py: the C example that takes captures, %d modules complete and %d incomplete" % (met["complete"], met["incomplete"]))
+
+
 def check_needs(archive):
     """The archive defines the exported functions and asks for nothing but these two of the C library."""
     symbols = subprocess.run(["nm", archive], check=True, capture_output=True, text=True).stdout.split("\n")
@@ -267,7 +328,8 @@ def install(prefix):
     """What `make install` puts there, and that the programs among it run."""
     subprocess.run(["make", "--silent", "-C", ROOT, "install", "PREFIX=%s" % prefix], check=True)
     put = {str(p.relative_to(prefix)) for p in prefix.rglob("*") if p.is_file()}
-    wanted = {"bin/receive", "bin/inspect", "bin/driftlist", "bin/player", "lib/libnebosvar.a", "lib/pkgconfig/nebosvar.pc", "include/nebosvar.h"}
+    programs = {"bin/" + name for name in ("receive", "inspect", "driftlist", "player", "sections", "packets")}
+    wanted = programs | {"lib/libnebosvar.a", "lib/pkgconfig/nebosvar.pc", "include/nebosvar.h"}
     assert put == wanted, put ^ wanted
     printed = subprocess.run(program.under_the_kit(prefix / "bin" / "receive"), input=program.EXAMPLE.stdin, capture_output=True, check=True).stdout
     assert printed == program.PRINTED, printed
@@ -285,6 +347,7 @@ def run_example():
         check_lists(compile_strictly(ROOT / "tests" / "list.c", prefix, Path(folder) / "list"))
         check_plays(compile_strictly(ROOT / "tests" / "play.c", prefix, Path(folder) / "play"))
         check_player(compile_strictly(ROOT / "examples" / "play.c", prefix, Path(folder) / "player"))
+        check_captures(compile_strictly(ROOT / "examples" / "capture.c", prefix, Path(folder) / "capture"))
         subprocess.run([sys.executable, ROOT / "tests" / "program.py", "run", *command], check=True)
 
 

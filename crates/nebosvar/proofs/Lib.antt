@@ -2,3 +2,4 @@ pub mod Unique
 pub mod Numbers
 pub mod Places
 pub mod Lists
+pub mod Transport

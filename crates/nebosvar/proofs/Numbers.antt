@@ -69,7 +69,8 @@ use Rattle.receiver.specs.declared.Stop.{Stop}
 use Rattle.receiver.specs.declared.Stop.the-variants as stop
 use Rattle.receiver.specs.declared.What.{What}
 use Rattle.receiver.specs.declared.What.the-variants as what
-use Rattle.receiver.specs.Run.{stopAt, wholeAt, givenOf, stoppedBy, numberOfFate, numberTook, carouselFate, tookOf, tookNumber}
+use Rattle.section.specs.Whole.{wholeAt}
+use Rattle.receiver.specs.Run.{stopAt, givenOf, stoppedBy, numberOfFate, numberTook, carouselFate, tookOf, tookNumber}
 use Rattle.receiver.proofs.Laws.Takes.{carousel-fate, took-number}
 use Rattle.receiver.proofs.Laws.Fates.{fate-tells}
 use Rattle.receiver.proofs.Laws.Refusals.{step-refused, take-told}

@@ -40,7 +40,8 @@ use Rattle.receiver.specs.declared.Fate.the-variants as fate
 use Rattle.receiver.specs.declared.Stop.the-variants as stop
 use Rattle.receiver.specs.declared.What.{What}
 use Rattle.receiver.specs.declared.What.the-variants as what
-use Rattle.receiver.specs.Run.{rulesOf, stopAt, wholeAt, givenOf, stoppedBy, numberOfFate, placeOfFate, carouselFate, tookOf}
+use Rattle.section.specs.Whole.{wholeAt}
+use Rattle.receiver.specs.Run.{rulesOf, stopAt, givenOf, stoppedBy, numberOfFate, placeOfFate, carouselFate, tookOf}
 use Rattle.receiver.proofs.Laws.Fates.{fate-tells}
 use Rattle.receiver.proofs.Laws.Refusals.{take-told}
 use Rattle.ait_numbers.specs.declared.kinds.Asked.{Asked}

@@ -44,6 +44,12 @@ use Rattle.nebosvar.proofs.nebosvar_list_walk.Kinds as nebosvar-list-wa
 use Rattle.nebosvar.proofs.nebosvar_list_walk.Reads as nebosvar-list-walk-reads
 use Rattle.nebosvar.proofs.nebosvar_list_write.Kinds as nebosvar-list-write-kinds
 use Rattle.nebosvar.proofs.nebosvar_list_write.Reads as nebosvar-list-write-reads
+use Rattle.nebosvar.proofs.nebosvar_feed.Kinds as nebosvar-feed-kinds
+use Rattle.nebosvar.proofs.nebosvar_feed.Reads as nebosvar-feed-reads
+use Rattle.nebosvar.proofs.nebosvar_gather.Kinds as nebosvar-gather-kinds
+use Rattle.nebosvar.proofs.nebosvar_gather.Reads as nebosvar-gather-reads
+use Rattle.nebosvar.proofs.nebosvar_write_packets.Kinds as nebosvar-write-packets-kinds
+use Rattle.nebosvar.proofs.nebosvar_write_packets.Reads as nebosvar-write-packets-reads
 
 nebosvar-start : OneAnswer 0 nebosvar-start-kinds.ps nebosvar-start-kinds.r nebosvar-start-reads.Post
 nebosvar-start κs a x y s t p q = p ∙ sym q
@@ -83,6 +89,32 @@ nebosvar-list-left : (κs : Lfts 2) (a : Dens κs nebosvar-list-write-kinds.ps) 
     (s t : AtExit (endedOf 2 nebosvar-list-write-kinds.ps nebosvar-list-write-kinds.r) κs)
     → nebosvar-list-write-reads.Post κs a x s → nebosvar-list-write-reads.Post κs a y t → s .1 .1 .1 .0 .now ≡ t .1 .1 .1 .0 .now
 nebosvar-list-left κs a x y s t p q = p .1 ∙ sym (q .1)
+
+nebosvar-feed : OneAnswer 3 nebosvar-feed-kinds.ps nebosvar-feed-kinds.r nebosvar-feed-reads.Post
+nebosvar-feed κs a x y s t p q = p .0 ∙ sym (q .0)
+
+-- and one state and one buffer
+nebosvar-feed-left : (κs : Lfts 3) (a : Dens κs nebosvar-feed-kinds.ps) (x y : resT nebosvar-feed-kinds.r κs .Denot)
+    (s t : AtExit (endedOf 3 nebosvar-feed-kinds.ps nebosvar-feed-kinds.r) κs) → nebosvar-feed-reads.Post κs a x s → nebosvar-feed-reads.Post κs a y t
+    → (s .1 .1 .0 .now ≡ t .1 .1 .0 .now) × (s .1 .1 .1 .0 .now ≡ t .1 .1 .1 .0 .now)
+nebosvar-feed-left κs a x y s t p q = (p .1 ∙ sym (q .1), p .2 ∙ sym (q .2))
+
+nebosvar-gather : OneAnswer 3 nebosvar-gather-kinds.ps nebosvar-gather-kinds.r nebosvar-gather-reads.Post
+nebosvar-gather κs a x y s t p q = p .0 ∙ sym (q .0)
+
+-- and one state and one buffer
+nebosvar-gather-left : (κs : Lfts 3) (a : Dens κs nebosvar-gather-kinds.ps) (x y : resT nebosvar-gather-kinds.r κs .Denot)
+    (s t : AtExit (endedOf 3 nebosvar-gather-kinds.ps nebosvar-gather-kinds.r) κs) → nebosvar-gather-reads.Post κs a x s → nebosvar-gather-reads.Post κs a y t
+    → (s .1 .1 .0 .now ≡ t .1 .1 .0 .now) × (s .1 .1 .1 .0 .now ≡ t .1 .1 .1 .0 .now)
+nebosvar-gather-left κs a x y s t p q = (p .1 ∙ sym (q .1), p .2 ∙ sym (q .2))
+
+nebosvar-write-packets : OneAnswer 2 nebosvar-write-packets-kinds.ps nebosvar-write-packets-kinds.r nebosvar-write-packets-reads.Post
+nebosvar-write-packets κs a x y s t p q = p .0 ∙ sym (q .0)
+
+nebosvar-write-packets-left : (κs : Lfts 2) (a : Dens κs nebosvar-write-packets-kinds.ps) (x y : resT nebosvar-write-packets-kinds.r κs .Denot)
+    (s t : AtExit (endedOf 2 nebosvar-write-packets-kinds.ps nebosvar-write-packets-kinds.r) κs)
+    → nebosvar-write-packets-reads.Post κs a x s → nebosvar-write-packets-reads.Post κs a y t → s .1 .1 .1 .0 .now ≡ t .1 .1 .1 .0 .now
+nebosvar-write-packets-left κs a x y s t p q = p .1 ∙ sym (q .1)
 
 -- The entries behind a pointer. Their proofs are walks by hand, for which the prover has no reading of the kind above; these are over the equations of their contracts.
 module _ (c : Carousel) (s image : List ℕ) (d d′ : Carousel) (l l′ : List ℕ) where

@@ -1,3 +1,4 @@
 pub mod Box
 pub mod Drift
 pub mod Play
+pub mod Packets

@@ -3,9 +3,10 @@
 //
 // Nothing is decided here. Each call is one of the library's, its answer laid out as a struct of
 // numbers; specs/Box.antt says how, of the drift list specs/Drift.antt, of the shore player
-// specs/Play.antt, and of tables the specs/ of crate `ait_numbers`.
+// specs/Play.antt, of packets specs/Packets.antt, and of tables the specs/ of crate `ait_numbers`.
 
 mod drift;
+mod packets;
 mod play;
 
 use ait_numbers::ApplicationOut;
@@ -22,6 +23,9 @@ use carousel_record::Carousel;
 use drift::fix_out;
 use drift::list_out;
 use drift::written_out;
+use packets::fed_out;
+use packets::gathered_out;
+use packets::packed_out;
 use play::counted_out;
 use play::played_out;
 use receiver::Fate;
@@ -40,6 +44,9 @@ ghost use Rattle.ait_numbers.specs.Reading.{tableOut, applicationOut, descripto
 ghost use Rattle.nebosvar.specs.Box.{fateOut, stepOut, whatOut, takeOut, runOut, partOut, lackOut};
 ghost use Rattle.nebosvar.specs.Drift.{listOut, fixOut, writtenOut};
 ghost use Rattle.nebosvar.specs.Play.{countedOut, playedOut};
+ghost use Rattle.transport.specs.Calls.{feedAnswer, feedState, feedOut, gatherAnswer, gatherState, gatherOut};
+ghost use Rattle.transport_write.specs.Writer.{packAnswer, packedBytes};
+ghost use Rattle.nebosvar.specs.Packets.{fedOut, gatheredOut, packedOut};
 
 // What became of a section: its refusal, 0 for none, where it broke, and its kind.
 #[repr(C)]
@@ -105,6 +112,36 @@ pub struct WrittenOut {
 #[repr(C)]
 pub struct CountedOut {
     pub sections: usize,
+    pub refusal: u8,
+}
+
+// What became of a packet: the bytes of whole sections that it handed on, its refusal, 0 for none, and its kind.
+#[repr(C)]
+pub struct FedOut {
+    pub size: usize,
+    pub refusal: u8,
+    pub kind: u8,
+}
+
+// What came of a stretch of packets: the bytes passed and handed on, and how many packets had which answer; all 0 on a refusal.
+#[repr(C)]
+pub struct GatheredOut {
+    pub passed: usize,
+    pub size: usize,
+    pub taken: usize,
+    pub repeated: usize,
+    pub broken: usize,
+    pub refused40: usize,
+    pub refused41: usize,
+    pub refused42: usize,
+    pub refused43: usize,
+    pub refusal: u8,
+}
+
+// How many packets were written; 0 on a refusal.
+#[repr(C)]
+pub struct PackedOut {
+    pub packets: usize,
     pub refusal: u8,
 }
 
@@ -319,6 +356,48 @@ pub extern "C" fn nebosvar_write_section(
         × (now (out .exit) ≡ playedBytes identifier (now (playlist .entry)) (now (image .entry)) place (now (out .entry))) ⌝ }
 {
     write_section(*playlist, image, identifier, place, out)
+}
+
+// One packet: the state after it, and at the buffer's start the sections that it made whole.
+#[no_mangle]
+pub extern "C" fn nebosvar_feed(pid: u16, packet: &[u8], state: &mut [u8], out: &mut [u8]) -> FedOut
+    ensures { λ r. ⌜ (r ≡ fedOut (feedAnswer pid (now (state .entry)) (length (now (out .entry))) (now (packet .entry))))
+        × (now (state .exit) ≡ feedState pid (now (state .entry)) (length (now (out .entry))) (now (packet .entry)))
+        × (now (out .exit) ≡ feedOut pid (now (state .entry)) (now (packet .entry)) (now (out .entry))) ⌝ }
+{
+    let handed = transport::feed(pid, packet, state, out);
+    fed_out(handed)
+}
+
+// Many packets, laid end to end, for as long as the buffer has room.
+#[no_mangle]
+pub extern "C" fn nebosvar_gather(
+    pid: u16,
+    packets: &[u8],
+    state: &mut [u8],
+    out: &mut [u8],
+) -> GatheredOut
+    ensures { λ r. ⌜ (r ≡ gatheredOut (gatherAnswer pid (now (state .entry)) (length (now (out .entry))) (now (packets .entry))))
+        × (now (state .exit) ≡ gatherState pid (now (state .entry)) (length (now (out .entry))) (now (packets .entry)))
+        × (now (out .exit) ≡ gatherOut pid (now (state .entry)) (now (packets .entry)) (now (out .entry))) ⌝ }
+{
+    let gathered = transport::gather(pid, packets, state, out);
+    gathered_out(gathered)
+}
+
+// Writes the packets of one section at the start of `out`.
+#[no_mangle]
+pub extern "C" fn nebosvar_write_packets(
+    pid: u16,
+    counter: u8,
+    section: &[u8],
+    out: &mut [u8],
+) -> PackedOut
+    ensures { λ r. ⌜ (r ≡ packedOut (packAnswer pid counter (now (section .entry)) (length (now (out .entry)))))
+        × (now (out .exit) ≡ packedBytes pid counter (now (section .entry)) (now (out .entry))) ⌝ }
+{
+    let packed = transport_write::write_packets(pid, counter, section, out);
+    packed_out(packed)
 }
 
 fn step(c: Carousel, s: &[u8], image: &mut [u8]) -> SteppedOut

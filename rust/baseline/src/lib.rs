@@ -2,7 +2,7 @@
 //!
 //! It is written from the paper `01-scope.md` ("the paper" below) and 02, §6, §8 and §9, and serves as an
 //! independent second implementation and as a baseline for speed. Nothing is allocated except by
-//! [`read_all`], whose answer is a tree of owned values, and [`drift::read`].
+//! [`read_all`], whose answer is a tree of owned values, [`drift::read`] and [`transport`].
 //!
 //! * [`Record::step`] takes one carousel section ("The messages", "The carousel record").
 //! * [`Record::take`] and [`Record::run`] walk over a stretch of sections ("The run").
@@ -10,6 +10,7 @@
 //! * [`read`] and [`read_all`] read one application section ("The application section").
 //! * [`drift`] reads and writes a drift list, which is of a request of its own and not of the paper.
 //! * [`player`] writes the sections of a carousel, on shore (02, §13).
+//! * [`transport`] takes sections out of transport packets, and puts them into some (02, §2).
 //!
 //! Every refusal is a number of the paper's table "Numbers a call may answer", or of a request, and changes
 //! neither the record nor the image nor the buffer. That of a section is a [`Refusal`], which says besides where
@@ -29,6 +30,7 @@ mod refusal;
 mod run;
 mod section;
 pub mod table;
+pub mod transport;
 
 pub use ait::{read, Table};
 pub use checksum::crc;

@@ -71,8 +71,10 @@ pub const DESCRIPTION: u8 = 18;
 pub const PLACE: u8 = 19;
 /// Module not complete.
 pub const INCOMPLETE: u8 = 20;
-/// Buffer shorter than the section (02, §13).
+/// Buffer shorter than the section (02, §13), or than what packets may need (02, §2).
 pub const ROOM: u8 = 21;
+/// A PID or a counter too wide for its field.
+pub const RANGE: u8 = 25;
 
 // The drift list.
 
@@ -92,3 +94,14 @@ pub const STATE: u8 = 35;
 pub const WIDTH: u8 = 36;
 /// Buffer shorter than the list.
 pub const BUFFER: u8 = 37;
+
+// Transport packets.
+
+/// Not 188 bytes.
+pub const PACKET: u8 = 40;
+/// Sync byte not 0x47.
+pub const SYNC: u8 = 41;
+/// Other PID.
+pub const PID: u8 = 42;
+/// Transport error, scrambled, adaptation control 00, or a field that runs past the packet.
+pub const FIELD: u8 = 43;

@@ -1,10 +1,11 @@
 //! `bench [PART]`: both receivers run over the same sections in four mixes; then it is told how the cost of a byte grows; then each
-//! takes blocks by single steps; then both readers and writers go through a drift list. A word runs one part alone. It ends with
+//! takes blocks by single steps; then both readers and writers go through a drift list; then both take sections out of packets. A word runs one part alone. It ends with
 //! 1 when they do not leave the same, with 2 at any other word; how fast they are is only told.
 
 mod growth;
 mod lists;
 mod mixes;
+mod packets;
 mod race;
 mod receiver;
 mod rotation;
@@ -19,11 +20,12 @@ const ROUNDS: usize = 5;
 /// What is measured: its word, and the call that prints its lines or tells what differed.
 type Part = (&'static str, fn() -> Result<(), String>);
 
-const PARTS: [Part; 4] = [
+const PARTS: [Part; 5] = [
     ("mixes", mixes::measure),
     ("growth", growth::measure),
     ("steps", steps::measure),
     ("lists", lists::measure),
+    ("packets", packets::measure),
 ];
 
 fn main() -> ExitCode {
@@ -70,7 +72,7 @@ mod tests {
 
     #[test]
     fn a_word_chooses_one_part_and_none_all() {
-        let all = ["mixes", "growth", "steps", "lists"];
+        let all = ["mixes", "growth", "steps", "lists", "packets"];
         assert_eq!(parts(&[]), Some(all.to_vec()));
         for word in all {
             assert_eq!(parts(&[word]), Some(vec![word]));

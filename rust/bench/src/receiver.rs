@@ -186,7 +186,7 @@ pub struct Seconds {
 
 impl Seconds {
     /// Of an odd number of rounds.
-    fn of(times: &[Duration]) -> Seconds {
+    pub fn of(times: &[Duration]) -> Seconds {
         let mut sorted = times.to_vec();
         sorted.sort_unstable();
         Seconds {

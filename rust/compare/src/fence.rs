@@ -181,6 +181,12 @@ mod tests {
     /// A drift list of one record, and its numbers, that lack the last byte and the last number.
     const SHORT_LIST: [u8; 15] = [0, 7, 0, 1, 0, 0, 0x14, 0, 0, 0, 0x7F, 0xFF, 0xFF, 0xF8, 0];
     const SHORT_ROW: [i32; 4] = [1, 1, 1, -1];
+    /// A packet that begins a section, and lacks its last byte.
+    const SHORT_PACKET: [u8; 187] = {
+        let mut packet = [7; 187];
+        [packet[0], packet[1], packet[2], packet[3], packet[4]] = [0x47, 0x41, 0x23, 0x10, 0];
+        packet
+    };
     /// A table that lacks its last byte.
     const SHORT: [u8; 15] = [0x74, 0xB0, 13, 0, 1, 0xC1, 0, 0, 0xF0, 0, 0xF0, 0, 0, 0, 0];
 
@@ -193,6 +199,8 @@ mod tests {
         let table = after_table();
         let (mut list, mut row) = (Fenced::new(Edge::Ends, 16), Fenced::new(Edge::Ends, 20));
         let (list, row) = (list.put(&SHORT_LIST), row.put_numbers(&SHORT_ROW));
+        let mut packet = Fenced::new(Edge::Ends, SHORT_PACKET.len());
+        let packet = packet.put(&SHORT_PACKET);
         // SAFETY: none, but for the first and the last: these are the faults that a fence is to find.
         unsafe {
             match std::env::var("GOES").as_deref() {
@@ -219,6 +227,13 @@ mod tests {
                     let numbers = [1, 1, 1, -1, 3];
                     assert!(nebosvar::drift::write_numbers(7, 1, &numbers, told).is_ok());
                 }
+                Ok("packet") => {
+                    let told = slice::from_raw_parts(packet.as_ptr(), SHORT_PACKET.len() + 1);
+                    assert!(fed(told).is_ok());
+                }
+                Ok("whole packet") => {
+                    assert_eq!(fed(packet), Err(nebosvar::Refusal::PACKET_LENGTH));
+                }
                 Ok("whole list") => {
                     let refusal = nebosvar::Refusal::LIST_LENGTH;
                     assert_eq!(nebosvar::drift::DriftList::read(list), Err(refusal));
@@ -229,6 +244,11 @@ mod tests {
                 _ => assert!(nebosvar::table(table.bytes()).is_err()),
             }
         }
+    }
+
+    fn fed(packet: &[u8]) -> Result<nebosvar::transport::Fed, nebosvar::Refusal> {
+        let mut out = [0; nebosvar::transport::ROOM];
+        nebosvar::transport::Transport::new(0x123).feed(packet, &mut out)
     }
 
     const RECORD: usize = size_of::<nebosvar::Record>();
@@ -312,6 +332,8 @@ mod tests {
             ("numbers", Some(FAULT)),
             ("buffer", Some(FAULT)),
             ("whole list", None),
+            ("packet", Some(FAULT)),
+            ("whole packet", None),
         ] {
             ended("goes_outside", how, signal);
         }

@@ -1,7 +1,8 @@
 //! A differential test: the proved receiver, `nebosvar`, beside the independent one, `baseline`, over made
 //! stretches of sections, valid, damaged and hostile. The paper (`01-scope.md`) decides who is right. And the
 //! reader and writer of drift lists beside the independent ones ([`lists`]); there the request's §1 decides. And the
-//! shore player beside the independent one ([`plays`]); there it is §13.
+//! shore player beside the independent one ([`plays`]); there it is §13. And what takes sections out of transport packets, and puts
+//! them into some ([`packets`]); there it is §2.
 //!
 //! * Making: [`random`], sections by the crate `make`, [`tables`], [`carousels`], [`damage`], [`starts`] (records and
 //!   images to start from), [`stretches`] (all of it put together), [`limits`] (by which all of it goes), [`bounds`] (what
@@ -25,6 +26,7 @@ pub mod difference;
 pub mod fence;
 pub mod limits;
 pub mod lists;
+pub mod packets;
 pub mod pair;
 pub mod plays;
 pub mod random;

@@ -1,11 +1,12 @@
 //! `compare [STRETCHES [SEED]]`: both receivers at every limit and over so many made stretches, both readers and writers of drift lists
-//! over so many made lists besides those at the bounds, and both players over a fourth as many announcements besides those at
-//! the limits. It ends with 1 at a difference, and when an answer came too rarely for the comparison to mean much.
+//! over so many made lists besides those at the bounds, both players over a fourth as many announcements besides those at
+//! the limits, and what takes and writes transport packets over half as many streams. It ends with 1 at a
+//! difference, and when an answer came too rarely for the comparison to mean much.
 
 use std::process::ExitCode;
 
 use compare::counts::Counts;
-use compare::{lists, plays, threads};
+use compare::{lists, packets, plays, threads};
 
 const STRETCHES: u64 = 20_000;
 const SEED: u64 = 0x4E65_626F_7376_6172;
@@ -19,6 +20,10 @@ const LEAST_AT_BOUNDS: u64 = 10;
 const LEAST_OF_LISTS: u64 = 300;
 /// The same of the player's answers and of its limits.
 const LEAST_OF_PLAYS: u64 = 50;
+/// The same of packets.
+const LEAST_OF_PACKETS: u64 = 100;
+/// Of so many stretches one stream of packets is made.
+const STRETCHES_OF_A_STREAM: u64 = 2;
 /// Of so many stretches one announcement is played: each is written into a hundred buffers.
 const STRETCHES_OF_A_PLAY: u64 = 4;
 
@@ -38,7 +43,9 @@ fn main() -> ExitCode {
         .and_then(|()| lists::compare(seed, stretches))
         .and_then(|counts| conclude_lists(&counts, stretches))
         .and_then(|()| plays::compare(seed, stretches / STRETCHES_OF_A_PLAY))
-        .and_then(|counts| conclude_plays(&counts, stretches));
+        .and_then(|counts| conclude_plays(&counts, stretches))
+        .and_then(|()| packets::compare(seed, stretches / STRETCHES_OF_A_STREAM))
+        .and_then(|counts| conclude_packets(&counts, stretches));
     match done {
         Ok(()) => ExitCode::SUCCESS,
         Err(told) => {
@@ -94,6 +101,21 @@ fn conclude_plays(counts: &plays::counts::Counts, stretches: u64) -> Result<(), 
     let (drafts, within, buffers) = (counts.drafts, counts.within, counts.buffers);
     let (rotations, played) = (counts.rotations, counts.played);
     println!("compare: {drafts} announcements played, {within} of them within the limits, into {buffers} buffers, and {rotations} rotations of {played} sections heard, 0 differences");
+    Ok(())
+}
+
+/// The same of packets.
+fn conclude_packets(counts: &packets::counts::Counts, stretches: u64) -> Result<(), String> {
+    println!("{counts}");
+    enough(stretches, LEAST_OF_PACKETS, &counts.rare(LEAST_OF_PACKETS))?;
+    let [ends, begins] = counts.fenced;
+    println!("compare: all that is lent ends at a page that may not be touched for {ends} streams of packets, and begins after one for {begins}");
+    let (streams, single, sections) = (counts.streams, counts.packets, counts.sections);
+    let (gathered, buffers) = (counts.stretches, counts.buffers);
+    println!(
+        "compare: {streams} streams of packets, {single} packets one by one, {sections} sections out of them, {gathered} stretches of \
+         packets, and sections of every length written into {buffers} buffers, 0 differences"
+    );
     Ok(())
 }
 

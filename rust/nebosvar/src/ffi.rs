@@ -152,6 +152,33 @@ pub struct Counted {
     pub refusal: u8,
 }
 
+#[repr(C)]
+pub struct Fed {
+    pub size: usize,
+    pub refusal: u8,
+    pub kind: u8,
+}
+
+#[repr(C)]
+pub struct Gathered {
+    pub passed: usize,
+    pub size: usize,
+    pub taken: usize,
+    pub repeated: usize,
+    pub broken: usize,
+    pub refused40: usize,
+    pub refused41: usize,
+    pub refused42: usize,
+    pub refused43: usize,
+    pub refusal: u8,
+}
+
+#[repr(C)]
+pub struct Packed {
+    pub packets: usize,
+    pub refusal: u8,
+}
+
 extern "C" {
     pub fn nebosvar_start() -> Record;
     pub fn nebosvar_step(
@@ -239,6 +266,32 @@ extern "C" {
         out: *mut u8,
         room: usize,
     ) -> Written;
+    pub fn nebosvar_feed(
+        pid: u16,
+        packet: *const u8,
+        length: usize,
+        state: *mut u8,
+        state_length: usize,
+        out: *mut u8,
+        room: usize,
+    ) -> Fed;
+    pub fn nebosvar_gather(
+        pid: u16,
+        packets: *const u8,
+        length: usize,
+        state: *mut u8,
+        state_length: usize,
+        out: *mut u8,
+        room: usize,
+    ) -> Gathered;
+    pub fn nebosvar_write_packets(
+        pid: u16,
+        counter: u8,
+        section: *const u8,
+        length: usize,
+        out: *mut u8,
+        room: usize,
+    ) -> Packed;
 }
 
 // The layout on x86-64.
@@ -268,6 +321,9 @@ const _: () = {
     assert!(size_of::<Found>() == 16);
     assert!(size_of::<Written>() == 16);
     assert!(size_of::<Counted>() == 16);
+    assert!(size_of::<Fed>() == 16);
+    assert!(size_of::<Gathered>() == 80);
+    assert!(size_of::<Packed>() == 16);
     assert!(size_of::<Listed>() == 12);
     assert!(offset_of!(Listed, number) == 0);
     assert!(offset_of!(Listed, size) == 4);

@@ -3,8 +3,9 @@
 //!
 //! [`Record`] is the carousel; [`table`] and the functions beside it read an application section; [`drift`]
 //! reads and writes the drift list, which is one of its modules; [`player`] writes the sections of a carousel, on
-//! shore. Each is one call of `libnebosvar.a` (x86-64 Linux), which is proved to answer as the paper, the
-//! association's document 01, states, and its document 02 of the drift list and the player:
+//! shore; [`transport`] takes sections out of transport packets, and puts one into them. Each is one call of
+//! `libnebosvar.a` (x86-64 Linux), which is proved to answer as the paper, the association's document 01, states, and its
+//! document 02 of the drift list, the player and packets:
 //!
 //! * Any bytes, any record, any image: each call ends, with the one answer stated for them. There is
 //!   nothing to check first.
@@ -82,6 +83,7 @@ mod proved;
 mod record;
 mod refusal;
 mod table;
+pub mod transport;
 
 pub use answer::{Kind, Missing, Passage, Stop, Taken};
 pub use limits::{LARGEST_BLOCK, MARK_WORDS, MODULE_WORDS, MOST_BLOCKS, MOST_BYTES, MOST_MODULES};

@@ -23,15 +23,22 @@ mod tests {
     use super::range;
     use crate::drift::State;
     use crate::ffi::NOWHERE;
+    use crate::transport::PacketKind;
     use crate::{Class, Control, Kind, Refusal, Stop};
     use std::panic::{catch_unwind, UnwindSafe};
 
     #[test]
     fn what_the_header_does_not_have_is_excluded() {
-        let calls: [fn(); 16] = [
+        let calls: [fn(); 22] = [
             || assert!(Refusal::check(22, NOWHERE).is_ok()),
             || assert!(Refusal::check(29, NOWHERE).is_ok()),
             || assert!(Refusal::check(38, NOWHERE).is_ok()),
+            || assert!(Refusal::check(24, NOWHERE).is_ok()),
+            || assert!(Refusal::check(26, NOWHERE).is_ok()),
+            || assert!(Refusal::check(39, NOWHERE).is_ok()),
+            || assert!(Refusal::check(44, NOWHERE).is_ok()),
+            || assert!(PacketKind::check(0, 0).is_ok()),
+            || assert!(PacketKind::check(0, 4).is_ok()),
             || assert!(Refusal::check(21, 0).is_ok()),
             || assert!(Kind::check(0, 0, 1).is_ok()), // accepted, at a place
             || assert!(Kind::check(0, NOWHERE, 0).is_ok()),
@@ -61,7 +68,7 @@ mod tests {
     #[test]
     fn refusals_2_to_6_have_a_place_and_no_other_has() {
         for number in 0..=u8::MAX {
-            let known = matches!(number, 0..=21 | 30..=37);
+            let known = matches!(number, 0..=21 | 25 | 30..=37 | 40..=43);
             let placed = matches!(number, 2..=6);
             let check = |place| Refusal::check(number, place).unwrap_or(());
             assert_eq!(is_excluded(|| check(NOWHERE)), placed || !known);

@@ -5,8 +5,8 @@ use crate::proved::excluded;
 use std::error::Error;
 use std::fmt;
 
-/// Why a call refused: a number from 1 to 20 of the paper's table, 21 of the [`player`](crate::player), or from 30 to
-/// 37 of a drift list. Of several that apply it is the lowest, but for the table's one exception (a message's 8 goes
+/// Why a call refused: a number from 1 to 20 of the paper's table, 21 of the [`player`](crate::player), from 30 to
+/// 37 of a drift list, or 25 and 40 to 43 of [`transport`](crate::transport) packets. Of several that apply it is the lowest, but for the table's one exception (a message's 8 goes
 /// before most cases of 7) and for drift lists, whose order is told in [`drift`](crate::drift).
 ///
 /// ```
@@ -47,7 +47,7 @@ pub struct Refusal {
 }
 
 impl Refusal {
-    /// 1: the record breaks its rule.
+    /// 1: the record breaks its rule, or the state of [`transport`](crate::transport) packets is none that they can have left.
     pub const BAD_RECORD: Refusal = Refusal::plain(1);
 
     /// 2: under 3 bytes, or not 3 + L. The place is the length that was lent: one past the last byte, so it is none
@@ -106,8 +106,10 @@ impl Refusal {
     pub const NO_PLACE: Refusal = Refusal::plain(19);
     /// 20: module not complete.
     pub const INCOMPLETE: Refusal = Refusal::plain(20);
-    /// 21: bytes to write to that are too few for the section.
+    /// 21: bytes to write to that are too few for the section, or for what packets may need.
     pub const SHORT_BUFFER: Refusal = Refusal::plain(21);
+    /// 25: a PID above 0x1FFF, or a counter above 15.
+    pub const OUT_OF_RANGE: Refusal = Refusal::plain(25);
     /// 30: a drift list under 4 bytes, or not of 4 + 12 × count.
     pub const LIST_LENGTH: Refusal = Refusal::plain(30);
     /// 31: a longitude or latitude out of its range.
@@ -124,6 +126,14 @@ impl Refusal {
     pub const LIST_WIDTH: Refusal = Refusal::plain(36);
     /// 37: bytes to write to that are too few for the list.
     pub const LIST_ROOM: Refusal = Refusal::plain(37);
+    /// 40: a packet that has not 188 bytes.
+    pub const PACKET_LENGTH: Refusal = Refusal::plain(40);
+    /// 41: a packet that does not begin with the sync byte.
+    pub const PACKET_SYNC: Refusal = Refusal::plain(41);
+    /// 42: a packet of another PID.
+    pub const PACKET_PID: Refusal = Refusal::plain(42);
+    /// 43: a packet with a transport error, scrambled, with adaptation control 00, or with a field that runs past it.
+    pub const PACKET_FIELD: Refusal = Refusal::plain(43);
 
     const fn plain(number: u8) -> Refusal {
         Refusal {
@@ -155,7 +165,7 @@ impl Refusal {
     pub(crate) fn check(number: u8, place: usize) -> Result<(), Refusal> {
         match (number, place) {
             (0, NOWHERE) => Ok(()),
-            (1 | 7..=21 | 30..=37, NOWHERE) => Err(Refusal::plain(number)),
+            (1 | 7..=21 | 25 | 30..=37 | 40..=43, NOWHERE) => Err(Refusal::plain(number)),
             (_, NOWHERE) => excluded(),
             (2..=6, _) => Err(Refusal::at(number, place)),
             _ => excluded(),
@@ -187,6 +197,7 @@ impl fmt::Display for Refusal {
             19 => "no such place",
             20 => "module not complete",
             21 => "a short buffer",
+            25 => "PID above 0x1FFF, or counter above 15",
             30 => "length",
             31 => "coordinate range",
             32 => "minute",
@@ -195,6 +206,10 @@ impl fmt::Display for Refusal {
             35 => "state 3, or state against coordinates",
             36 => "a value too wide for its field, or a count that isn't the number of records",
             37 => "a short buffer",
+            40 => "not 188 bytes",
+            41 => "sync",
+            42 => "other PID",
+            43 => "transport error, scrambled, adaptation control 00, or a field that runs past the packet",
             _ => excluded(),
         };
         write!(f, "refusal {}", self.number)?;

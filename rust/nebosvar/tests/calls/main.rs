@@ -9,6 +9,7 @@ mod receive;
 mod refusals;
 mod run;
 mod tables;
+mod transport;
 
 use make::{announcement, block};
 use nebosvar::Record;

@@ -23,7 +23,7 @@ fn refused_always(section: &[u8], refusal: Refusal) {
 const PLACE: usize = 2026;
 
 /// One of every number; those that have a place, at this one.
-const ALL: [Refusal; 29] = [
+const ALL: [Refusal; 34] = [
     Refusal::BAD_RECORD,
     Refusal::bad_size(PLACE),
     Refusal::bad_table(PLACE),
@@ -45,6 +45,7 @@ const ALL: [Refusal; 29] = [
     Refusal::NO_PLACE,
     Refusal::INCOMPLETE,
     Refusal::SHORT_BUFFER,
+    Refusal::OUT_OF_RANGE,
     Refusal::LIST_LENGTH,
     Refusal::LIST_COORDINATE,
     Refusal::LIST_MINUTE,
@@ -53,11 +54,16 @@ const ALL: [Refusal; 29] = [
     Refusal::LIST_STATE,
     Refusal::LIST_WIDTH,
     Refusal::LIST_ROOM,
+    Refusal::PACKET_LENGTH,
+    Refusal::PACKET_SYNC,
+    Refusal::PACKET_PID,
+    Refusal::PACKET_FIELD,
 ];
 
 #[test]
 fn numbers_and_words() {
-    for (refusal, number) in ALL.iter().zip((1..=21).chain(30..)) {
+    let numbers = (1..=21).chain([25]).chain(30..=37).chain(40..);
+    for (refusal, number) in ALL.iter().zip(numbers) {
         assert_eq!(refusal.number(), number);
         let (place, at) = match number {
             2..=6 => (Some(PLACE), " at byte 2026"),
