@@ -2,12 +2,13 @@
 use Prim.Native.Nat.{ℕ, suc, _+_, _≤_, _<_}
 use mathlib.Core.Path.{_≡_, refl, sym, ap, _∙_}
 use mathlib.Core.Bool.{Bool, true, false, _&&_}
-use mathlib.Core.List.{List, [], _∷_}
+use mathlib.Core.List.{List, [], _∷_, _++_, append-assoc}
+use native.Mathlib.Nat.{add-assoc}
 use native.Mathlib.Numerals.{add-one}
 use native.Mathlib.Omega.{arith}
 use lib.Dec.{eqb}
-use lib.ListN.{length, getD, drop, drop-of-length-le}
-use lib.Seq.{drop-cons}
+use lib.ListN.{length, getD, take, drop, drop-of-length-le, length-drop}
+use lib.Seq.{drop-cons, take-length, take-add, take-at, drop-drop, length-take-le, paste, take-paste, drop-paste}
 use lib.Bits.{bitOr, bitXor, or-zero-l, or-add-and, xor-self, xor-add-and, and-le-l, and-le-r}
 use borrow.Author.Tests.{eq-eqb, ne-eqb, eqb-true, eqb-false, le-leb, lt-leb}
 use Rattle.wire.specs.Copies.{sameNumbers, overwrite, laidAt}
@@ -60,6 +61,10 @@ module _ (xs ys : List ℕ) (i : ℕ) where
       alone true = refl
       alone false = refl
 
+-- a piece has as many bytes as it was to have
+pub piece-length : (bytes : List ℕ) (j n : ℕ) → j + n ≤ length bytes → length (take n (drop j bytes)) ≡ n
+piece-length bytes j n h = length-take-le n (drop j bytes) (rw (length-drop j bytes) (omega arith))
+
 -- bytes that fit are laid; others leave all as it was
 module _ (out : List ℕ) (at : ℕ) (bytes : List ℕ) where
   pub laid-fits : at + length bytes ≤ length out → laidAt out at bytes ≡ overwrite out at bytes
@@ -69,3 +74,29 @@ module _ (out : List ℕ) (at : ℕ) (bytes : List ℕ) where
   pub laid-short : length out < at + length bytes → laidAt out at bytes ≡ out
   unfolding laidAt
   laid-short h = rw (lt-leb _ _ h)
+
+  -- the first j of them laid, and j is all
+  pub pasted-all : (j : ℕ) → j ≡ length bytes → paste out at bytes j ≡ overwrite out at bytes
+  unfolding overwrite
+  pasted-all j all = rw (all, take-length) (append-assoc (take at out) bytes (drop (at + length bytes) out))
+
+  -- those before j laid, and then the n from j on
+  pub piece-laid : (j n : ℕ) → j + n ≤ length bytes → at + length bytes ≤ length out
+      → overwrite (paste out at bytes j) (at + j) (take n (drop j bytes)) ≡ paste out at bytes (j + n)
+  unfolding overwrite
+  piece-laid j n h fits =
+      rw (take-paste out at bytes j (omega arith) (omega arith), behind, take-add j n bytes)
+      (sym (append-assoc (take at out ++ take j bytes) (take n (drop j bytes)) rest) ∙ ap (λ (r : List ℕ). r ++ rest) (append-assoc (take at out) (take j bytes) (take n (drop j bytes))))
+    where
+      rest : List ℕ
+      rest = drop (at + (j + n)) out
+
+      behind : drop (at + j + length (take n (drop j bytes))) (paste out at bytes j) ≡ rest
+      behind =
+          rw (piece-length bytes j n h, ← drop-drop n (at + j) (paste out at bytes j), drop-paste out at bytes j (omega arith) (omega arith))
+          (drop-drop n (at + j) out ∙ ap (λ (k : ℕ). drop k out) (add-assoc at j n))
+
+-- bytes laid over the first ones of others stand there
+pub first-laid : (out bytes : List ℕ) (n : ℕ) → length bytes ≡ n → take n (overwrite out 0 bytes) ≡ bytes
+unfolding overwrite
+first-laid out bytes n = take-at bytes (drop (0 + length bytes) out) n
