@@ -7,3 +7,5 @@ pub mod Hands
 pub mod Taking
 pub mod Answers
 pub mod Calls
+pub mod Judged
+pub mod Midway

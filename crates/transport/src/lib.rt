@@ -8,14 +8,17 @@
 // copy it: zeros at first, then carried from call to call. No call trusts it.
 
 mod hand;
+mod judge;
 mod packet;
 mod state;
+mod stretch;
 mod take;
 mod tally;
 
 use state::is_good;
-use take::take_packet;
-use tally::counted;
+use stretch::came_to;
+use stretch::pass;
+use tally::counted_as;
 use tally::none;
 ghost use mathlib.Core.Path.{_≡_};
 ghost use lib.ListN.{length};
@@ -72,12 +75,14 @@ pub fn feed(pid: u16, p: &[u8], state: &mut [u8], out: &mut [u8]) -> Handed
 {
     let n = lent_refusal(pid, state, out.len());
     if n != 0 {
-        return Handed {
-            answer: Answer::Refused(n),
-            size: 0,
-        };
+        return answered(Answer::Refused(n), 0);
     }
-    take_packet(pid, p, state, out)
+    if p.len() != PACKET_LENGTH {
+        return answered(Answer::Refused(40), 0);
+    }
+    let g = pass(pid, p, state, out);
+    let counts = g.counts;
+    answered(counted_as(counts), g.size)
 }
 
 // Many packets, laid end to end, one by one, for as long as the buffer has room for what one more may hand on.
@@ -90,21 +95,7 @@ pub fn gather(pid: u16, packets: &[u8], state: &mut [u8], out: &mut [u8]) -> Gat
     if n != 0 {
         return came_to(n, 0, 0, none());
     }
-    let mut counts = none();
-    let mut passed: usize = 0;
-    let mut size: usize = 0;
-    while passed < packets.len() {
-        if out.len() - size < LEAST_ROOM {
-            return came_to(0, passed, size, counts);
-        }
-        let end = passed + wire::lesser(PACKET_LENGTH, packets.len() - passed);
-        let handed = take_packet(pid, &packets[passed..end], state, &mut out[size..]);
-        let answer = handed.answer;
-        counts = counted(counts, answer);
-        passed = end;
-        size += handed.size;
-    }
-    came_to(0, passed, size, counts)
+    pass(pid, packets, state, out)
 }
 
 // 1 a state that the rules can't have left; 21 a buffer of too little room; else 0.
@@ -120,13 +111,11 @@ fn lent_refusal(pid: u16, state: &[u8], room: usize) -> u8
     0
 }
 
-fn came_to(refusal: u8, passed: usize, size: usize, counts: Counts) -> Gathered
-    ensures { λ r. ⌜ r ≡ record { refusal = refusal; passed = passed; size = size; counts = counts } ⌝ }
+fn answered(answer: Answer, size: usize) -> Handed
+    ensures { λ r. ⌜ r ≡ record { answer = answer; size = size } ⌝ }
 {
-    Gathered {
-        refusal: refusal,
-        passed: passed,
+    Handed {
+        answer: answer,
         size: size,
-        counts: counts,
     }
 }

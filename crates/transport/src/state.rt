@@ -3,12 +3,12 @@ use crate::PACKET_LENGTH;
 use crate::STATE_LENGTH;
 use crate::packet::packet_refusal;
 ghost use mathlib.Core.Path.{_≡_};
-ghost use Prim.Native.Nat.{_<_};
-ghost use lib.ListN.{length};
-ghost use Rattle.wire.specs.Copies.{laidAt};
-ghost use Rattle.wire.specs.Fields.{spelled};
+ghost use Prim.Native.Nat.{_≤_, _<_};
+ghost use lib.ListN.{length, take, drop};
+ghost use Rattle.transport.specs.Packet.{packetLength};
 ghost use Rattle.transport.specs.Feed.{isHead};
-ghost use Rattle.transport.specs.State.{heldIn, stateGood};
+ghost use Rattle.transport.specs.State.{handAt, heldIn, stateGood};
+ghost use Rattle.transport.specs.Pieces.{withLast, midway};
 
 // Where the number of bytes in hand stands, and where they begin.
 const HELD_AT: usize = 188;
@@ -57,4 +57,28 @@ fn is_head(hand: &[u8]) -> bool
         return false;
     }
     section::whole_at(hand) == 0
+}
+
+// What is still to be written after a stretch: its packet from `last` on becomes the last, with so many bytes in hand; none where that is
+// past the stretch.
+pub fn keep_last(packets: &[u8], last: usize, held: usize, state: &mut [u8])
+    requires { ⌜ (last < length (now packets) → length (take packetLength (drop last (now packets))) ≡ packetLength)
+        × (held < 65536) × (handAt ≤ length (now state)) ⌝ }
+    ensures { λ _. ⌜ now (state .exit) ≡ midway (now (packets .entry)) last held (now (state .entry)) ⌝ }
+{
+    if packets.len() <= last {
+        return;
+    }
+    let end = last + PACKET_LENGTH;
+    keep(state, &packets[last..end], held);
+}
+
+// The packet becomes the last, with so many bytes in hand.
+fn keep(state: &mut [u8], p: &[u8], held: usize)
+    requires { ⌜ (length (now p) ≡ packetLength) × (held < 65536) × (handAt ≤ length (now state)) ⌝ }
+    ensures { λ _. ⌜ now (state .exit) ≡ withLast (now (p .entry)) held (now (state .entry)) ⌝ }
+{
+    wire::copy_at(state, 0, p);
+    state[188] = (held / 256) as u8;
+    state[189] = (held % 256) as u8;
 }

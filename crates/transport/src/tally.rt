@@ -2,11 +2,10 @@
 use crate::Answer;
 use crate::Counts;
 ghost use mathlib.Core.Path.{_≡_};
-ghost use mathlib.Core.Bool.{cond};
 ghost use mathlib.Core.List.{[]};
-ghost use Prim.Native.Nat.{_+_, _<_};
-ghost use Rattle.transport.specs.Calls.{isTaken, isRepeated, isBroken, isRefusedWith, tally};
-ghost use Rattle.transport.specs.Pieces.{countedWith, Countable};
+ghost use Rattle.transport.specs.declared.Answer.the-variants.{Refused};
+ghost use Rattle.transport.specs.Calls.{tally};
+ghost use Rattle.transport.specs.Pieces.{countedWith, countedAs, Countable};
 
 pub fn none() -> Counts
     ensures { λ r. ⌜ r ≡ tally [] ⌝ }
@@ -27,62 +26,68 @@ pub fn counted(c: Counts, a: Answer) -> Counts
     requires { ⌜ Countable c ⌝ }
     ensures { λ r. ⌜ r ≡ countedWith c a ⌝ }
 {
-    Counts {
-        taken: c.taken + taken_by(a),
-        repeated: c.repeated + repeated_by(a),
-        broken: c.broken + broken_by(a),
-        refused40: c.refused40 + refused_by(a, 40),
-        refused41: c.refused41 + refused_by(a, 41),
-        refused42: c.refused42 + refused_by(a, 42),
-        refused43: c.refused43 + refused_by(a, 43),
+    match a {
+        Answer::Taken => Counts {
+            taken: c.taken + 1,
+            ..c
+        },
+        Answer::Broken => Counts {
+            taken: c.taken + 1,
+            broken: c.broken + 1,
+            ..c
+        },
+        Answer::Repeated => Counts {
+            repeated: c.repeated + 1,
+            ..c
+        },
+        Answer::Refused(n) => refused(c, n),
     }
 }
 
-fn taken_by(a: Answer) -> usize
-    ensures { λ r. ⌜ (r ≡ cond (isTaken a) 1 0) × (r < 2) ⌝ }
+// With one more refusal.
+fn refused(c: Counts, n: u8) -> Counts
+    requires { ⌜ Countable c ⌝ }
+    ensures { λ r. ⌜ r ≡ countedWith c (Refused n) ⌝ }
 {
-    match a {
-        Answer::Taken => 1,
-        Answer::Broken => 1,
-        Answer::Repeated => 0,
-        Answer::Refused(_) => 0,
+    match n {
+        40 => Counts {
+            refused40: c.refused40 + 1,
+            ..c
+        },
+        41 => Counts {
+            refused41: c.refused41 + 1,
+            ..c
+        },
+        42 => Counts {
+            refused42: c.refused42 + 1,
+            ..c
+        },
+        43 => Counts {
+            refused43: c.refused43 + 1,
+            ..c
+        },
+        _ => c,
     }
 }
 
-fn repeated_by(a: Answer) -> usize
-    ensures { λ r. ⌜ (r ≡ cond (isRepeated a) 1 0) × (r < 2) ⌝ }
+// The answer that one packet had.
+pub fn counted_as(c: Counts) -> Answer
+    ensures { λ r. ⌜ r ≡ countedAs c ⌝ }
 {
-    match a {
-        Answer::Repeated => 1,
-        Answer::Taken => 0,
-        Answer::Broken => 0,
-        Answer::Refused(_) => 0,
+    if c.broken != 0 {
+        return Answer::Broken;
     }
-}
-
-fn broken_by(a: Answer) -> usize
-    ensures { λ r. ⌜ (r ≡ cond (isBroken a) 1 0) × (r < 2) ⌝ }
-{
-    match a {
-        Answer::Broken => 1,
-        Answer::Taken => 0,
-        Answer::Repeated => 0,
-        Answer::Refused(_) => 0,
+    if c.taken != 0 {
+        return Answer::Taken;
     }
-}
-
-fn refused_by(a: Answer, number: u8) -> usize
-    ensures { λ r. ⌜ (r ≡ cond (isRefusedWith number a) 1 0) × (r < 2) ⌝ }
-{
-    match a {
-        Answer::Refused(n) => {
-            if n == number {
-                return 1;
-            }
-            0
-        }
-        Answer::Taken => 0,
-        Answer::Broken => 0,
-        Answer::Repeated => 0,
+    if c.repeated != 0 {
+        return Answer::Repeated;
     }
+    if c.refused41 != 0 {
+        return Answer::Refused(41);
+    }
+    if c.refused42 != 0 {
+        return Answer::Refused(42);
+    }
+    Answer::Refused(43)
 }

@@ -40,32 +40,6 @@ module _ (pid : ℕ) (s p out : List ℕ) where
       let q : packetRefusal pid p ≡ 0 → ⊥ = λ w. z (e ∙ w) in
       stayed (answer.Refused n) (fed-refused pid (stateIn s) p q ∙ ap (λ (m : ℕ). passedOver (stateIn s) (answer.Refused m)) (sym e)) (refused-stays pid s p q)
 
-  module _ (z : packetRefusal pid p ≡ 0) where
-    pub told-repeat : isRepeat (stateIn s) p ≡ true → Told pid s p out (record { answer = answer.Repeated; size = 0 }) s out
-    told-repeat r = stayed answer.Repeated (fed-repeat pid (stateIn s) p z r) (repeat-stays pid s p z r)
-
-    -- taken, with h in hand
-    module _ (r : isRepeat (stateIn s) p ≡ false) (h : List ℕ) (k : keptHand (stateIn s) p ≡ h) (n : ℕ) (after buffer : List ℕ) (a : n ≡ length (joined (handsOn h (viewOf p))))
-        (b : after ≡ laidFirst (stateBytes (record { last = p; hand = leaves h (viewOf p) })) s) (c : buffer ≡ laidFirst (joined (handsOn h (viewOf p))) out) where
-      pub told-taken : (t : Bool) → inStep (stateIn s .last) p ≡ t → Told pid s p out (record { answer = cond t answer.Taken answer.Broken; size = n }) after buffer
-      told-taken t e = (
-        ap₂ (λ (u : Bool) (m : ℕ). record { answer = cond u answer.Taken answer.Broken; size = m }) (sym e) (a ∙ ap (λ (g : List ℕ). length (joined (handsOn g (viewOf p)))) (sym k))
-            ∙ ap handedBy (sym (fed-taken pid (stateIn s) p z r)),
-        b ∙ ap (λ (g : List ℕ). laidFirst (stateBytes (record { last = p; hand = leaves g (viewOf p) })) s) (sym k) ∙ sym (taken-left pid s p z r),
-        c
-            ∙ ap (λ (g : List ℕ). laidFirst (joined (handsOn g (viewOf p))) out) (sym k)
-            ∙ ap (λ (w : Fed). laidFirst (joined (w .sections)) out) (sym (fed-taken pid (stateIn s) p z r)),
-      )
-
-  -- what is kept in hand
-  pub kept-all : inStep (lastIn s) p ≡ true → keptHand (stateIn s) p ≡ handIn s
-  unfolding keptHand stateIn
-  kept-all e = rw e
-
-  pub kept-none : inStep (lastIn s) p ≡ false → keptHand (stateIn s) p ≡ []
-  unfolding keptHand stateIn
-  kept-none e = rw e
-
 pub last-said : (s : List ℕ) → stateIn s .last ≡ lastIn s
 unfolding stateIn
 last-said s = refl

@@ -6,7 +6,7 @@ use mathlib.Core.List.{List, [], _∷_, _++_, append-assoc}
 use native.Mathlib.Omega.{arith}
 use lib.Dec.{eqb, leb, ltb}
 use lib.ListN.{length, take, drop, length-append, length-drop, length-take, drop-of-length-le}
-use lib.Seq.{take-at, drop-drop}
+use lib.Seq.{take-at, take-length, drop-drop}
 use borrow.Author.Tests.{eq-eqb, ne-eqb, eqb-true, lt-ltb, le-ltb, ltb-false, leb-true, leb-false}
 use borrow.Rule.Slice.PartMut.{putMid}
 use Rattle.wire.specs.Items.{joined}
@@ -26,13 +26,14 @@ use Rattle.transport.specs.State.{stateIn, stateGood}
 use Rattle.transport.specs.Calls.{mostHanded, lentRefusal, nextState, feedOutcome, feedAnswer, feedState, feedOut, fitting, statesOver}
 use Rattle.transport.specs.Calls.{gatheredPackets, howMany, isTaken, isRepeated, isBroken, isRefusedWith, tally}
 use Rattle.transport.specs.Calls.{gatherAnswer, gatherState, gatherOut}
-use Rattle.transport.specs.Pieces.{countedWith, Countable, most}
+use Rattle.transport.specs.Pieces.{countedWith, countedAs, Countable, most}
 use Rattle.transport.proofs.Laws.Feeding.{state-both, sections-both, answers-both}
 use Rattle.transport.proofs.Laws.Hands.{none-long, none-laid}
 use Rattle.transport.proofs.Laws.Rule.{room, fed-ruled}
 use Rattle.transport.proofs.Laws.States.{good-says, next-good, next-says, next-long}
 use Rattle.transport.proofs.Laws.Taking.{put-behind, laid-behind}
 use Rattle.transport.proofs.Laws.Answers.{handedBy}
+use Rattle.transport.proofs.Laws.Judged.{one-counted}
 
 -- WHAT IS LENT
 module _ (pid : ℕ) (s : List ℕ) (n : ℕ) where
@@ -115,6 +116,37 @@ tally-more rs a =
       refused42 = one-more (isRefusedWith 42) rs a i;
       refused43 = one-more (isRefusedWith 43) rs a i;
     })
+
+-- a counter has one more, or stays
+counter : (t : Bool) (n : ℕ) → cond t (n + 1) n ≡ n + cond t 1 0
+counter true n = refl
+counter false n = omega arith
+
+pub counters : (c : Counts) (a b : Answer) → b ≡ a
+    → record {
+      taken = cond (isTaken a) (c .taken + 1) (c .taken);
+      repeated = cond (isRepeated a) (c .repeated + 1) (c .repeated);
+      broken = cond (isBroken a) (c .broken + 1) (c .broken);
+      refused40 = cond (isRefusedWith 40 a) (c .refused40 + 1) (c .refused40);
+      refused41 = cond (isRefusedWith 41 a) (c .refused41 + 1) (c .refused41);
+      refused42 = cond (isRefusedWith 42 a) (c .refused42 + 1) (c .refused42);
+      refused43 = cond (isRefusedWith 43 a) (c .refused43 + 1) (c .refused43);
+    } ≡ countedWith c b
+unfolding countedWith
+counters c a b e =
+    (λ i. record {
+      taken = counter (isTaken a) (c .taken) i;
+      repeated = counter (isRepeated a) (c .repeated) i;
+      broken = counter (isBroken a) (c .broken) i;
+      refused40 = counter (isRefusedWith 40 a) (c .refused40) i;
+      refused41 = counter (isRefusedWith 41 a) (c .refused41) i;
+      refused42 = counter (isRefusedWith 42 a) (c .refused42) i;
+      refused43 = counter (isRefusedWith 43 a) (c .refused43) i;
+    }) ∙ ap (countedWith c) (sym e)
+
+-- another refusal leaves them all
+pub uncounted : (c : Counts) (n : ℕ) → (n ≡ 40 → ⊥) → (n ≡ 41 → ⊥) → (n ≡ 42 → ⊥) → (n ≡ 43 → ⊥) → c ≡ countedWith c (answer.Refused n)
+uncounted c n w x y z = rw (← counters c (answer.Refused n) _ refl, ne-eqb n 40 w, ne-eqb n 41 x, ne-eqb n 42 y, ne-eqb n 43 z) refl
 
 count-most : (t : Answer → Bool) (rs : List Answer) → howMany t rs ≤ length rs
 unfolding howMany
@@ -355,6 +387,31 @@ module _ (pid : ℕ) (s out xs : List ℕ) (n : ℕ) (e : n ≡ lentRefusal pid 
         }) (sym none-passed),
     ap (statesOver pid s) (sym none-passed),
     ap (λ (ps : List (List ℕ)). laidFirst (joined (handedOn pid (stateIn s) ps)) out) (sym none-passed),
+  )
+
+-- ONE PACKET OF 188 BYTES as a stretch
+module _ (pid : ℕ) (s p out : List ℕ) (k : lentRefusal pid s (length out) ≡ 0) (e : length p ≡ packetLength) where
+  one-piece : packetsIn p ≡ p ∷ []
+  one-piece =
+      cut-step packetLength p (omega arith) (omega (arith, e))
+      ∙ ap₂ (λ (q r : List ℕ). q ∷ packetsIn r) (ap (λ (n : ℕ). take n p) (sym e) ∙ take-length p) (drop-of-length-le p {i = packetLength} (omega (arith, e)))
+      ∙ ap (λ (qs : List (List ℕ)). p ∷ qs) (cut-none packetLength)
+
+  one-gathered : gatheredPackets pid s (length out) p ≡ p ∷ []
+  unfolding gatheredPackets fitting
+  one-gathered =
+      let l = lent-back pid s (length out) k .1 in
+      rw (eq-eqb (lentRefusal pid s (length out)) 0 k, one-piece, one-fits pid (length out) (stateIn s) p [] l) refl
+
+  pub one-told : (record { answer = countedAs (gatherAnswer pid s (length out) p .counts); size = gatherAnswer pid s (length out) p .size } ≡ handedBy (fed pid (stateIn s) p))
+      × (gatherState pid s (length out) p ≡ nextState pid s p) × (gatherOut pid s p out ≡ laidFirst (joined (fed pid (stateIn s) p .sections)) out)
+  unfolding gatherAnswer gatherState gatherOut
+  one-told = (
+    ap (λ (ps : List (List ℕ)). record { answer = countedAs (tally (answersOf pid (stateIn s) ps)); size = length (joined (handedOn pid (stateIn s) ps)) }) one-gathered
+        ∙ ap₂ (λ (as′ : List Answer) (ss : List (List ℕ)). record { answer = countedAs (tally as′); size = length (joined ss) }) (one-answer pid (stateIn s) p) (one-section pid (stateIn s) p)
+        ∙ ap (λ (a : Answer). record { answer = a; size = length (joined (fed pid (stateIn s) p .sections)) }) (one-counted pid (stateIn s) p e),
+    ap (statesOver pid s) one-gathered ∙ one-left pid s p,
+    ap (λ (ps : List (List ℕ)). laidFirst (joined (handedOn pid (stateIn s) ps)) out) one-gathered ∙ ap (λ (ss : List (List ℕ)). laidFirst (joined ss) out) (one-section pid (stateIn s) p),
   )
 
 -- WHAT IS HANDED ON HAS ROOM

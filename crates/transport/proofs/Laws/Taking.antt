@@ -25,39 +25,7 @@ use Rattle.transport.specs.State.{handAt, stateLength, lastIn, stateIn, 
 use Rattle.transport.proofs.Laws.Hands.{ended-whole, one-long, none-long}
 use Rattle.transport.proofs.Laws.States.{laid-parts}
 
--- THE LAST PACKET
-module _ (s : List ℕ) where
-  last-none : byteAt s 0 ≡ 0 → lastIn s ≡ []
-  last-none e = ap (λ (t : Bool). cond t [] (take packetLength s)) (eq-eqb (byteAt s 0) 0 e)
-
-  last-some : (byteAt s 0 ≡ 0 → ⊥) → lastIn s ≡ take packetLength s
-  last-some n = ap (λ (t : Bool). cond t [] (take packetLength s)) (ne-eqb (byteAt s 0) 0 n)
-
-  there : stateLength ≤ length s → isNone (take packetLength s) ≡ false
-  there l = go s l
-    where
-      go : (xs : List ℕ) → stateLength ≤ length xs → isNone (take packetLength xs) ≡ false
-      go [] h = absurd (omega arith)
-      go (x ∷ xs) h = refl
-
-  module _ (p : List ℕ) where
-    pub no-repeat : byteAt s 0 ≡ 0 → isRepeat (stateIn s) p ≡ false
-    unfolding stateIn
-    no-repeat e = ap (λ (l : List ℕ). not (isNone l) && sameNumbers l p) (last-none e)
-
-    pub repeat-by : stateLength ≤ length s → (byteAt s 0 ≡ 0 → ⊥) → isRepeat (stateIn s) p ≡ sameNumbers (take packetLength s) p
-    unfolding stateIn
-    repeat-by l n = ap (λ (x : List ℕ). not (isNone x) && sameNumbers x p) (last-some n) ∙ ap (λ (t : Bool). not t && sameNumbers (take packetLength s) p) (there l)
-
-    pub first-in-step : byteAt s 0 ≡ 0 → inStep (lastIn s) p ≡ true
-    first-in-step e = ap (λ (l : List ℕ). inStep l p) (last-none e)
-
-    pub step-by : stateLength ≤ length s → (byteAt s 0 ≡ 0 → ⊥) → inStep (lastIn s) p ≡ eqb (counterOf p) ((counterOf (take packetLength s) + weight (viewOf p)) % 16)
-    unfolding viewOf
-    step-by l n =
-        ap (λ (x : List ℕ). inStep x p) (last-some n)
-        ∙ ap (λ (t : Bool). t || eqb (counterOf p) ((counterOf (take packetLength s) + weight (viewOf p)) % 16)) (there l)
-
+-- how far a packet turns the counter
 pub weight-by : (p : List ℕ) (t : Bool) → hasPayload p ≡ t → cond t 1 0 ≡ weight (viewOf p)
 unfolding viewOf
 weight-by p t e = sym (ap (λ (u : Bool). cond u 1 0) e)

@@ -6,23 +6,20 @@ use native.Mathlib.Omega.{arith}
 use lib.ListN.{length, take, drop, length-drop}
 use lib.Seq.{length-take-le}
 use Rattle.wire.specs.Copies.{laidAt}
-use Rattle.wire.specs.Fields.{byteAt, spelled}
+use Rattle.wire.specs.Fields.{byteAt}
 use Rattle.wire.specs.Items.{items, joined}
 use Rattle.wire.specs.Pieces.{laidFirst}
 use Rattle.wire.proofs.Laws.Loops.{tail}
 use Rattle.section.specs.Whole.{wholeAt}
 use Rattle.transport.specs.Feed.{leftOf, headIn}
-use Rattle.transport.specs.State.{handAt, stateBytes}
+use Rattle.transport.specs.Pieces.{withLast}
 use Rattle.transport.proofs.Laws.Taking.{whole-front, head-stuffed, head-left, one-laid, left-none, left-laid}
 use borrow.Author.Needs.{needs}
 use Rattle.transport.proofs.take.begin.Statement.{statement}
 use Rattle.transport.proofs.take.begin.Tie as tie
 
-abbrev lent : tie.After-slice-known2 → tie.Start
-lent c = c .before .before .before .before
-
 abbrev found : tie.After-whole-in → tie.Start
-found c = lent (c .before)
+found c = c .before .before .before .before
 
 abbrev copied : tie.After-left → tie.After-copy-at
 copied c = c .before .before .before
@@ -41,7 +38,7 @@ laid c =
     let m = w .whole-in .ensures .1 in
     c .copy-at .ensures
     ∙ ap (laidAt (s .args .out .now) 0) front
-    ∙ one-laid (s .args .out .now) (joined (items wholeAt a)) (omega (arith, l, m, s .pre .3))
+    ∙ one-laid (s .args .out .now) (joined (items wholeAt a)) (omega (arith, l, m, s .pre .2))
 
 -- what is left of it
 rest : (c : tie.After-left) → let s = found (counted (copied c)) in let n = counted (copied c) .whole-in .result in drop n (s .args .after .now) ≡ leftOf (s .args .after .now)
@@ -68,43 +65,32 @@ part-left-end c = search needs
 byte-at-requires : tie.Need-byte-at-requires
 byte-at-requires c κs = search needs
 
-keep-requires : tie.Need-keep-requires
-keep-requires c κs = search needs
-
 same-length : tie.Need-same-length
 same-length c = search needs
 
-same-length-2 : tie.Need-same-length-2
-same-length-2 c = search needs
-
 returns : tie.Need-returns
 returns c =
-    let d = c .before .before in
-    let t = d .before .before in
-    let b = t .before in
+    let b = c .before in
     let l = b .before in
     let w = counted (copied l) in
     let s = found w in
     let a = s .args .after .now in
-    let f = sym (ap (λ (x : List ℕ). byteAt x 0) (tail a (w .whole-in .result) ∙ rest l)) ∙ sym (b .byte-at .ensures .0) ∙ t .if1 .taken in
-    (w .whole-in .ensures .0, d .keep .ensures ∙ left-none (s .args .p .now) (s .args .state .now) (s .pre .0) _ (head-stuffed a f), laid (copied l))
+    let f = sym (ap (λ (x : List ℕ). byteAt x 0) (tail a (w .whole-in .result) ∙ rest l)) ∙ sym (b .byte-at .ensures .0) ∙ c .if1 .taken in
+    let h = head-stuffed a f in
+    (w .whole-in .ensures .0, sym (ap (λ (x : List ℕ). length x) h), λ p e. left-none p (s .args .state .now) e _ h, laid (copied l))
 
 copy-at-requires-2 : tie.Need-copy-at-requires-2
 copy-at-requires-2 c κs = search needs
 
-keep-requires-2 : tie.Need-keep-requires-2
-keep-requires-2 c κs = search needs
+same-length-2 : tie.Need-same-length-2
+same-length-2 c = search needs
 
 same-length-3 : tie.Need-same-length-3
 same-length-3 c = search needs
 
-same-length-4 : tie.Need-same-length-4
-same-length-4 c = search needs
-
 returns-2 : tie.Need-returns-2
 returns-2 c =
-    let d = c .before .before in
-    let k = d .before .before .before .before in
+    let k = c .before .before in
     let t = k .before .before in
     let b = t .before in
     let l = b .before in
@@ -115,11 +101,11 @@ returns-2 c =
     let r : g ≡ leftOf a = tail a (w .whole-in .result) ∙ rest l in
     let n : byteAt (leftOf a) 0 ≡ 0xFF → ⊥ = λ f. t .if1 .left (b .byte-at .ensures .0 ∙ ap (λ (x : List ℕ). byteAt x 0) r ∙ f) in
     let e = ap (λ (x : List ℕ). length x) (tail a (w .whole-in .result)) in
-    let q = length-drop (w .whole-in .result) a in (
+    let q = length-drop (w .whole-in .result) a in
+    let h : headIn a ≡ g = head-left a n ∙ sym r in (
       w .whole-in .ensures .0,
-      d .keep2 .ensures
-          ∙ ap (λ (x : List ℕ). s .args .p .now ++ spelled 2 (length g) ++ drop handAt x) (k .copy-at2 .ensures)
-          ∙ left-laid (s .args .p .now) (s .args .state .now) (s .pre .0) g _ (omega (arith, e, q, s .pre .1, s .pre .2)) (head-left a n ∙ sym r),
+      sym (ap (λ (x : List ℕ). length x) h),
+      λ p z. ap (λ (x : List ℕ). withLast p (length g) x) (k .copy-at2 .ensures) ∙ left-laid p (s .args .state .now) z g _ (omega (arith, e, q, s .pre .0, s .pre .1)) h,
       laid (copied l),
     )
 
@@ -134,12 +120,9 @@ begin-spec =
     part-left-start
     part-left-end
     byte-at-requires
-    keep-requires
     same-length
-    same-length-2
     returns
     copy-at-requires-2
-    keep-requires-2
+    same-length-2
     same-length-3
-    same-length-4
     returns-2)

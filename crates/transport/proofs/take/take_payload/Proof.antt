@@ -50,11 +50,13 @@ abbrev view : tie.Start → View
 view s = viewOf (s .args .p .now)
 
 -- all that is said to be in hand is there, and no more
-held : (s : tie.Start) → length (hand s) ≤ 4097
-held s =
+held-there : (s : tie.Start) → length (hand s) ≡ s .args .held
+held-there s =
     let d = length-drop handAt (s .args .state .now) in
-    let e = length-take-le (s .args .held) (drop handAt (s .args .state .now)) (omega (arith, d, s .pre .2, s .pre .3)) in
-    omega (arith, e, s .pre .2)
+    length-take-le (s .args .held) (drop handAt (s .args .state .now)) (omega (arith, d, s .pre .2, s .pre .3))
+
+held : (s : tie.Start) → length (hand s) ≤ 4097
+held s = let e = held-there s in omega (arith, e, s .pre .2)
 
 in-place : (s : List ℕ) (n : ℕ) → take (190 + n - 190) (drop handAt s) ≡ take n (drop handAt s)
 in-place s n = let e : 190 + n - 190 ≡ n = omega arith in ap (λ (k : ℕ). take k (drop handAt s)) e
@@ -86,6 +88,9 @@ as-long c =
 abbrev before2 : tie.Then2 → tie.After-hand-on
 before2 c = c .before .before .before
 
+abbrev after-begin-of : tie.After-struct-known2 → tie.After-begin
+after-begin-of c = c .before .before .before .before .before
+
 abbrev begun : tie.After-begin → tie.After-hand-on
 begun c = before2 (c .before .before .before .before)
 
@@ -96,21 +101,14 @@ after c = let w = begun c in tail (from w .args .p .now) _ ∙ parts w .parts-of
 parts-of-requires : tie.Need-parts-of-requires
 parts-of-requires c κs = search needs
 
-keep-requires : tie.Need-keep-requires
-keep-requires c κs = search needs
-
-same-length : tie.Need-same-length
-same-length c = search needs
-
 returns : tie.Need-returns
 returns c =
-    let d = c .before .before in
-    let t = d .before .before in
-    let q = t .before .before in
+    let q = c .before .before in
     let s = told q in
-    let i = idle-hands (hand s) (view s) (sym (q .parts-of .ensures .0) ∙ not-true _ (t .if1 .taken)) in (
+    let i = idle-hands (hand s) (view s) (sym (q .parts-of .ensures .0) ∙ not-true _ (c .if1 .taken)) in (
       sym none-long ∙ ap (λ (ss : List (List ℕ)). length (joined ss)) (sym (i .0)),
-      d .keep .ensures ∙ left-same (s .args .p .now) (s .args .state .now) (s .pre .0) (s .args .held) _ (s .pre .2) (s .pre .3) (i .1),
+      sym (held-there s) ∙ ap (λ (h : List ℕ). length h) (sym (i .1)),
+      left-same (s .args .p .now) (s .args .state .now) (s .pre .0) (s .args .held) _ (s .pre .2) (s .pre .3) (i .1),
       sym (none-laid (s .args .out .now)) ∙ ap (λ (ss : List (List ℕ)). laidFirst (joined ss) (s .args .out .now)) (sym (i .0)),
     )
 
@@ -169,26 +167,26 @@ begin-requires c κs =
     let a = ap (λ (x : List ℕ). length x) (tail (s .args .p .now) (parts w .parts-of .result .mid) ∙ parts w .parts-of .ensures .5) in
     let r = ap (λ (x : List ℕ). length x) (tail o (w .hand-on .result)) in
     let d = length-drop (w .hand-on .result) o in
-    (s .pre .0, omega (arith, a, brings s), s .pre .3, omega (arith, a, r, d, few w, as-long w))
+    (omega (arith, a, brings s), s .pre .3, omega (arith, a, r, d, few w, as-long w))
 
-add-result : tie.Need-add-result
-add-result c =
-    let b = c .before .before .before .before in
+add-t23 : tie.Need-add-t23
+add-t23 c =
+    let b = after-begin-of c in
     let w = begun b in
     let s = from w in
     let m = b .begin .ensures .0 ∙ ap (λ (x : List ℕ). length (joined (items wholeAt x))) (after b) in
-    let l : w .hand-on .result + b .begin .result ≤ 4465 = omega (arith, given w .0, ended-most (hand s) (view s .before), held s, brings s, m, items-most (view s .after)) in
+    let l : w .hand-on .result + b .begin .result .size ≤ 4465 = omega (arith, given w .0, ended-most (hand s) (view s .before), held s, brings s, m, items-most (view s .after)) in
     omega (arith, l)
+
+same-length : tie.Need-same-length
+same-length c = search needs
 
 same-length-2 : tie.Need-same-length-2
 same-length-2 c = search needs
 
-same-length-3 : tie.Need-same-length-3
-same-length-3 c = search needs
-
 returns-2 : tie.Need-returns-2
 returns-2 c =
-    let b = c .before .before .before .before in
+    let b = after-begin-of c in
     let w = begun b in
     let s = from w in
     let q = parts w in
@@ -198,10 +196,12 @@ returns-2 c =
     let o = w .hand-on .last .1 .1 .0 in
     let n = w .hand-on .result in
     let l : n ≤ length (s .args .out .now) = omega (arith, few w) in
-    let r = b .begin .ensures .2 ∙ ap₂ (λ (x y : List ℕ). laidFirst (joined (items wholeAt x)) y) (after b) (tail o n) in (
-      started-size (hand s) (s .args .out .now) (view s) p t n (b .begin .result) (given w .0) m,
-      b .begin .ensures .1
-          ∙ ap (λ (h : List ℕ). laidFirst (stateBytes (record { last = s .args .p .now; hand = h })) (s .args .state .now)) (ap headIn (after b) ∙ sym (start-hands (hand s) (view s) p t .1)),
+    let h : headIn _ ≡ leaves (hand s) (view s) = ap headIn (after b) ∙ sym (start-hands (hand s) (view s) p t .1) in
+    let r = b .begin .ensures .3 ∙ ap₂ (λ (x y : List ℕ). laidFirst (joined (items wholeAt x)) y) (after b) (tail o n) in (
+      started-size (hand s) (s .args .out .now) (view s) p t n (b .begin .result .size) (given w .0) m,
+      b .begin .ensures .1 ∙ ap (λ (x : List ℕ). length x) h,
+      b .begin .ensures .2 (s .args .p .now) (s .pre .0)
+          ∙ ap (λ (x : List ℕ). laidFirst (stateBytes (record { last = s .args .p .now; hand = x })) (s .args .state .now)) h,
       put-behind n o _ (omega (arith, l, as-long w)) ∙ started-out (hand s) (s .args .out .now) (view s) p t o _ n (given w .0) (given w .1) r l,
     )
 
@@ -222,13 +222,13 @@ go-on-requires c κs =
     let q = parts w .parts-of .result in
     let m = take (q .mid - q .from) (drop (q .from) (s .args .p .now)) in
     let n = w .hand-on .ensures .0 ∙ ap (λ (x : List ℕ). length (joined (ended x m))) (in-place (s .args .state .now) (s .args .held)) in
-    (s .pre .0, s .pre .3, s .pre .2, s .pre .4, omega (arith, b, brings s), n)
+    (s .pre .3, s .pre .2, s .pre .4, omega (arith, b, brings s), n)
+
+same-length-3 : tie.Need-same-length-3
+same-length-3 c = search needs
 
 same-length-4 : tie.Need-same-length-4
 same-length-4 c = search needs
-
-same-length-5 : tie.Need-same-length-5
-same-length-5 c = search needs
 
 returns-3 : tie.Need-returns-3
 returns-3 c =
@@ -239,9 +239,12 @@ returns-3 c =
     let p = sym (q .parts-of .ensures .0) ∙ not-false _ (else1 w .if1 .left) in
     let t = sym (q .parts-of .ensures .1) ∙ d .before .before .before .if2 .left in
     let o = on-hands (hand s) (view s) p t in
+    let h = ap (grown (hand s)) (q .parts-of .ensures .4) ∙ sym (o .1) in
     let g = given w in (
       g .0 ∙ ap (λ (ss : List (List ℕ)). length (joined ss)) (sym (o .0)),
-      d .go-on .ensures ∙ ap (λ (h : List ℕ). laidFirst (stateBytes (record { last = s .args .p .now; hand = h })) (s .args .state .now)) (ap (grown (hand s)) (q .parts-of .ensures .4) ∙ sym (o .1)),
+      d .go-on .ensures .0 ∙ ap (λ (x : List ℕ). length x) h,
+      d .go-on .ensures .1 (s .args .p .now) (s .pre .0)
+          ∙ ap (λ (x : List ℕ). laidFirst (stateBytes (record { last = s .args .p .now; hand = x })) (s .args .state .now)) h,
       g .1 ∙ ap (λ (ss : List (List ℕ)). laidFirst (joined ss) (s .args .out .now)) (sym (o .0)),
     )
 
@@ -250,8 +253,6 @@ take-payload-spec =
     tie.close
     (tie.spec
     parts-of-requires
-    keep-requires
-    same-length
     returns
     add-end
     sub-hand-on
@@ -268,14 +269,14 @@ take-payload-spec =
     part-begin-start-2
     part-begin-end-2
     begin-requires
-    add-result
+    add-t23
+    same-length
     same-length-2
-    same-length-3
     returns-2
     sub-go-on
     part-go-on-start
     part-go-on-end
     go-on-requires
+    same-length-3
     same-length-4
-    same-length-5
     returns-3)

@@ -1,101 +1,65 @@
 -- `transport::tally::counted` meets its contract.
-use Prim.Native.Nat.{ℕ, _+_}
-use Rattle.transport.specs.Pieces.{countedWith}
+use mathlib.Core.Path.{sym, ap, _∙_}
 use borrow.Author.Needs.{needs}
+use Rattle.transport.specs.declared.Answer.the-variants as answer
+use Rattle.transport.specs.Pieces.{countedWith}
+use Rattle.transport.proofs.Laws.Calls.{counters}
 use Rattle.transport.proofs.tally.counted.Statement.{statement}
 use Rattle.transport.proofs.tally.counted.Tie as tie
 
-taken-by-requires : tie.Need-taken-by-requires
-taken-by-requires c κs = search needs
+enum-told : tie.Need-enum-told
+enum-told c = search needs
 
-add-t4 : tie.Need-add-t4
-add-t4 c = search needs
+add-t5 : tie.Need-add-t5
+add-t5 c = search needs
 
-repeated-by-requires : tie.Need-repeated-by-requires
-repeated-by-requires c κs = search needs
-
-add-t6 : tie.Need-add-t6
-add-t6 c = search needs
-
-broken-by-requires : tie.Need-broken-by-requires
-broken-by-requires c κs = search needs
-
-add-t8 : tie.Need-add-t8
-add-t8 c = search needs
-
-refused-by-requires : tie.Need-refused-by-requires
-refused-by-requires c κs = search needs
-
-add-t10 : tie.Need-add-t10
-add-t10 c = search needs
-
-refused-by-requires-2 : tie.Need-refused-by-requires-2
-refused-by-requires-2 c κs = search needs
+enum-told-2 : tie.Need-enum-told-2
+enum-told-2 c = search needs
 
 add-t12 : tie.Need-add-t12
 add-t12 c = search needs
 
-refused-by-requires-3 : tie.Need-refused-by-requires-3
-refused-by-requires-3 c κs = search needs
+add-t13 : tie.Need-add-t13
+add-t13 c = search needs
 
-add-t14 : tie.Need-add-t14
-add-t14 c = search needs
+enum-told-3 : tie.Need-enum-told-3
+enum-told-3 c = search needs
 
-refused-by-requires-4 : tie.Need-refused-by-requires-4
-refused-by-requires-4 c κs = search needs
+add-t19 : tie.Need-add-t19
+add-t19 c = search needs
 
-add-t16 : tie.Need-add-t16
-add-t16 c = search needs
+enum-known-a : tie.Need-enum-known-a
+enum-known-a c = search needs
 
--- the places at which each was counted
-abbrev then42 : tie.After-struct-known7 → tie.After-refused-by3
-then42 c = c .before .before .before
-
-abbrev then41 : tie.After-struct-known7 → tie.After-refused-by2
-then41 c = then42 c .before .before
-
-abbrev first40 : tie.After-struct-known7 → tie.After-refused-by
-first40 c = then41 c .before .before
-
-abbrev broken : tie.After-struct-known7 → tie.After-broken-by
-broken c = first40 c .before .before
+refused-requires : tie.Need-refused-requires
+refused-requires c κs = search needs
 
 returns : tie.Need-returns
-unfolding countedWith
-returns c =
-    let f = c .before in
-    let e = f .before .before in
-    let d = e .before .before in
-    let b = broken c in
-    let r = b .before .before in
-    let t = r .before .before in
-    let k = t .before .args .c in
-    λ i. record {
-      taken = k .taken + t .taken-by .ensures .0 i;
-      repeated = k .repeated + r .repeated-by .ensures .0 i;
-      broken = k .broken + b .broken-by .ensures .0 i;
-      refused40 = k .refused40 + first40 c .refused-by .ensures .0 i;
-      refused41 = k .refused41 + d .refused-by2 .ensures .0 i;
-      refused42 = k .refused42 + e .refused-by3 .ensures .0 i;
-      refused43 = k .refused43 + f .refused-by4 .ensures .0 i;
-    }
+returns c = counters _ answer.Taken _ (c .before .enum-told .given .1)
+
+returns-2 : tie.Need-returns-2
+returns-2 c = let k = c .before .before in counters (k .before .before .args .c) answer.Broken _ (k .enum-told2 .given .1)
+
+returns-3 : tie.Need-returns-3
+returns-3 c = counters _ answer.Repeated _ (c .before .enum-told3 .given .1)
+
+returns-4 : tie.Need-returns-4
+returns-4 c = c .refused .ensures ∙ ap (countedWith _) (sym (c .before .before .a .given .1))
 
 pub counted-spec : {M : Type 1} → statement M
 counted-spec =
     tie.close
     (tie.spec
-    taken-by-requires
-    add-t4
-    repeated-by-requires
-    add-t6
-    broken-by-requires
-    add-t8
-    refused-by-requires
-    add-t10
-    refused-by-requires-2
+    enum-told
+    add-t5
+    enum-told-2
     add-t12
-    refused-by-requires-3
-    add-t14
-    refused-by-requires-4
-    add-t16
-    returns)
+    add-t13
+    enum-told-3
+    add-t19
+    enum-known-a
+    refused-requires
+    returns
+    returns-2
+    returns-3
+    returns-4)

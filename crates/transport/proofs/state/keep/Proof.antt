@@ -1,4 +1,4 @@
--- `transport::take::keep` meets its contract.
+-- `transport::state::keep` meets its contract.
 use Prim.Native.Nat.{ℕ, _/_, _%_}
 use mathlib.Core.Path.{ap, _∙_}
 use mathlib.Core.List.{List}
@@ -6,8 +6,8 @@ use native.Mathlib.Omega.{arith}
 use lib.ListN.{set}
 use Rattle.transport.proofs.Laws.Taking.{kept-bytes}
 use borrow.Author.Needs.{needs}
-use Rattle.transport.proofs.take.keep.Statement.{statement}
-use Rattle.transport.proofs.take.keep.Tie as tie
+use Rattle.transport.proofs.state.keep.Statement.{statement}
+use Rattle.transport.proofs.state.keep.Tie as tie
 
 copy-at-requires : tie.Need-copy-at-requires
 copy-at-requires c κs = search needs

@@ -1,11 +1,11 @@
--- `transport::take::turn` meets its contract.
+-- `transport::judge::turn` meets its contract.
 use mathlib.Core.Path.{sym, _∙_}
 use mathlib.Core.Bool.{true, false}
 use native.Mathlib.Omega.{arith}
 use Rattle.transport.proofs.Laws.Taking.{weight-by}
 use borrow.Author.Needs.{needs}
-use Rattle.transport.proofs.take.turn.Statement.{statement}
-use Rattle.transport.proofs.take.turn.Tie as tie
+use Rattle.transport.proofs.judge.turn.Statement.{statement}
+use Rattle.transport.proofs.judge.turn.Tie as tie
 
 has-payload-requires : tie.Need-has-payload-requires
 has-payload-requires c κs = search needs
