@@ -9,3 +9,4 @@ pub mod Answers
 pub mod Calls
 pub mod Judged
 pub mod Midway
+pub mod Plain

@@ -1,18 +1,19 @@
 -- WHAT THE CODE'S OWN FUNCTIONS SAY between the calls. No call's meaning rests on it.
-use Prim.Native.Nat.{ℕ, _+_, _<_}
+use Prim.Native.Nat.{ℕ, _+_, _%_, _≤_, _<_}
 use mathlib.Core.Path.{_≡_}
 use mathlib.Core.Bool.{true, false, not, cond, _&&_}
 use mathlib.Core.List.{List, _++_}
 use lib.Dec.{eqb, ltb}
 use lib.ListN.{length, take, drop}
 use Rattle.wire.specs.Copies.{sameNumbers}
-use Rattle.wire.specs.Fields.{spelled}
+use Rattle.wire.specs.Fields.{byteAt, sixteenAt, spelled}
 use Rattle.wire.specs.Items.{joined}
 use Rattle.wire.specs.Pieces.{isNone, laidFirst}
+use Rattle.section.specs.Whole.{saidLength}
 use Rattle.transport.specs.declared.Answer.{Answer}
 use Rattle.transport.specs.declared.Answer.the-variants as answer
 use Rattle.transport.specs.declared.Counts.{Counts}
-use Rattle.transport.specs.Packet.{packetLength, packetRefusal}
+use Rattle.transport.specs.Packet.{packetLength, packetRefusal, counterOf}
 use Rattle.transport.specs.Feed.{inStep, fed}
 use Rattle.transport.specs.State.{handAt, lastIn, heldIn, stateIn, stateGood}
 use Rattle.transport.specs.Calls.{isTaken, isRepeated, isBroken, isRefusedWith, nextState}
@@ -51,6 +52,17 @@ Stepped pid v s held p out a n m s′ out′ =
     × (isTaken a ≡ true → withLast p m s′ ≡ nextState pid v p)
     × (isTaken a ≡ false → (s′ ≡ s) × (m ≡ held))
     × (out′ ≡ laidFirst (joined (fed pid (stateIn v) p .sections)) out)
+
+-- A PLAIN PACKET does nothing but go on with the section in hand, which is not whole with it: 184 bytes, no adaptation field, no unit start, in step.
+-- Long sections are made of these.
+pub record Plain (pid : ℕ) (last hand p : List ℕ) : Type 0 where
+  pub long : length p ≡ packetLength
+  pub sync : byteAt p 0 ≡ 0x47
+  pub small : pid < 8192
+  pub asked : sixteenAt p 1 ≡ pid
+  pub next : byteAt p 3 ≡ 16 + (counterOf last + 1) % 16
+  pub begun : 3 ≤ length hand
+  pub lacking : length hand + 184 < saidLength hand
 
 -- counts with one more answer
 unfoldable pub countedWith : Counts → Answer → Counts

@@ -10,6 +10,7 @@
 mod hand;
 mod judge;
 mod packet;
+mod plain;
 mod state;
 mod stretch;
 mod take;

@@ -6,6 +6,7 @@ use crate::judge::is_taken;
 use crate::judge::judge;
 use crate::judge::kept;
 use crate::packet::parts_of;
+use crate::plain::goes_on;
 use crate::state::HAND_AT;
 ghost use mathlib.Core.Path.{_≡_};
 ghost use mathlib.Core.Bool.{true, false};
@@ -37,6 +38,31 @@ pub struct Brought {
 // One packet of many. That it is now the last, and how much is in hand, is not written to the state: whoever goes through them does so
 // after the last of them.
 pub fn take_packet(
+    pid: u16,
+    packets: &[u8],
+    last: usize,
+    held: usize,
+    p: &[u8],
+    state: &mut [u8],
+    out: &mut [u8],
+) -> Step
+    requires { ⌜ Midway pid (now packets) last held (now state) × (mostHanded ≤ length (now out)) ⌝ }
+    ensures { λ r. ⌜ Stepped pid (midway (now (packets .entry)) last held (now (state .entry))) (now (state .entry)) held (now (p .entry)) (now (out .entry))
+        (r .answer) (r .size) (r .held) (now (state .exit)) (now (out .exit)) ⌝ }
+{
+    if !goes_on(pid, packets, last, held, p, state) {
+        return take_any(pid, packets, last, held, p, state, out);
+    }
+    wire::copy_at(state, HAND_AT + held, &p[4..]);
+    Step {
+        answer: Answer::Taken,
+        size: 0,
+        held: held + 184,
+    }
+}
+
+// The same, whatever packet it is.
+fn take_any(
     pid: u16,
     packets: &[u8],
     last: usize,

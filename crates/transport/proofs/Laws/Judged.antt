@@ -54,9 +54,9 @@ module _ (pid : ℕ) (last p : List ℕ) where
 pub inside : (xs : List ℕ) (at : ℕ) → at < length xs → length (take packetLength (drop at xs)) ≡ packetLength → at + packetLength ≤ length xs
 inside xs at l e = let t = length-take packetLength (drop at xs) in let d = length-drop at xs in omega (arith, e, t, d, l)
 
--- as it is cut out
-pub same-part : (xs : List ℕ) (at : ℕ) → take (at + 188 - at) (drop at xs) ≡ take packetLength (drop at xs)
-same-part xs at = let e : at + 188 - at ≡ 188 = omega arith in ap (λ (n : ℕ). take n (drop at xs)) e
+-- a part, as it is cut out
+pub same-part : (xs : List ℕ) (at n : ℕ) → take (at + n - at) (drop at xs) ≡ take n (drop at xs)
+same-part xs at n = let e : at + n - at ≡ n = omega arith in ap (λ (k : ℕ). take k (drop at xs)) e
 
 pub last-in : (xs : List ℕ) (at : ℕ) (s : List ℕ) → at < length xs → lastOf xs at s ≡ take packetLength (drop at xs)
 last-in xs at s l = ap (λ (t : Bool). cond t (take packetLength (drop at xs)) (lastIn s)) (lt-ltb at (length xs) l)

@@ -6,8 +6,9 @@ use mathlib.Core.List.{List, [], _∷_, _++_, append-assoc}
 use native.Mathlib.Omega.{arith}
 use lib.Dec.{eqb, ltb}
 use lib.ListN.{length, take, drop, length-drop}
-use lib.Seq.{take-at, drop-at, drop-drop}
+use lib.Seq.{length-take-le, take-at, drop-at, drop-drop}
 use borrow.Author.Tests.{eqb-true, eqb-false, lt-ltb, le-ltb, ltb-true, ltb-false}
+use Rattle.wire.specs.Copies.{laidAt}
 use Rattle.wire.specs.Fields.{byteAt, spelled}
 use Rattle.wire.specs.Items.{joined}
 use Rattle.wire.specs.Pieces.{laidFirst}
@@ -19,12 +20,14 @@ use Rattle.transport.specs.Packet.{packetLength, packetRefusal, viewOf}
 use Rattle.transport.specs.Feed.{State, Fed, isHead, isRepeat, inStep, keptHand, handsOn, leaves, takenBy, passedOver, fed}
 use Rattle.transport.specs.State.{handAt, stateLength, lastIn, heldIn, handIn, stateIn, stateBytes, stateGood}
 use Rattle.transport.specs.Calls.{isTaken, isBroken, nextState}
-use Rattle.transport.specs.Pieces.{judged, lastOf, withLast, midway, Midway, Stepped}
+use Rattle.transport.specs.Pieces.{judged, lastOf, withLast, midway, Midway, Stepped, Plain}
 use Rattle.transport.proofs.Laws.Feeding.{fed-taken}
 use Rattle.transport.proofs.Laws.Hands.{none-long, none-laid}
-use Rattle.transport.proofs.Laws.Rule.{full, ruled-head, kept-head}
+use Rattle.transport.proofs.Laws.Rule.{full, hand-most, ruled-head, kept-head, leaves-head}
 use Rattle.transport.proofs.Laws.States.{Good, good-says, hand-said, laid-parts, synced, taken-left, next-good, next-says, refused-stays, repeat-stays}
 use Rattle.transport.proofs.Laws.Answers.{last-said}
+use Rattle.transport.proofs.Laws.Taking.{left-grown}
+use Rattle.transport.proofs.Laws.Plain.{plain-judged, plain-hands, plain-leaves, plain-long}
 use Rattle.transport.proofs.Laws.Judged.{inside, last-in, last-past, last-some, judged-answer, Taken, NotTaken, is-taken, not-taken}
 
 -- a packet before the rest, in its parts
@@ -90,6 +93,10 @@ module _ (xs : List ℕ) (at held : ℕ) (s : List ℕ) where
 
     pub midway-few : held ≤ 4097
     midway-few = let e = m .1 in let g = midway-good .few in omega (arith, e, g)
+
+    -- all that is in hand is there
+    pub midway-there : length (take held (drop handAt s)) ≡ held
+    midway-there = let d = length-drop handAt s in length-take-le held (drop handAt s) (omega (arith, d, midway-long, midway-few))
 
     -- what it says
     pub midway-hand : handIn v ≡ take held (drop handAt s)
@@ -225,3 +232,26 @@ pub midway-first : (pid : ℕ) (xs s : List ℕ) (n : ℕ) → n ≡ heldIn s �
 midway-first pid xs s n e g =
     let q = midway-past xs (length xs) n s (omega arith) in
     (q, (ap (stateGood pid) q ∙ g, e ∙ ap heldIn (sym q), λ l. absurd (omega (arith, l))))
+
+-- A PLAIN ONE goes behind what is in hand, and nothing is handed on
+pub stepped-plain : (pid : ℕ) (xs : List ℕ) (at held : ℕ) (s : List ℕ) → Midway pid xs at held s → (p out : List ℕ) → at < length xs
+    → Plain pid (take packetLength (drop at xs)) (take held (drop handAt s)) p
+    → Stepped pid (midway xs at held s) s held p out answer.Taken 0 (held + 184) (laidAt s (handAt + held) (drop 4 p)) out
+stepped-plain pid xs at held s m p out l f =
+    let i = midway-there xs at held s pid m in
+    let q = take packetLength (drop at xs) in
+    let h = take held (drop handAt s) in
+    let j = plain-judged pid q h p f (midway-full xs at held s pid m l) ∙ ap (λ (y : List ℕ). judged pid y p) (sym (last-in xs at s l)) in
+    let n = plain-hands pid q h p f in
+    let k = plain-long pid q h p f in
+    let b = length-drop 4 p in
+    let g = hand-most (leaves h (viewOf p)) (leaves-head h (viewOf p) (kept-good pid xs at held s m p out answer.Taken j refl)) in
+    stepped-on pid xs at held s m p out answer.Taken j refl h (hand-kept pid xs at held s m p out answer.Taken j refl) 0 (held + 184) _ out
+    (sym none-long ∙ ap (λ (ss : List (List ℕ)). length (joined ss)) (sym n))
+    (omega (arith, k, i))
+    (ap (λ (c : ℕ). withLast p c (laidAt s (handAt + held) (drop 4 p))) (omega-of held (length (drop 4 p)) b (f .long))
+    ∙ left-grown p s (f .long) held (drop 4 p) _ (omega (arith, midway-long xs at held s pid m, g, k, i, b, f .long)) (plain-leaves pid q h p f))
+    (sym (none-laid out) ∙ ap (λ (ss : List (List ℕ)). laidFirst (joined ss) out) (sym n))
+  where
+    omega-of : (a d : ℕ) → d ≡ length p - 4 → length p ≡ packetLength → a + 184 ≡ a + d
+    omega-of a d e g = omega (arith, e, g)

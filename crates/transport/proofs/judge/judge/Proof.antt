@@ -53,7 +53,7 @@ returns-2 c =
     let t = c .before .before in
     let s = from1 (t .before) in
     c .judge-after .ensures
-    ∙ ap (λ (l : List ℕ). judgedAfter l (s .args .p .now)) (same-part (s .args .packets .now) (s .args .last))
+    ∙ ap (λ (l : List ℕ). judgedAfter l (s .args .p .now)) (same-part (s .args .packets .now) (s .args .last) 188)
     ∙ judged-in (s .args .pid) (s .args .packets .now) (s .args .last) (s .args .state .now) (s .args .p .now) (not-refused (t .before)) (t .if2 .taken)
 
 shared-slice-read-if3 : tie.Need-shared-slice-read-if3

@@ -44,7 +44,7 @@ returns-2 c =
     let e = k .before .before .before in
     let s = start e in
     k .keep .ensures
-    ∙ ap (λ (p : List ℕ). withLast p (s .args .held) (s .args .state .now)) (same-part (s .args .packets .now) (s .args .last))
+    ∙ ap (λ (p : List ℕ). withLast p (s .args .held) (s .args .state .now)) (same-part (s .args .packets .now) (s .args .last) 188)
     ∙ sym (midway-in (s .args .packets .now) (s .args .last) (s .args .held) (s .args .state .now) (omega (arith, e .if1 .left)))
 
 pub keep-last-spec : {M : Type 1} → statement M

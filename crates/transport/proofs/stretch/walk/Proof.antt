@@ -20,6 +20,7 @@ use Rattle.transport.proofs.Laws.Rule.{room}
 use Rattle.transport.proofs.Laws.States.{good-says}
 use Rattle.transport.proofs.Laws.Taking.{put-behind}
 use Rattle.transport.proofs.Laws.Calls.{lent-back, Going, going-first, going-next, stops-full, stops-end, gather-done, countable-so-far}
+use Rattle.transport.proofs.Laws.Judged.{same-part}
 use Rattle.transport.proofs.Laws.Midway.{midway-first, midway-next}
 use borrow.Author.Needs.{needs}
 use Rattle.transport.proofs.stretch.walk.Statement.{statement}
@@ -71,7 +72,7 @@ fit c = let g = going (c .before .before) in omega (arith, c .if1 .left, g .as-l
 
 -- the packet, as the loop cuts it
 same-piece : (xs : List ℕ) (at n : ℕ) → at < length xs → n ≡ min packetLength (length xs - at) → take (at + n - at) (drop at xs) ≡ take packetLength (drop at xs)
-same-piece xs at n l e = let k : at + n - at ≡ n = omega arith in ap (λ (m : ℕ). take m (drop at xs)) (k ∙ e) ∙ next-piece packetLength xs at l
+same-piece xs at n l e = same-part xs at n ∙ ap (λ (m : ℕ). take m (drop at xs)) e ∙ next-piece packetLength xs at l
 
 long : (s : tie.Start Inv-loop μ-loop) → length (s .args .out .now) < 18446744073709551616
 long s = search needs

@@ -1,101 +1,96 @@
--- `transport::take::take_packet` meets its contract: not taken, or what its payload came to.
-use mathlib.Core.Path.{_≡_, sym, ap, _∙_}
-use mathlib.Core.Bool.{Bool, true, false}
-use Prim.Native.Nat.{ℕ}
+-- `transport::take::take_packet` meets its contract: the quick way for a plain packet, and the one for all others.
+use Prim.Native.Nat.{ℕ, _+_, _≤_, _<_}
+use mathlib.Core.Path.{sym, ap, subst, _∙_}
+use mathlib.Core.List.{List}
 use native.Mathlib.Omega.{arith}
-use lib.ListN.{take, drop}
-use borrow.Author.Tests.{not-true, not-false}
-use Rattle.transport.specs.Feed.{isHead}
-use Rattle.transport.specs.State.{handAt}
-use Rattle.transport.specs.Calls.{isTaken}
-use Rattle.transport.proofs.Laws.Packets.{sound}
-use Rattle.transport.proofs.Laws.Rule.{full}
-use Rattle.transport.proofs.Laws.Midway.{midway-long, stepped-over, hand-kept, kept-good, kept-few, clear-of, stepped-on}
+use lib.ListN.{length, take, drop}
 use borrow.Author.Needs.{needs}
+use borrow.Author.Tests.{not-true, not-false}
+use Rattle.wire.specs.Copies.{laidAt}
+use Rattle.wire.proofs.Laws.Loops.{tail}
+use Rattle.transport.specs.declared.Answer.the-variants as answer
+use Rattle.transport.specs.Packet.{packetLength}
+use Rattle.transport.specs.State.{handAt}
+use Rattle.transport.specs.Pieces.{midway, Stepped, Plain}
+use Rattle.transport.proofs.Laws.Midway.{midway-full, midway-few, midway-long, stepped-plain}
 use Rattle.transport.proofs.take.take_packet.Statement.{statement}
 use Rattle.transport.proofs.take.take_packet.Tie as tie
 
-abbrev start : tie.After-judge → tie.Start
+abbrev start : tie.After-goes-on → tie.Start
 start c = c .before .before .before .before .before .before
 
-abbrev judged : tie.Else1 → tie.After-judge
-judged c = c .before .before
+abbrev from1 : tie.Else1 → tie.Start
+from1 c = start (c .before)
 
-abbrev else1 : tie.After-kept → tie.Else1
-else1 c = c .before
+few : (s : tie.Start) → s .args .held + 4287 ≤ 4097 + length (s .args .state .now)
+few s = let h = midway-few _ _ _ _ _ (s .pre .0) in let l = midway-long _ _ _ _ _ (s .pre .0) in omega (arith, h, l)
 
--- whether it is taken
-told : (c : tie.After-is-taken) → (t : Bool) → c .is-taken .result ≡ t → isTaken (c .before .judge .result) ≡ t
-told c t e = sym (c .is-taken .ensures) ∙ e
+plain : (c : tie.Else1) → let s = from1 c in (s .args .last < length (s .args .packets .now))
+    × Plain (s .args .pid) (take packetLength (drop (s .args .last) (s .args .packets .now))) (take (s .args .held) (drop handAt (s .args .state .now))) (s .args .p .now)
+plain c = c .before .goes-on .ensures (not-false _ (c .if1 .left))
 
-taken : (c : tie.Else1) → isTaken (judged c .judge .result) ≡ true
-taken c = told (c .before) true (not-false _ (c .if1 .left))
+goes-on-requires : tie.Need-goes-on-requires
+goes-on-requires c κs = let s = c .before .before .before .before .before in let f = few s in (midway-full _ _ _ _ _ (s .pre .0), omega (arith, f))
 
-judge-requires : tie.Need-judge-requires
-judge-requires c κs = let s = c .before .before .before .before .before in (midway-long _ _ _ _ _ (s .pre .0), s .pre .0 .2)
-
-is-taken-requires : tie.Need-is-taken-requires
-is-taken-requires c κs = search needs
+take-any-requires : tie.Need-take-any-requires
+take-any-requires c κs = search needs
 
 same-length : tie.Need-same-length
 same-length c = search needs
 
-returns : tie.Need-returns
-returns c =
-    let j = c .before .before in
-    let s = start j in
-    stepped-over (s .args .pid) (s .args .packets .now) (s .args .last) (s .args .held) (s .args .state .now) (s .pre .0) (s .args .p .now) (s .args .out .now) _ (j .judge .ensures)
-    (told (c .before) false (not-true _ (c .if1 .taken)))
-
-kept-requires : tie.Need-kept-requires
-kept-requires c κs = search needs
-
-take-payload-requires : tie.Need-take-payload-requires
-take-payload-requires c κs =
-    let k = c .before .before in
-    let j = judged (else1 k) in
-    let s = start j in
-    let t = taken (else1 k) in
-    let z = clear-of (s .args .pid) (s .args .packets .now) (s .args .last) (s .args .held) (s .args .state .now) (s .pre .0) (s .args .p .now) (s .args .out .now) _ (j .judge .ensures) t in
-    let f = kept-few (s .args .pid) (s .args .packets .now) (s .args .last) (s .args .held) (s .args .state .now) (s .pre .0) (s .args .p .now) (s .args .out .now) _ (j .judge .ensures) in
-    let n = k .kept .ensures in (
-      full (s .args .pid) (s .args .p .now) z,
-      sound (s .args .pid) (s .args .p .now) z,
-      omega (arith, n, f),
-      midway-long _ _ _ _ _ (s .pre .0),
-      ap (λ (i : ℕ). isHead (take i (drop handAt (s .args .state .now)))) n
-          ∙ kept-good (s .args .pid) (s .args .packets .now) (s .args .last) (s .args .held) (s .args .state .now) (s .pre .0) (s .args .p .now) (s .args .out .now) _ (j .judge .ensures) t,
-      s .pre .1,
-    )
-
 same-length-2 : tie.Need-same-length-2
 same-length-2 c = search needs
+
+returns : tie.Need-returns
+returns c = search needs
+
+add-copy-at : tie.Need-add-copy-at
+add-copy-at c = let s = from1 (c .before) in let h = midway-few _ _ _ _ _ (s .pre .0) in omega (arith, h)
+
+sub-copy-at : tie.Need-sub-copy-at
+sub-copy-at c = let l = plain (c .before) .1 .long in omega (arith, l)
+
+part-copy-at-start : tie.Need-part-copy-at-start
+part-copy-at-start c = let l = plain (c .before) .1 .long in omega (arith, l)
+
+part-copy-at-end : tie.Need-part-copy-at-end
+part-copy-at-end c = search needs
+
+copy-at-requires : tie.Need-copy-at-requires
+copy-at-requires c κs = search needs
+
+add-t19 : tie.Need-add-t19
+add-t19 c = let s = from1 (c .before .before .before .before .before) in let h = midway-few _ _ _ _ _ (s .pre .0) in omega (arith, h)
 
 same-length-3 : tie.Need-same-length-3
 same-length-3 c = search needs
 
 returns-2 : tie.Need-returns-2
 returns-2 c =
-    let b = c .before .before .before .before in
-    let k = b .before .before .before in
-    let j = judged (else1 k) in
-    let s = start j in
-    let t = taken (else1 k) in
-    let h = hand-kept (s .args .pid) (s .args .packets .now) (s .args .last) (s .args .held) (s .args .state .now) (s .pre .0) (s .args .p .now) (s .args .out .now) _ (j .judge .ensures) t
-    ∙ sym (ap (λ (n : ℕ). take n (drop handAt (s .args .state .now))) (k .kept .ensures)) in
-    stepped-on (s .args .pid) (s .args .packets .now) (s .args .last) (s .args .held) (s .args .state .now) (s .pre .0) (s .args .p .now) (s .args .out .now) _ (j .judge .ensures) t _ h _ _ _ _
-    (b .take-payload .ensures .0) (b .take-payload .ensures .1) (b .take-payload .ensures .2) (b .take-payload .ensures .3)
+    let k = c .before .before in
+    let e = k .before .before .before in
+    let s = from1 e in
+    let w = plain e in
+    subst
+    (λ (x : List ℕ). Stepped (s .args .pid) (midway (s .args .packets .now) (s .args .last) (s .args .held) (s .args .state .now)) (s .args .state .now) (s .args .held) (s .args .p .now) (s .args .out .now)
+    answer.Taken 0 (s .args .held + 184) x (s .args .out .now))
+    (sym (k .copy-at .ensures ∙ ap (laidAt (s .args .state .now) (190 + s .args .held)) (tail (s .args .p .now) 4)))
+    (stepped-plain (s .args .pid) (s .args .packets .now) (s .args .last) (s .args .held) (s .args .state .now) (s .pre .0) (s .args .p .now) (s .args .out .now) (w .0) (w .1))
 
 pub take-packet-spec : {M : Type 1} → statement M
 take-packet-spec =
     tie.close
     (tie.spec
-    judge-requires
-    is-taken-requires
+    goes-on-requires
+    take-any-requires
     same-length
-    returns
-    kept-requires
-    take-payload-requires
     same-length-2
+    returns
+    add-copy-at
+    sub-copy-at
+    part-copy-at-start
+    part-copy-at-end
+    copy-at-requires
+    add-t19
     same-length-3
     returns-2)

@@ -17,6 +17,7 @@ use Rattle.transport.specs.State.{handAt, stateBytes}
 use Rattle.transport.proofs.Laws.Hands.{none-long, none-laid}
 use Rattle.transport.proofs.Laws.Rule.{brings-most, ended-most, items-most}
 use Rattle.transport.proofs.Laws.Taking.{idle-hands, start-hands, on-hands, left-same, given-as, put-behind, started-size, started-out}
+use Rattle.transport.proofs.Laws.Judged.{same-part}
 use borrow.Author.Needs.{needs}
 use Rattle.transport.proofs.take.take_payload.Statement.{statement}
 use Rattle.transport.proofs.take.take_payload.Tie as tie
@@ -58,13 +59,10 @@ held-there s =
 held : (s : tie.Start) → length (hand s) ≤ 4097
 held s = let e = held-there s in omega (arith, e, s .pre .2)
 
-in-place : (s : List ℕ) (n : ℕ) → take (190 + n - 190) (drop handAt s) ≡ take n (drop handAt s)
-in-place s n = let e : 190 + n - 190 ≡ n = omega arith in ap (λ (k : ℕ). take k (drop handAt s)) e
-
 -- what the section in hand came to
 given : (c : tie.After-hand-on) → let s = from c in
     (c .hand-on .result ≡ length (joined (ended (hand s) (view s .before)))) × (c .hand-on .last .1 .1 .0 ≡ laidFirst (joined (ended (hand s) (view s .before))) (s .args .out .now))
-given c = let s = from c in given-as _ _ _ _ _ _ _ (in-place (s .args .state .now) (s .args .held)) (parts c .parts-of .ensures .4) (c .hand-on .ensures)
+given c = let s = from c in given-as _ _ _ _ _ _ _ (same-part (s .args .state .now) 190 (s .args .held)) (parts c .parts-of .ensures .4) (c .hand-on .ensures)
 
 -- it has room
 brings : (s : tie.Start) → length (view s .before) + length (view s .after) ≤ 184
@@ -137,9 +135,9 @@ hand-on-requires : tie.Need-hand-on-requires
 hand-on-requires c κs =
     let e = c .before .before .before .before in
     let s = from1 e in
-    let a = ap (λ (x : List ℕ). length x) (in-place (s .args .state .now) (s .args .held)) in
+    let a = ap (λ (x : List ℕ). length x) (same-part (s .args .state .now) 190 (s .args .held)) in
     let b = ap (λ (x : List ℕ). length x) (e .before .before .parts-of .ensures .4) in
-    (ap isHead (in-place (s .args .state .now) (s .args .held)) ∙ s .pre .4, omega (arith, a, b, held s, brings s, s .pre .5))
+    (ap isHead (same-part (s .args .state .now) 190 (s .args .held)) ∙ s .pre .4, omega (arith, a, b, held s, brings s, s .pre .5))
 
 sub-begin : tie.Need-sub-begin
 sub-begin c = search needs
@@ -221,7 +219,7 @@ go-on-requires c κs =
     let b = ap (λ (x : List ℕ). length x) (parts w .parts-of .ensures .4) in
     let q = parts w .parts-of .result in
     let m = take (q .mid - q .from) (drop (q .from) (s .args .p .now)) in
-    let n = w .hand-on .ensures .0 ∙ ap (λ (x : List ℕ). length (joined (ended x m))) (in-place (s .args .state .now) (s .args .held)) in
+    let n = w .hand-on .ensures .0 ∙ ap (λ (x : List ℕ). length (joined (ended x m))) (same-part (s .args .state .now) 190 (s .args .held)) in
     (s .pre .3, s .pre .2, s .pre .4, omega (arith, b, brings s), n)
 
 same-length-3 : tie.Need-same-length-3
