@@ -293,7 +293,7 @@ def check_needs(archive):
     """The archive defines the exported functions and asks for nothing but these two of the C library."""
     symbols = subprocess.run(["nm", archive], check=True, capture_output=True, text=True).stdout.split("\n")
     asked, defined = ({l.split()[-1] for l in symbols if " %s " % kind in l} for kind in "UT")
-    assert asked <= {"memcpy", "memset"} and defined == set(boundary.source()["calls"]), (asked, defined)
+    assert asked <= {"memcpy", "memmove", "memset"} and defined == set(boundary.source()["calls"]), (asked, defined)
 
 
 def asked_of(prefix, what):

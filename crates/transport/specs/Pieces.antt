@@ -27,8 +27,8 @@ judged pid last p = cond (eqb (packetRefusal pid p) 0) (judgedAfter last p) (ans
 
 -- IN THE MIDDLE OF A STRETCH the last packet and the number of bytes in hand are not written to the state yet: it lies in the stretch, from byte
 -- `at` on, or still in the state where `at` is past the stretch.
-abbrev pub lastOf : (stretch : List ℕ) → (at : ℕ) → (state : List ℕ) → List ℕ
-lastOf xs at s = cond (ltb at (length xs)) (take packetLength (drop at xs)) (lastIn s)
+abbrev pub lastSeen : (stretch : List ℕ) → (at : ℕ) → (state : List ℕ) → List ℕ
+lastSeen xs at s = cond (ltb at (length xs)) (take packetLength (drop at xs)) (lastIn s)
 
 -- the state's bytes with this packet as the last and so many bytes in hand
 abbrev pub withLast : (packet : List ℕ) → (held : ℕ) → (state : List ℕ) → List ℕ

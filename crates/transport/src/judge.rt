@@ -14,13 +14,13 @@ ghost use Rattle.transport.specs.Packet.{packetLength, packetRefusal, co
 ghost use Rattle.transport.specs.Feed.{weight};
 ghost use Rattle.transport.specs.State.{stateLength};
 ghost use Rattle.transport.specs.Calls.{isTaken, isBroken};
-ghost use Rattle.transport.specs.Pieces.{judgedAfter, judged, lastOf};
+ghost use Rattle.transport.specs.Pieces.{judgedAfter, judged, lastSeen};
 
 // The last packet lies among these, from `last` on, or still in the state where that is past them.
 pub fn judge(pid: u16, packets: &[u8], last: usize, state: &[u8], p: &[u8]) -> Answer
     requires { ⌜ (stateLength ≤ length (now state))
         × (last < length (now packets) → packetRefusal pid (take packetLength (drop last (now packets))) ≡ 0) ⌝ }
-    ensures { λ r. ⌜ r ≡ judged pid (lastOf (now (packets .entry)) last (now (state .entry))) (now (p .entry)) ⌝ }
+    ensures { λ r. ⌜ r ≡ judged pid (lastSeen (now (packets .entry)) last (now (state .entry))) (now (p .entry)) ⌝ }
 {
     let n = packet_refusal(pid, p);
     if n != 0 {

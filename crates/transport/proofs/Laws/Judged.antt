@@ -18,7 +18,7 @@ use Rattle.transport.specs.Packet.{packetLength, counterOf, pidOf, isFau
 use Rattle.transport.specs.Feed.{State, Fed, isRepeat, weight, inStep, takenBy, passedOver, fed}
 use Rattle.transport.specs.State.{lastIn}
 use Rattle.transport.specs.Calls.{isTaken, howMany, tally}
-use Rattle.transport.specs.Pieces.{judgedAfter, judged, lastOf, countedAs}
+use Rattle.transport.specs.Pieces.{judgedAfter, judged, lastSeen, countedAs}
 use Rattle.transport.proofs.Laws.Feeding.{fed-refused, fed-repeat, fed-taken, same-is}
 
 -- two lists that differ somewhere are not the same
@@ -58,10 +58,10 @@ inside xs at l e = let t = length-take packetLength (drop at xs) in let d = leng
 pub same-part : (xs : List ℕ) (at n : ℕ) → take (at + n - at) (drop at xs) ≡ take n (drop at xs)
 same-part xs at n = let e : at + n - at ≡ n = omega arith in ap (λ (k : ℕ). take k (drop at xs)) e
 
-pub last-in : (xs : List ℕ) (at : ℕ) (s : List ℕ) → at < length xs → lastOf xs at s ≡ take packetLength (drop at xs)
+pub last-in : (xs : List ℕ) (at : ℕ) (s : List ℕ) → at < length xs → lastSeen xs at s ≡ take packetLength (drop at xs)
 last-in xs at s l = ap (λ (t : Bool). cond t (take packetLength (drop at xs)) (lastIn s)) (lt-ltb at (length xs) l)
 
-pub last-past : (xs : List ℕ) (at : ℕ) (s : List ℕ) → length xs ≤ at → lastOf xs at s ≡ lastIn s
+pub last-past : (xs : List ℕ) (at : ℕ) (s : List ℕ) → length xs ≤ at → lastSeen xs at s ≡ lastIn s
 last-past xs at s l = ap (λ (t : Bool). cond t (take packetLength (drop at xs)) (lastIn s)) (le-ltb at (length xs) l)
 
 module _ (s : List ℕ) where
@@ -72,16 +72,16 @@ module _ (s : List ℕ) where
   last-some n = ap (λ (t : Bool). cond t [] (take packetLength s)) (ne-eqb (byteAt s 0) 0 n)
 
 module _ (pid : ℕ) (xs : List ℕ) (at : ℕ) (s p : List ℕ) (z : packetRefusal pid p ≡ 0) where
-  by-last : (l : List ℕ) → lastOf xs at s ≡ l → judgedAfter l p ≡ judged pid (lastOf xs at s) p
-  by-last l e = ap (λ (k : List ℕ). judgedAfter k p) (sym e) ∙ sym (judged-on pid (lastOf xs at s) p z)
+  by-last : (l : List ℕ) → lastSeen xs at s ≡ l → judgedAfter l p ≡ judged pid (lastSeen xs at s) p
+  by-last l e = ap (λ (k : List ℕ). judgedAfter k p) (sym e) ∙ sym (judged-on pid (lastSeen xs at s) p z)
 
-  pub judged-in : at < length xs → judgedAfter (take packetLength (drop at xs)) p ≡ judged pid (lastOf xs at s) p
+  pub judged-in : at < length xs → judgedAfter (take packetLength (drop at xs)) p ≡ judged pid (lastSeen xs at s) p
   judged-in l = by-last _ (last-in xs at s l)
 
-  pub judged-first : length xs ≤ at → byteAt s 0 ≡ 0 → answer.Taken ≡ judged pid (lastOf xs at s) p
+  pub judged-first : length xs ≤ at → byteAt s 0 ≡ 0 → answer.Taken ≡ judged pid (lastSeen xs at s) p
   judged-first l e = sym (after-none p) ∙ by-last _ (last-past xs at s l ∙ last-none s e)
 
-  pub judged-past : length xs ≤ at → (byteAt s 0 ≡ 0 → ⊥) → judgedAfter (take packetLength s) p ≡ judged pid (lastOf xs at s) p
+  pub judged-past : length xs ≤ at → (byteAt s 0 ≡ 0 → ⊥) → judgedAfter (take packetLength s) p ≡ judged pid (lastSeen xs at s) p
   judged-past l n = by-last _ (last-past xs at s l ∙ last-some s n)
 
 -- it is the answer, whatever is in hand

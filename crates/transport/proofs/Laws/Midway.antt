@@ -20,7 +20,7 @@ use Rattle.transport.specs.Packet.{packetLength, packetRefusal, viewOf}
 use Rattle.transport.specs.Feed.{State, Fed, isHead, isRepeat, inStep, keptHand, handsOn, leaves, takenBy, passedOver, fed}
 use Rattle.transport.specs.State.{handAt, stateLength, lastIn, heldIn, handIn, stateIn, stateBytes, stateGood}
 use Rattle.transport.specs.Calls.{isTaken, isBroken, nextState}
-use Rattle.transport.specs.Pieces.{judged, lastOf, withLast, midway, Midway, Stepped, Plain}
+use Rattle.transport.specs.Pieces.{judged, lastSeen, withLast, midway, Midway, Stepped, Plain}
 use Rattle.transport.proofs.Laws.Feeding.{fed-taken}
 use Rattle.transport.proofs.Laws.Hands.{none-long, none-laid}
 use Rattle.transport.proofs.Laws.Rule.{full, hand-most, ruled-head, kept-head, leaves-head}
@@ -102,7 +102,7 @@ module _ (xs : List ℕ) (at held : ℕ) (s : List ℕ) where
     pub midway-hand : handIn v ≡ take held (drop handAt s)
     midway-hand = ap₂ take (sym (m .1)) midway-after
 
-    pub midway-last : stateIn v .last ≡ lastOf xs at s
+    pub midway-last : stateIn v .last ≡ lastSeen xs at s
     midway-last = last-said v ∙ in-or-past _
         (λ l.
         let q = take packetLength (drop at xs) in
@@ -131,7 +131,7 @@ next-stays pid v p a e k = go (eqb (packetRefusal pid p) 0) refl
     go true f = let z = eqb-true (packetRefusal pid p) 0 f in repeat-stays pid v p z (not-taken pid (stateIn v) p a e k .known z)
 
 -- ONE PACKET MORE
-module _ (pid : ℕ) (xs : List ℕ) (at held : ℕ) (s : List ℕ) (m : Midway pid xs at held s) (p out : List ℕ) (a : Answer) (j : a ≡ judged pid (lastOf xs at s) p) where
+module _ (pid : ℕ) (xs : List ℕ) (at held : ℕ) (s : List ℕ) (m : Midway pid xs at held s) (p out : List ℕ) (a : Answer) (j : a ≡ judged pid (lastSeen xs at s) p) where
   abbrev v₀ : List ℕ
   v₀ = midway xs at held s
 

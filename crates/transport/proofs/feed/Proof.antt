@@ -11,8 +11,18 @@ use Rattle.transport.proofs.Laws.Calls.{feed-refused, feed-fed, one-tol
 use Rattle.transport.proofs.feed.Statement.{statement}
 use Rattle.transport.proofs.feed.Tie as tie
 
+-- the places that stand before a place, by name
+abbrev after-pass-of-after-slice-known3 : tie.After-slice-known3 → tie.After-pass
+after-pass-of-after-slice-known3 c = c .before .before
+
+abbrev after-pass-of-after-counted-as : tie.After-counted-as → tie.After-pass
+after-pass-of-after-counted-as c = after-pass-of-after-slice-known3 (c .before .before .before .before)
+
+abbrev lent-at : tie.After-slice-known2 → tie.Start
+lent-at c = c .before .before .before
+
 abbrev start : tie.After-lent-refusal → tie.Start
-start c = c .before .before .before .before .before
+start c = lent-at (c .before .before)
 
 lent-refusal-requires : tie.Need-lent-refusal-requires
 lent-refusal-requires c κs = search needs
@@ -63,7 +73,7 @@ same-length-4 c = search needs
 returns-3 : tie.Need-returns-3
 returns-3 c =
     let k = c .before in
-    let g = k .before .before .before .before .before .before in
+    let g = after-pass-of-after-counted-as k in
     let f = g .before .before .before in
     let e = f .before in
     let d = e .before in

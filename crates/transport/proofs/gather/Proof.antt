@@ -6,8 +6,11 @@ use Rattle.transport.proofs.Laws.Calls.{gather-refused}
 use Rattle.transport.proofs.gather.Statement.{statement}
 use Rattle.transport.proofs.gather.Tie as tie
 
+abbrev lent-at : tie.After-slice-known2 → tie.Start
+lent-at c = c .before .before .before
+
 abbrev start : tie.After-lent-refusal → tie.Start
-start c = c .before .before .before .before .before
+start c = lent-at (c .before .before)
 
 lent-refusal-requires : tie.Need-lent-refusal-requires
 lent-refusal-requires c κs = search needs

@@ -54,7 +54,8 @@ returns-2 c =
     let f = c .before .before .before in
     let s = start f in (
       omega (arith, f .if1 .left),
-      subst₂ (λ (a b : List ℕ). Plain (s .args .pid) a b (s .args .p .now)) (same-part (s .args .packets .now) (s .args .last) 188) (same-part (s .args .state .now) 190 (s .args .held)) (c .is-plain .ensures e),
+      subst₂ (λ (a b : List ℕ). Plain (s .args .pid) a b (s .args .p .now)) (same-part (s .args .packets .now) (s .args .last) 188)
+          (same-part (s .args .state .now) 190 (s .args .held)) (c .is-plain .ensures e),
     )
 
 pub goes-on-spec : {M : Type 1} → statement M

@@ -35,8 +35,11 @@ Inv-loop pid packets state₀ out₀ counts₀ passed₀ size₀ last₀ held₀
 abbrev μ-loop : tie.MeasureT-loop
 μ-loop pid packets state₀ out₀ counts₀ passed₀ size₀ last₀ held₀ state out counts passed size last held = length packets - passed
 
+abbrev lent-at : tie.After-slice-known2 Inv-loop μ-loop → tie.Start Inv-loop μ-loop
+lent-at c = c .before .before .before
+
 abbrev start : tie.After-held-in Inv-loop μ-loop → tie.Start Inv-loop μ-loop
-start c = c .before .before .before .before .before .before
+start c = lent-at (c .before .before .before)
 
 abbrev top : tie.At-loop Inv-loop μ-loop → tie.Start Inv-loop μ-loop
 top c = start (c .before)
@@ -93,7 +96,8 @@ loop-holds c =
     let m = midway-first (s .args .pid) (s .args .packets .now) (s .args .state .now) (c .held-in .result) (c .held-in .ensures .0) z in
     let g = going-first (s .args .pid) (s .args .state .now) (s .args .out .now) (s .args .packets .now) z in (
       refl,
-      subst₂ (λ (k : Counts) (v : List ℕ). Going (s .args .pid) (s .args .state .now) (s .args .out .now) (s .args .packets .now) v (s .args .out .now) k 0 0) (sym (c .before .before .none .ensures)) (sym (m .0)) g,
+      subst₂ (λ (k : Counts) (v : List ℕ). Going (s .args .pid) (s .args .state .now) (s .args .out .now) (s .args .packets .now) v
+          (s .args .out .now) k 0 0) (sym (c .before .before .none .ensures)) (sym (m .0)) g,
       m .1,
     )
 
@@ -234,7 +238,9 @@ loop-again c =
     (sym (c .before .last-after .ensures))
     (midway-next (s .args .pid) (s .args .packets .now) (l .loop .last) (l .loop .held) (l .loop .state) (l .loop .inv .2) (l .loop .passed) _ _ _ _ _ _ t w) in
     let b = put-behind n o (k .take-packet .last .1 .1 .1 .1 .1 .1 .0) (room-now l)
-    ∙ ap (λ (y : List ℕ). take n o ++ y) (w .5 ∙ ap (λ (y : List ℕ). laidFirst (joined (fed (s .args .pid) (stateIn (meant l)) (take packetLength (drop (l .loop .passed) (s .args .packets .now))) .sections)) y) (tail o n)) in
+    ∙ ap (λ (y : List ℕ). take n o ++ y) (w .5
+    ∙ ap (λ (y : List ℕ). laidFirst
+    (joined (fed (s .args .pid) (stateIn (meant l)) (take packetLength (drop (l .loop .passed) (s .args .packets .now))) .sections)) y) (tail o n)) in
     let q = c .before .before .counted .ensures ∙ ap (countedWith (l .loop .counts)) (w .0) in (
       k .take-packet .kept .1 .1 .1 .1 .1 .0 ∙ l .loop .inv .0,
       going-next (s .args .pid) (s .args .state .now) (s .args .out .now) (s .args .packets .now) _ _ _ _ _ g t (fit (d .before)) _

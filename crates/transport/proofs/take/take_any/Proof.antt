@@ -15,8 +15,18 @@ use borrow.Author.Needs.{needs}
 use Rattle.transport.proofs.take.take_any.Statement.{statement}
 use Rattle.transport.proofs.take.take_any.Tie as tie
 
+-- the places that stand before a place, by name
+abbrev start-of-after-shared-slice-known : tie.After-shared-slice-known → tie.Start
+start-of-after-shared-slice-known c = c .before
+
+abbrev start-of-after-judge-arg : tie.After-judge-arg → tie.Start
+start-of-after-judge-arg c = start-of-after-shared-slice-known (c .before .before .before .before)
+
+abbrev lent-at : tie.After-slice-known2 → tie.Start
+lent-at c = c .before .before .before .before
+
 abbrev start : tie.After-judge → tie.Start
-start c = c .before .before .before .before .before .before
+start c = lent-at (c .before .before)
 
 abbrev judged : tie.Else1 → tie.After-judge
 judged c = c .before .before
@@ -32,7 +42,7 @@ taken : (c : tie.Else1) → isTaken (judged c .judge .result) ≡ true
 taken c = told (c .before) true (not-false _ (c .if1 .left))
 
 judge-requires : tie.Need-judge-requires
-judge-requires c κs = let s = c .before .before .before .before .before in (midway-long _ _ _ _ _ (s .pre .0), s .pre .0 .2)
+judge-requires c κs = let s = start-of-after-judge-arg c in (midway-long _ _ _ _ _ (s .pre .0), s .pre .0 .2)
 
 is-taken-requires : tie.Need-is-taken-requires
 is-taken-requires c κs = search needs

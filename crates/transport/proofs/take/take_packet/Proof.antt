@@ -16,8 +16,24 @@ use Rattle.transport.proofs.Laws.Midway.{midway-full, midway-few, midwa
 use Rattle.transport.proofs.take.take_packet.Statement.{statement}
 use Rattle.transport.proofs.take.take_packet.Tie as tie
 
+-- the places that stand before a place, by name
+abbrev start-of-after-shared-slice-known : tie.After-shared-slice-known → tie.Start
+start-of-after-shared-slice-known c = c .before
+
+abbrev start-of-after-goes-on-arg : tie.After-goes-on-arg → tie.Start
+start-of-after-goes-on-arg c = start-of-after-shared-slice-known (c .before .before .before .before)
+
+abbrev else1-of-after-copy-at-arg : tie.After-copy-at-arg → tie.Else1
+else1-of-after-copy-at-arg c = c .before
+
+abbrev else1-of-after-slice-known5 : tie.After-slice-known5 → tie.Else1
+else1-of-after-slice-known5 c = else1-of-after-copy-at-arg (c .before .before .before .before)
+
+abbrev lent-at : tie.After-slice-known2 → tie.Start
+lent-at c = c .before .before .before .before
+
 abbrev start : tie.After-goes-on → tie.Start
-start c = c .before .before .before .before .before .before
+start c = lent-at (c .before .before)
 
 abbrev from1 : tie.Else1 → tie.Start
 from1 c = start (c .before)
@@ -30,7 +46,7 @@ plain : (c : tie.Else1) → let s = from1 c in (s .args .last < length (s .args 
 plain c = c .before .goes-on .ensures (not-false _ (c .if1 .left))
 
 goes-on-requires : tie.Need-goes-on-requires
-goes-on-requires c κs = let s = c .before .before .before .before .before in let f = few s in (midway-full _ _ _ _ _ (s .pre .0), omega (arith, f))
+goes-on-requires c κs = let s = start-of-after-goes-on-arg c in let f = few s in (midway-full _ _ _ _ _ (s .pre .0), omega (arith, f))
 
 take-any-requires : tie.Need-take-any-requires
 take-any-requires c κs = search needs
@@ -60,7 +76,7 @@ copy-at-requires : tie.Need-copy-at-requires
 copy-at-requires c κs = search needs
 
 add-t19 : tie.Need-add-t19
-add-t19 c = let s = from1 (c .before .before .before .before .before) in let h = midway-few _ _ _ _ _ (s .pre .0) in omega (arith, h)
+add-t19 c = let s = from1 (else1-of-after-slice-known5 c) in let h = midway-few _ _ _ _ _ (s .pre .0) in omega (arith, h)
 
 same-length-3 : tie.Need-same-length-3
 same-length-3 c = search needs
@@ -72,7 +88,8 @@ returns-2 c =
     let s = from1 e in
     let w = plain e in
     subst
-    (λ (x : List ℕ). Stepped (s .args .pid) (midway (s .args .packets .now) (s .args .last) (s .args .held) (s .args .state .now)) (s .args .state .now) (s .args .held) (s .args .p .now) (s .args .out .now)
+    (λ (x : List ℕ). Stepped (s .args .pid) (midway (s .args .packets .now) (s .args .last) (s .args .held) (s .args .state .now))
+    (s .args .state .now) (s .args .held) (s .args .p .now) (s .args .out .now)
     answer.Taken 0 (s .args .held + 184) x (s .args .out .now))
     (sym (k .copy-at .ensures ∙ ap (laidAt (s .args .state .now) (190 + s .args .held)) (tail (s .args .p .now) 4)))
     (stepped-plain (s .args .pid) (s .args .packets .now) (s .args .last) (s .args .held) (s .args .state .now) (s .pre .0) (s .args .p .now) (s .args .out .now) (w .0) (w .1))

@@ -86,8 +86,11 @@ as-long c =
 abbrev before2 : tie.Then2 → tie.After-hand-on
 before2 c = c .before .before .before
 
+abbrev begin-of : tie.After-slice-known5 → tie.After-begin
+begin-of c = c .before .before .before .before
+
 abbrev after-begin-of : tie.After-struct-known2 → tie.After-begin
-after-begin-of c = c .before .before .before .before .before
+after-begin-of c = begin-of (c .before)
 
 abbrev begun : tie.After-begin → tie.After-hand-on
 begun c = before2 (c .before .before .before .before)

@@ -33,7 +33,12 @@ returns-4 c =
     let e2 = e3 .before .before in
     let e1 = e2 .before .before in
     let s = e1 .before .before in
-    rw (eq-eqb (s .args .c .broken) 0 (e1 .if1 .left), eq-eqb (s .args .c .taken) 0 (e2 .if2 .left), eq-eqb (s .args .c .repeated) 0 (e3 .if3 .left), ne-eqb (s .args .c .refused41) 0 (c .if4 .taken)) refl
+    rw (
+      eq-eqb (s .args .c .broken) 0 (e1 .if1 .left),
+      eq-eqb (s .args .c .taken) 0 (e2 .if2 .left),
+      eq-eqb (s .args .c .repeated) 0 (e3 .if3 .left),
+      ne-eqb (s .args .c .refused41) 0 (c .if4 .taken),
+    ) refl
 
 returns-5 : tie.Need-returns-5
 unfolding countedAs
@@ -43,7 +48,13 @@ returns-5 c =
     let e2 = e3 .before .before in
     let e1 = e2 .before .before in
     let s = e1 .before .before in
-    rw (eq-eqb (s .args .c .broken) 0 (e1 .if1 .left), eq-eqb (s .args .c .taken) 0 (e2 .if2 .left), eq-eqb (s .args .c .repeated) 0 (e3 .if3 .left), eq-eqb (s .args .c .refused41) 0 (e4 .if4 .left), ne-eqb (s .args .c .refused42) 0 (c .if5 .taken)) refl
+    rw (
+      eq-eqb (s .args .c .broken) 0 (e1 .if1 .left),
+      eq-eqb (s .args .c .taken) 0 (e2 .if2 .left),
+      eq-eqb (s .args .c .repeated) 0 (e3 .if3 .left),
+      eq-eqb (s .args .c .refused41) 0 (e4 .if4 .left),
+      ne-eqb (s .args .c .refused42) 0 (c .if5 .taken),
+    ) refl
 
 returns-6 : tie.Need-returns-6
 unfolding countedAs
@@ -53,7 +64,13 @@ returns-6 c =
     let e2 = e3 .before .before in
     let e1 = e2 .before .before in
     let s = e1 .before .before in
-    rw (eq-eqb (s .args .c .broken) 0 (e1 .if1 .left), eq-eqb (s .args .c .taken) 0 (e2 .if2 .left), eq-eqb (s .args .c .repeated) 0 (e3 .if3 .left), eq-eqb (s .args .c .refused41) 0 (e4 .if4 .left), eq-eqb (s .args .c .refused42) 0 (c .if5 .left)) refl
+    rw (
+      eq-eqb (s .args .c .broken) 0 (e1 .if1 .left),
+      eq-eqb (s .args .c .taken) 0 (e2 .if2 .left),
+      eq-eqb (s .args .c .repeated) 0 (e3 .if3 .left),
+      eq-eqb (s .args .c .refused41) 0 (e4 .if4 .left),
+      eq-eqb (s .args .c .refused42) 0 (c .if5 .left),
+    ) refl
 
 pub counted-as-spec : {M : Type 1} → statement M
 counted-as-spec = tie.close (tie.spec returns returns-2 returns-3 returns-4 returns-5 returns-6)
