@@ -1,7 +1,7 @@
 -- A LOSS OF WHAT transport_write WROTE, by the packets' places: i packets come, n are lost, the rest comes. Exactly the sections with a packet among the lost are missing.
 use Prim.Native.Nat.{ℕ, zero, suc, _+_, _-_, _%_, _≤_, _<_}
 use mathlib.Core.Path.{_≡_, refl, sym, ap, ap₂, _∙_}
-use mathlib.Core.Bool.{Bool, true, false, cond, _&&_, _||_}
+use mathlib.Core.Bool.{Bool, true, false, cond, _&&_, _||_, and-false, or-true, or-false}
 use mathlib.Core.List.{List, [], _∷_, _++_, append-assoc, append-nil}
 use native.Mathlib.Omega.{arith}
 use lib.Dec.{ltb}
@@ -32,11 +32,7 @@ touched-first : (n k : ℕ) → touched 0 (suc n) (suc k) ≡ true
 touched-first n k = rw (lt-ltb 0 (suc k) (omega arith), lt-ltb 0 (suc n) (omega arith))
 
 touched-never : (i k : ℕ) → touched i 0 k ≡ false
-touched-never i k = go (ltb i k)
-  where
-    go : (t : Bool) → (t && false) ≡ false
-    go true = refl
-    go false = refl
+touched-never i k = and-false (ltb i k)
 
 touched-past : (i n : ℕ) → touched (suc i) n 1 ≡ false
 touched-past i n = rw (le-ltb (suc i) 1 (omega arith))
@@ -88,14 +84,6 @@ aired-both zero zero (k ∷ ks) js =
     ap (λ (l : List Aired). came (k .0) (k .1) ∷ l) (aired-both 0 0 ks js ∙ ap₂ (λ (x y : ℕ). aired 0 0 ks ++ aired x y js) a b)
 
 -- ONE SECTION: it comes exactly where none of its packets is lost
-or-false : (l : Bool) → (l || false) ≡ l
-or-false true = refl
-or-false false = refl
-
-or-true : (l : Bool) → (l || true) ≡ true
-or-true true = refl
-or-true false = refl
-
 module _ (pid : ℕ) (rs : List Aired) where
   abbrev r : List (List ℕ)
   r = spared (carried [] false rs)

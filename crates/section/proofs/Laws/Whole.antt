@@ -1,7 +1,7 @@
 -- The section that a stretch begins with, from the facts that code learns on its ways; and that sections are a kind of item.
 use Prim.Native.Nat.{ℕ, _+_, _/_, _%_, _≤_, _<_}
 use mathlib.Core.Path.{_≡_, refl, sym, ap, subst, _∙_}
-use mathlib.Core.Bool.{Bool, true, false, cond, _||_}
+use mathlib.Core.Bool.{Bool, true, false, cond, _||_, or-true}
 use mathlib.Core.List.{List}
 use native.Mathlib.Omega.{arith}
 use lib.Dec.{eqb, leb, ltb}
@@ -31,13 +31,9 @@ module _ (s : List ℕ) where
   unfolding wholeAt
   whole-few h = rw (few-short h)
 
-  either : (t : Bool) → (t || true) ≡ true
-  either true = refl
-  either false = refl
-
   pub whole-stuffing : byteAt s 0 ≡ 0xFF → wholeAt s ≡ 0
   unfolding wholeAt
-  whole-stuffing e = rw (eq-eqb (byteAt s 0) 0xFF e, either (isShort s))
+  whole-stuffing e = rw (eq-eqb (byteAt s 0) 0xFF e, or-true (isShort s))
 
   pub whole-short : 3 ≤ length s → length s < saidLength s → wholeAt s ≡ 0
   unfolding wholeAt

@@ -1,7 +1,7 @@
 -- THE SECTION IN HAND with more bytes, and the whole sections that bytes begin with.
 use Prim.Native.Nat.{ℕ, zero, suc, _+_, _-_, _*_, _%_, _≤_, _<_}
 use mathlib.Core.Path.{_≡_, refl, sym, ap, ap₂, _∙_}
-use mathlib.Core.Bool.{Bool, true, false, not, cond, _||_}
+use mathlib.Core.Bool.{Bool, true, false, not, cond, _||_, or-true}
 use mathlib.Core.List.{List, [], _∷_, _++_, append-assoc}
 use native.Mathlib.Omega.{arith}
 use lib.Dec.{eqb}
@@ -40,10 +40,6 @@ module _ (h m : List ℕ) where
       go : (l : List ℕ) → length l ≡ 0 → cond (isNone l || eqb (wholeAt (l ++ m)) 0) [] (take (wholeAt (l ++ m)) (l ++ m) ∷ []) ≡ []
       go [] e = refl
       go (x ∷ l) e = absurd (omega arith)
-
-  or-true : (t : Bool) → (t || true) ≡ true
-  or-true true = refl
-  or-true false = refl
 
   pub ended-short : wholeAt (h ++ m) ≡ 0 → ended h m ≡ []
   unfolding ended

@@ -1,7 +1,7 @@
 -- A PACKET'S REFUSAL AND ITS PARTS, from the facts that code learns on its ways.
 use Prim.Native.Nat.{ℕ, zero, suc, _+_, _-_, _/_, _%_, _≤_, _<_}
 use mathlib.Core.Path.{_≡_, refl, sym, ap, ap₂, _∙_}
-use mathlib.Core.Bool.{Bool, true, false, not, cond, _&&_, _||_}
+use mathlib.Core.Bool.{Bool, true, false, not, cond, _&&_, _||_, or-true}
 use mathlib.Core.List.{List, [], _∷_}
 use native.Mathlib.Omega.{arith}
 use lib.Dec.{eqb, leb, ltb}
@@ -16,10 +16,6 @@ use Rattle.transport.specs.Packet.{errorOf, scramblingOf, pidOf, unitSta
 -- one of five tests
 last-of : (a b c d e : Bool) → a ≡ false → b ≡ false → c ≡ false → d ≡ false → (a || b || c || d || e) ≡ e
 last-of a b c d e p q r s = rw (p, q, r, s)
-
-or-true : (a : Bool) → (a || true) ≡ true
-or-true true = refl
-or-true false = refl
 
 module _ (p : List ℕ) where
   abbrev error : Bool

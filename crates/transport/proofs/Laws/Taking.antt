@@ -110,10 +110,6 @@ module _ (h m : List ℕ) where
       go [] e = refl
       go (x ∷ l) e = absurd (omega arith)
 
-  or-true : (t : Bool) → (t || true) ≡ true
-  or-true true = refl
-  or-true false = refl
-
   pub grown-whole : (length (joined (ended h m)) ≡ 0 → ⊥) → grown h m ≡ []
   unfolding grown ended joined
   grown-whole n = go (isNone h) (eqb (wholeAt (h ++ m)) 0) n
