@@ -8,6 +8,7 @@ use lib.Dec.{eqb}
 use lib.ListN.{length, take, drop}
 use borrow.Author.Tests.{eqb-true, ne-eqb, not-false}
 use Rattle.wire.specs.Fields.{byteAt}
+use Rattle.wire.proofs.Laws.Copies.{same-is, same-refl}
 use Rattle.wire.proofs.Laws.Tests.{both, clash}
 use Rattle.section.specs.declared.Refusal.{Refusal}
 use Rattle.section.specs.declared.Checked.{Checked}
@@ -36,7 +37,7 @@ use Rattle.carousel_step.proofs.View.{fits}
 use Rattle.carousel_step.proofs.Matching.{matching-means}
 use Rattle.carousel_step.proofs.Simulation.{outcome-ruled}
 use Rattle.carousel_step.proofs.Exact.{new-exactly, same-exactly, stored-exactly, repeated-exactly, same-means}
-use Rattle.carousel_record.proofs.Laws.Places.{number-at, place-is, same-is, is-same}
+use Rattle.carousel_record.proofs.Laws.Places.{number-at, place-is}
 use Rattle.carousel_record.proofs.Laws.Rule.{kept, ruled-says}
 use Rattle.carousel_step.proofs.Laws.Outcomes.{announced-same, announced-new, matched-clear, matched-same, arrived-good}
 use Rattle.receiver.specs.declared.Fate.{Fate}
@@ -132,7 +133,7 @@ module _ (c : Carousel) (s image : List ℕ) where
     pub is-repeated : received (recordOf c) i (saidBlock s .block) ≡ true
         → take (length (saidBlock s .bytes)) (drop (blockAt (recordOf c) i (saidBlock s .block)) image) ≡ saidBlock s .bytes
         → steppedOf c s image .answer ≡ answer.Repeated
-    is-repeated e f = by-block _ (matched-same (recordOf c) image i (saidBlock s) e (rw f (is-same (saidBlock s .bytes))))
+    is-repeated e f = by-block _ (matched-same (recordOf c) image i (saidBlock s) e (rw f (same-refl (saidBlock s .bytes))))
 
   -- a block that is not refused passes 12 to 16
   passed : ruledOf c ≡ true → (d : Arrived) → heardOf s ≡ arrived d → (x : Answer) → ((n : Refusal) → x ≡ answer.Refused n → ⊥) → steppedOf c s image .answer ≡ x

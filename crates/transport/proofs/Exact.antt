@@ -14,6 +14,7 @@ use Rattle.wire.specs.Copies.{sameNumbers}
 use Rattle.wire.specs.Fields.{byteAt, fieldAt, spelled}
 use Rattle.wire.specs.Pieces.{isNone, laidFirst}
 use Rattle.wire.specs.Tests.{firstMet, RisingFrom}
+use Rattle.wire.proofs.Laws.Copies.{same-is, same-refl}
 use Rattle.wire.proofs.Laws.Order.{none-exactly, nth-exactly, unmet}
 use Rattle.wire.proofs.Laws.Spelled.{part-spelled}
 use Rattle.wire.proofs.Laws.Tests.{both, neither, clash}
@@ -25,7 +26,6 @@ use Rattle.transport.specs.Feed.{State, isHead, stateRuled}
 use Rattle.transport.specs.State.{handAt, stateLength, mostInHand, lastIn, heldIn, handIn, stateIn, stateBytes, isUntouched, stateGood}
 use Rattle.transport.specs.Sound.{WithField, WithPayload, PayloadAt, Sound, OfPid, Accepted, InHand, Left, untouched, after, Lent}
 use Rattle.transport.specs.Calls.{mostHanded, lentTests, lentRefusal}
-use Rattle.transport.proofs.Laws.Feeding.{same-is, same-refl}
 use Rattle.transport.proofs.Laws.Packets.{payload-inside, pointer-inside, byte-drop}
 use Rattle.transport.proofs.Laws.Rule.{is-head}
 use Rattle.transport.proofs.Laws.States.{Good, good-says, good-untouched, good-packet, laid-parts, left-good}

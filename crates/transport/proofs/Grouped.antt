@@ -10,6 +10,7 @@ use lib.Seq.{take-at}
 use borrow.Author.Tests.{eqb-true, eqb-false, eq-eqb, ne-eqb}
 use Rattle.wire.specs.Copies.{sameNumbers}
 use Rattle.wire.specs.Items.{joined}
+use Rattle.wire.proofs.Laws.Copies.{same-refl}
 use Rattle.wire.proofs.Laws.Pieces.{Wide, wide-both, cut-back}
 use Rattle.transport.specs.declared.Answer.the-variants as answer
 use Rattle.transport.specs.Packet.{packetLength, packetRefusal}
@@ -17,7 +18,7 @@ use Rattle.transport.specs.Feed.{State, Fed, fresh, fed, stateAfter, han
 use Rattle.transport.specs.State.{stateLength, handAt, mostInHand, heldIn, stateIn, stateGood, isUntouched}
 use Rattle.transport.specs.Calls.{lentRefusal, nextState, feedOutcome, feedState, statesOver, gatheredPackets, gatherState}
 use Rattle.transport.specs.Grouped.{PacketCall, one, many, wentThrough, gave, leftBy, allThrough, allGiven, leftLast}
-use Rattle.transport.proofs.Laws.Feeding.{state-both, sections-both, refused-away, same-refl}
+use Rattle.transport.proofs.Laws.Feeding.{state-both, sections-both, refused-away}
 use Rattle.transport.proofs.Laws.States.{next-good, next-says, good-untouched, good-says, untouched-says}
 use Rattle.transport.proofs.Laws.Calls.{one-section, one-after}
 

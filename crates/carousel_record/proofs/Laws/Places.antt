@@ -7,28 +7,12 @@ use native.Mathlib.Omega.{arith}
 use lib.Dec.{eqb, ltb}
 use lib.ListN.{length, getD, length-map}
 use borrow.Author.Tests.{eq-eqb, ne-eqb, eqb-true, eqb-false, ltb-false}
-use Rattle.wire.proofs.Laws.Tests.{both, neither, clash}
-use Rattle.wire.specs.Copies.{sameNumbers}
+use Rattle.wire.proofs.Laws.Tests.{neither}
 use Rattle.carousel_messages.specs.declared.Listed.{Listed}
 use Rattle.carousel_messages.specs.Limits.{largestBlock, mostModules, mostBlocks, mostBytes, badSize, someBad, total, beyond10, among, twice11}
 use Rattle.carousel_messages.specs.Heard.{noneListed, sizesOf, numbersOf, placeIn}
 use Rattle.carousel_messages.proofs.Laws.Limits.{among-place, Within, within}
 use Rattle.carousel_record.specs.Record.{sums}
-
--- the same numbers are the same list
-pub same-is : (xs ys : List ℕ) → sameNumbers xs ys ≡ true → xs ≡ ys
-unfolding sameNumbers
-same-is [] [] e = refl
-same-is [] (y ∷ ys) e = absurd (clash _ e refl)
-same-is (x ∷ xs) [] e = absurd (clash _ e refl)
-same-is (x ∷ xs) (y ∷ ys) e =
-    let h = both (eqb x y) (sameNumbers xs ys) e in
-    rw (eqb-true x y (h .0), same-is xs ys (h .1))
-
-pub is-same : (xs : List ℕ) → sameNumbers xs xs ≡ true
-unfolding sameNumbers
-is-same [] = refl
-is-same (x ∷ xs) = rw (eq-eqb x x refl) (is-same xs)
 
 -- the number of the module at a found place
 pub number-at : (n : ℕ) (ms : List Listed) → placeIn n ms < length ms → getD ms (placeIn n ms) noneListed .number ≡ n

@@ -7,6 +7,7 @@ use native.Mathlib.Omega.{arith}
 use lib.Dec.{eqb, leb, lit≤}
 use lib.ListN.{length, drop, length-map, length-set, length-replicate}
 use borrow.Author.Tests.{eq-eqb, ne-eqb, eqb-true, leb-true, not-true}
+use Rattle.wire.proofs.Laws.Copies.{same-is, same-refl}
 use Rattle.wire.proofs.Laws.Tests.{both}
 use Rattle.wire.specs.Copies.{sameNumbers}
 use Rattle.carousel_messages.specs.Limits.{mostModules, mostBlocks, beyond10, twice11}
@@ -19,7 +20,7 @@ use Rattle.carousel_record.specs.Changes.{afresh, marking}
 use Rattle.carousel_record.proofs.Laws.Tests.{joint}
 use Rattle.carousel_record.proofs.Laws.Marks.{within-fresh, within-with, within-means}
 use Rattle.carousel_record.proofs.Laws.Blocks.{few}
-use Rattle.carousel_record.proofs.Laws.Places.{same-is, is-same, sized, block-size-pos, some-modules, few-modules, size-most}
+use Rattle.carousel_record.proofs.Laws.Places.{sized, block-size-pos, some-modules, few-modules, size-most}
 
 -- the numbers of blocks of the modules
 abbrev pub countsOf : Announced → List ℕ
@@ -53,7 +54,7 @@ unfolding ruled
 keeps r k =
     let a = r .announced in
     let w : withinLimits a ≡ true = within a (some-modules (a .blockSize) (a .modules) (k .limits)) ∙ rw (k .limits, k .numbers) in
-    joint _ _ (joint _ _ (joint _ _ (eq-eqb _ _ (k .words)) w) (rw (k .running) (is-same (sums 0 (sizesOf (a .modules)))))) (k .placed)
+    joint _ _ (joint _ _ (joint _ _ (eq-eqb _ _ (k .words)) w) (rw (k .running) (same-refl (sums 0 (sizesOf (a .modules)))))) (k .placed)
 
 -- a record made afresh keeps the rule
 pub fresh-kept : (r : Record) (a : Announced) → beyond10 (a .blockSize) (sizesOf (a .modules)) ≡ false → twice11 (numbersOf (a .modules)) ≡ false → Kept (afresh r a)

@@ -11,7 +11,8 @@ use Rattle.wire.specs.Copies.{sameNumbers}
 use Rattle.wire.specs.Tests.{firstMet}
 use Rattle.wire.specs.Items.{items}
 use Rattle.wire.specs.Pieces.{isNone}
-use Rattle.wire.proofs.Laws.Tests.{both, clash}
+use Rattle.wire.proofs.Laws.Copies.{same-is, same-refl}
+use Rattle.wire.proofs.Laws.Tests.{both}
 use Rattle.section.specs.Whole.{wholeAt}
 use Rattle.transport.specs.declared.Answer.{Answer}
 use Rattle.transport.specs.declared.Answer.the-variants as answer
@@ -96,22 +97,6 @@ from-nothing v = (λ s. (without (v .payload) (v .start) s, held (v .payload) (v
     held false s e = refl
 
 -- EXACT REPEATS likewise
-pub same-refl : (p : List ℕ) → sameNumbers p p ≡ true
-unfolding sameNumbers
-same-refl [] = refl
-same-refl (x ∷ p) = rw (eq-eqb x x refl, same-refl p)
-
-pub same-is : (p q : List ℕ) → sameNumbers p q ≡ true → p ≡ q
-unfolding sameNumbers
-same-is [] [] e = refl
-same-is [] (y ∷ q) e = absurd (clash _ e refl)
-same-is (x ∷ p) [] e = absurd (clash _ e refl)
-same-is (x ∷ p) (y ∷ q) e =
-    let b = both (eqb x y) (sameNumbers p q) e in
-    let f = eqb-true x y (b .0) in
-    let g = same-is p q (b .1) in
-    rw (f, g)
-
 -- after a packet that is not refused the last packet is that packet, so that the packet again is passed over, and again
 pub last-is : (pid : ℕ) (x : State) (p : List ℕ) → packetRefusal pid p ≡ 0 → fed pid x p .state .last ≡ p
 last-is pid x p z = go (isRepeat x p) refl

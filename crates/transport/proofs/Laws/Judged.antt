@@ -11,6 +11,7 @@ use Rattle.wire.specs.Copies.{sameNumbers}
 use Rattle.wire.specs.Fields.{byteAt}
 use Rattle.wire.specs.Pieces.{isNone}
 use Rattle.wire.specs.Tests.{firstMet}
+use Rattle.wire.proofs.Laws.Copies.{same-is}
 use Rattle.wire.proofs.Laws.Tests.{clash}
 use Rattle.transport.specs.declared.Answer.{Answer}
 use Rattle.transport.specs.declared.Answer.the-variants as answer
@@ -19,7 +20,7 @@ use Rattle.transport.specs.Feed.{State, Fed, isRepeat, weight, inStep, t
 use Rattle.transport.specs.State.{lastIn}
 use Rattle.transport.specs.Calls.{isTaken, howMany, tally}
 use Rattle.transport.specs.Pieces.{judgedAfter, judged, lastSeen, countedAs}
-use Rattle.transport.proofs.Laws.Feeding.{fed-refused, fed-repeat, fed-taken, same-is}
+use Rattle.transport.proofs.Laws.Feeding.{fed-refused, fed-repeat, fed-taken}
 
 -- two lists that differ somewhere are not the same
 pub differ-at : (k : ℕ) (xs ys : List ℕ) → (byteAt xs k ≡ byteAt ys k → ⊥) → sameNumbers xs ys ≡ false

@@ -12,6 +12,7 @@ use Rattle.wire.specs.Copies.{sameNumbers}
 use Rattle.wire.specs.Fields.{byteAt, fieldAt, sixteenAt, spelled}
 use Rattle.wire.specs.Pieces.{isNone, laidFirst}
 use Rattle.wire.specs.Tests.{firstMet}
+use Rattle.wire.proofs.Laws.Copies.{same-is}
 use Rattle.wire.proofs.Laws.Fields.{field-drop, field-take, spelled-length, spelled-reads}
 use Rattle.wire.proofs.Laws.Tests.{both}
 use Rattle.section.specs.Whole.{wholeAt}
@@ -19,7 +20,7 @@ use Rattle.transport.specs.Packet.{packetLength, packetRefusal, pidOf, i
 use Rattle.transport.specs.Feed.{State, Fed, isHead, isRepeat, keptHand, takenBy, fed, stateRuled}
 use Rattle.transport.specs.State.{mostInHand, handAt, stateLength, lastIn, heldIn, handIn, stateIn, stateBytes, isUntouched, isLeft, stateGood}
 use Rattle.transport.specs.Calls.{nextState}
-use Rattle.transport.proofs.Laws.Feeding.{fed-refused, fed-repeat, fed-taken, same-is, not-none}
+use Rattle.transport.proofs.Laws.Feeding.{fed-refused, fed-repeat, fed-taken, not-none}
 use Rattle.transport.proofs.Laws.Rule.{full, hand-most, ruled-head, leaves-head, kept-head}
 
 -- a packet that is not refused begins with its sync byte

@@ -7,6 +7,7 @@ use native.Mathlib.Omega.{arith}
 use lib.Dec.{eqb}
 use borrow.Author.Tests.{eq-eqb, ne-eqb}
 use Rattle.wire.specs.Fields.{byteAt}
+use Rattle.wire.proofs.Laws.Copies.{same-is}
 use Rattle.wire.proofs.Laws.Fields.{bits-lt}
 use Rattle.wire.proofs.Laws.Tests.{both}
 use Rattle.transport.specs.Packet.{View, viewOf, packetRefusal}
@@ -15,7 +16,7 @@ use Rattle.wire.specs.Copies.{sameNumbers}
 use Rattle.transport.specs.Feed.{State, Fed, fresh, isRepeat, weight, inStep, keptHand, handsOn, leaves, handedOn}
 use Rattle.transport_loss.specs.Stream.{Sent, idle, middle, final, start, shown, turned, sentSoFar, Fits, Aired, came, lost, WellSent, cameIn}
 use Rattle.transport_loss.specs.Stream.{endsIn, hurtSoFar, carried, spared, burden, Gaps, Losses}
-use Rattle.transport.proofs.Laws.Feeding.{fed-taken, fed-repeat, same-is, not-none}
+use Rattle.transport.proofs.Laws.Feeding.{fed-taken, fed-repeat, not-none}
 use Rattle.transport_loss.proofs.Laws.Carry.{out, next, Hand, hands-on, hand-of, spared-both, ends-came, hand-came, ends-lost, hand-lost, hand-idle}
 
 -- counters

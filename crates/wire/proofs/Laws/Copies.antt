@@ -12,7 +12,20 @@ use lib.Seq.{drop-cons, take-length, take-add, take-at, drop-drop, length-take-l
 use lib.Bits.{bitOr, bitXor, or-zero-l, or-add-and, xor-self, xor-add-and, and-le-l, and-le-r}
 use borrow.Author.Tests.{eq-eqb, ne-eqb, eqb-true, eqb-false, le-leb, lt-leb}
 use Rattle.wire.specs.Copies.{sameNumbers, overwrite, laidAt}
-use Rattle.wire.proofs.Laws.Tests.{fails}
+use Rattle.wire.proofs.Laws.Tests.{both, fails, clash}
+
+-- the same numbers are the same list, and a list is the same as itself
+pub same-is : (xs ys : List ℕ) → sameNumbers xs ys ≡ true → xs ≡ ys
+unfolding sameNumbers
+same-is [] [] e = refl
+same-is [] (y ∷ ys) e = absurd (clash _ e refl)
+same-is (x ∷ xs) [] e = absurd (clash _ e refl)
+same-is (x ∷ xs) (y ∷ ys) e = let h = both (eqb x y) (sameNumbers xs ys) e in rw (eqb-true x y (h .0), same-is xs ys (h .1))
+
+pub same-refl : (xs : List ℕ) → sameNumbers xs xs ≡ true
+unfolding sameNumbers
+same-refl [] = refl
+same-refl (x ∷ xs) = rw (eq-eqb x x refl) (same-refl xs)
 
 pub bytes-lengths : (xs ys : List ℕ) → (length xs ≡ length ys → ⊥) → sameNumbers xs ys ≡ false
 unfolding sameNumbers
