@@ -1,19 +1,19 @@
 -- EACH NUMBER EXACTLY IN ITS CASE, in plain facts: 40 to 43 of a packet, 1 and 21 of what is lent; "lowest first". 02, §2.
-use Prim.Native.Nat.{ℕ, suc, _+_, _*_, _/_, _%_, _≤_, _<_}
+use Prim.Native.Nat.{ℕ, _+_, _/_, _%_, _≤_, _<_}
 use mathlib.Core.Path.{_≡_, refl, sym, ap, ap₂, subst, _∙_}
 use mathlib.Core.Logic.{_↔_}
 use mathlib.Core.Bool.{Bool, true, false, not, cond, _&&_, _||_}
-use mathlib.Core.List.{List, [], _∷_, _++_, append-assoc}
+use mathlib.Core.List.{List, [], _∷_, _++_}
 use native.Mathlib.Omega.{arith}
 use lib.Dec.{eqb, leb, ltb}
-use lib.ListN.{length, take, drop, replicate, length-append, length-drop, take-append-drop}
-use lib.Seq.{length-take-le, take-at, drop-drop}
-use borrow.Author.Tests.{eq-eqb, ne-eqb, eqb-true, eqb-false, lt-ltb, le-ltb, ltb-true, ltb-false, le-leb, lt-leb, leb-false, not-true, not-false}
+use lib.ListN.{length, take, drop, replicate, length-drop, take-append-drop}
+use lib.Seq.{length-take-le, take-at}
+use borrow.Author.Tests.{eq-eqb, ne-eqb, eqb-true, eqb-false, lt-ltb, le-ltb, ltb-true, ltb-false, lt-leb, not-false}
 use Rattle.wire.specs.Bits.{AllBytes}
 use Rattle.wire.specs.Copies.{sameNumbers}
 use Rattle.wire.specs.Fields.{byteAt, fieldAt, spelled}
-use Rattle.wire.specs.Pieces.{isNone, laidFirst}
-use Rattle.wire.specs.Tests.{firstMet, RisingFrom}
+use Rattle.wire.specs.Pieces.{laidFirst}
+use Rattle.wire.specs.Tests.{RisingFrom}
 use Rattle.wire.proofs.Laws.Copies.{same-is, same-refl}
 use Rattle.wire.proofs.Laws.Order.{none-exactly, nth-exactly, unmet}
 use Rattle.wire.proofs.Laws.Spelled.{part-spelled}
@@ -22,9 +22,9 @@ use Rattle.section.specs.Whole.{wholeAt}
 use Rattle.section.proofs.Laws.Whole.{whole-few}
 use Rattle.transport.specs.Packet.{packetLength, errorOf, scramblingOf, unitStartOf, pidOf, hasField, hasPayload, payloadAt, payloadIn, isStart}
 use Rattle.transport.specs.Packet.{fieldPast, pointerPast, isFaulty, packetTests, packetRefusal}
-use Rattle.transport.specs.Feed.{State, isHead, stateRuled}
-use Rattle.transport.specs.State.{handAt, stateLength, mostInHand, lastIn, heldIn, handIn, stateIn, stateBytes, isUntouched, stateGood}
-use Rattle.transport.specs.Sound.{WithField, WithPayload, PayloadAt, Sound, OfPid, Accepted, InHand, Left, untouched, after, Lent}
+use Rattle.transport.specs.Feed.{State, isHead}
+use Rattle.transport.specs.State.{handAt, stateLength, heldIn, handIn, stateBytes, stateGood}
+use Rattle.transport.specs.Sound.{WithPayload, PayloadAt, Sound, OfPid, Accepted, InHand, Left, untouched, after, Lent}
 use Rattle.transport.specs.Calls.{mostHanded, lentTests, lentRefusal}
 use Rattle.transport.proofs.Laws.Packets.{payload-inside, pointer-inside, byte-drop}
 use Rattle.transport.proofs.Laws.Rule.{is-head}

@@ -1,26 +1,25 @@
 -- "HOWEVER PACKETS ARE GROUPED IN CALLS, THE SAME SECTIONS COME OUT; A REFUSED PACKET DOESN'T STOP THE REST." 02, §2, over what the calls promise.
-use Prim.Native.Nat.{ℕ, _<_}
+use Prim.Native.Nat.{ℕ}
 use mathlib.Core.Path.{_≡_, refl, sym, ap, ap₂, _∙_}
 use mathlib.Core.Bool.{Bool, true, false, cond}
 use mathlib.Core.List.{List, [], _∷_, _++_}
 use native.Mathlib.Omega.{arith}
 use lib.Dec.{eqb}
-use lib.ListN.{length, take, drop, replicate, length-replicate, getD-replicate, replicate-append-replicate}
+use lib.ListN.{take, replicate, length-replicate, getD-replicate, replicate-append-replicate}
 use lib.Seq.{take-at}
-use borrow.Author.Tests.{eqb-true, eqb-false, eq-eqb, ne-eqb}
 use Rattle.wire.specs.Copies.{sameNumbers}
 use Rattle.wire.specs.Items.{joined}
 use Rattle.wire.proofs.Laws.Copies.{same-refl}
 use Rattle.wire.proofs.Laws.Pieces.{Wide, wide-both, cut-back}
 use Rattle.transport.specs.declared.Answer.the-variants as answer
 use Rattle.transport.specs.Packet.{packetLength, packetRefusal}
-use Rattle.transport.specs.Feed.{State, Fed, fresh, fed, stateAfter, handedOn, packetsIn}
-use Rattle.transport.specs.State.{stateLength, handAt, mostInHand, heldIn, stateIn, stateGood, isUntouched}
+use Rattle.transport.specs.Feed.{State, fresh, fed, stateAfter, handedOn, packetsIn}
+use Rattle.transport.specs.State.{stateLength, handAt, mostInHand, stateIn, stateGood}
 use Rattle.transport.specs.Calls.{lentRefusal, nextState, feedOutcome, feedState, statesOver, gatheredPackets, gatherState}
 use Rattle.transport.specs.Grouped.{PacketCall, one, many, wentThrough, gave, leftBy, allThrough, allGiven, leftLast}
 use Rattle.transport.proofs.Laws.Feeding.{state-both, sections-both, refused-away}
-use Rattle.transport.proofs.Laws.States.{next-good, next-says, good-untouched, good-says, untouched-says}
-use Rattle.transport.proofs.Laws.Calls.{one-section, one-after}
+use Rattle.transport.proofs.Laws.States.{next-good, next-says, good-untouched, untouched-says}
+use Rattle.transport.proofs.Laws.Calls.{one-section}
 
 -- a good state stays good, and says what the packets make of it
 module _ (pid : ℕ) where

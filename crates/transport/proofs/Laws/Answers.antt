@@ -1,22 +1,20 @@
 -- ONE PACKET'S ANSWER, STATE AND BUFFER, by the code's four ways.
 use Prim.Native.Nat.{ℕ}
-use mathlib.Core.Path.{_≡_, refl, sym, ap, ap₂, _∙_}
-use mathlib.Core.Bool.{Bool, true, false, cond}
-use mathlib.Core.List.{List, []}
+use mathlib.Core.Path.{_≡_, refl, sym, ap, _∙_}
+use mathlib.Core.List.{List}
 use lib.ListN.{length}
-use borrow.Author.Tests.{eq-eqb}
 use Rattle.wire.specs.Items.{joined}
 use Rattle.wire.specs.Pieces.{laidFirst}
 use Rattle.transport.specs.declared.Answer.{Answer}
 use Rattle.transport.specs.declared.Answer.the-variants as answer
 use Rattle.transport.specs.declared.Handed.{Handed}
-use Rattle.transport.specs.Packet.{packetRefusal, viewOf}
-use Rattle.transport.specs.Feed.{Fed, isRepeat, inStep, keptHand, handsOn, leaves, takenBy, passedOver, fed}
-use Rattle.transport.specs.State.{lastIn, handIn, stateIn, stateBytes}
+use Rattle.transport.specs.Packet.{packetRefusal}
+use Rattle.transport.specs.Feed.{Fed, passedOver, fed}
+use Rattle.transport.specs.State.{lastIn, stateIn}
 use Rattle.transport.specs.Calls.{nextState}
-use Rattle.transport.proofs.Laws.Feeding.{fed-refused, fed-repeat, fed-taken}
+use Rattle.transport.proofs.Laws.Feeding.{fed-refused}
 use Rattle.transport.proofs.Laws.Hands.{none-long, none-laid}
-use Rattle.transport.proofs.Laws.States.{refused-stays, repeat-stays, taken-left}
+use Rattle.transport.proofs.Laws.States.{refused-stays}
 
 -- what is answered of an outcome
 abbrev pub handedBy : Fed → Handed

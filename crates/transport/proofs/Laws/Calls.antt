@@ -1,25 +1,22 @@
 -- THE CALLS' ANSWERS, from the facts that code learns; and a stretch, one packet after another.
-use Prim.Native.Nat.{ℕ, zero, suc, _+_, _-_, _≤_, _<_, min}
+use Prim.Native.Nat.{ℕ, suc, _+_, _-_, _≤_, _<_, min}
 use mathlib.Core.Path.{_≡_, refl, sym, ap, ap₂, subst, _∙_}
 use mathlib.Core.Bool.{Bool, true, false, not, cond}
 use mathlib.Core.List.{List, [], _∷_, _++_, append-assoc}
 use native.Mathlib.Omega.{arith}
-use lib.Dec.{eqb, leb, ltb}
+use lib.Dec.{eqb, ltb}
 use lib.ListN.{length, take, drop, length-append, length-drop, length-take, drop-of-length-le}
-use lib.Seq.{take-at, take-length, drop-drop}
-use borrow.Author.Tests.{eq-eqb, ne-eqb, eqb-true, lt-ltb, le-ltb, ltb-false, leb-true, leb-false}
-use borrow.Rule.Slice.PartMut.{putMid}
+use lib.Seq.{take-at, take-length}
+use borrow.Author.Tests.{eq-eqb, ne-eqb, eqb-true, lt-ltb, le-ltb, ltb-false}
 use Rattle.wire.specs.Items.{joined}
-use Rattle.wire.specs.Pieces.{cut, laidFirst}
+use Rattle.wire.specs.Pieces.{laidFirst}
 use Rattle.wire.specs.Tests.{firstMet}
 use Rattle.wire.proofs.Laws.Meaning.{append-nil, joined-both}
 use Rattle.wire.proofs.Laws.Pieces.{cut-none, cut-step, next-rest}
-use Rattle.wire.proofs.Laws.Tests.{clash}
 use Rattle.transport.specs.declared.Answer.{Answer}
 use Rattle.transport.specs.declared.Answer.the-variants as answer
 use Rattle.transport.specs.declared.Handed.{Handed}
 use Rattle.transport.specs.declared.Counts.{Counts}
-use Rattle.transport.specs.declared.Gathered.{Gathered}
 use Rattle.transport.specs.Packet.{packetLength}
 use Rattle.transport.specs.Feed.{State, Fed, fed, stateAfter, handedOn, answersOf, packetsIn, stateRuled}
 use Rattle.transport.specs.State.{stateIn, stateGood}
@@ -30,8 +27,8 @@ use Rattle.transport.specs.Pieces.{countedWith, countedAs, Countable, mo
 use Rattle.transport.proofs.Laws.Feeding.{state-both, sections-both, answers-both}
 use Rattle.transport.proofs.Laws.Hands.{none-long, none-laid}
 use Rattle.transport.proofs.Laws.Rule.{room, fed-ruled}
-use Rattle.transport.proofs.Laws.States.{good-says, next-good, next-says, next-long}
-use Rattle.transport.proofs.Laws.Taking.{put-behind, laid-behind}
+use Rattle.transport.proofs.Laws.States.{good-says, next-good, next-says}
+use Rattle.transport.proofs.Laws.Taking.{laid-behind}
 use Rattle.transport.proofs.Laws.Answers.{handedBy}
 use Rattle.transport.proofs.Laws.Judged.{one-counted}
 

@@ -1,12 +1,12 @@
 -- THE SECTION IN HAND with more bytes, and the whole sections that bytes begin with.
-use Prim.Native.Nat.{ℕ, zero, suc, _+_, _-_, _*_, _%_, _≤_, _<_}
+use Prim.Native.Nat.{ℕ, _+_, _-_, _*_, _%_, _≤_, _<_}
 use mathlib.Core.Path.{_≡_, refl, sym, ap, ap₂, _∙_}
-use mathlib.Core.Bool.{Bool, true, false, not, cond, _||_, or-true}
+use mathlib.Core.Bool.{true, false, not, cond, _||_, or-true}
 use mathlib.Core.List.{List, [], _∷_, _++_, append-assoc}
 use native.Mathlib.Omega.{arith}
 use lib.Dec.{eqb}
-use lib.ListN.{length, take, drop, length-append, length-drop, List·getD-append}
-use lib.Seq.{length-take-le, take-at, drop-at, drop-drop, take-append-le, take-append-add, drop-append-add, getD-append-add, drop-length}
+use lib.ListN.{length, take, drop, length-append, length-drop}
+use lib.Seq.{length-take-le, take-at, drop-drop, take-append-le, take-append-add, drop-append-add, getD-append-add}
 use borrow.Author.Tests.{eq-eqb, ne-eqb}
 use Rattle.wire.specs.Copies.{overwrite, laidAt}
 use Rattle.wire.specs.Fields.{byteAt, fieldAt}

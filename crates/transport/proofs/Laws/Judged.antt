@@ -1,7 +1,7 @@
 -- WHAT BECOMES OF A PACKET, by the last one.
 use Prim.Native.Nat.{ℕ, _+_, _-_, _%_, _≤_, _<_}
 use mathlib.Core.Path.{_≡_, refl, sym, ap, subst, _∙_}
-use mathlib.Core.Bool.{Bool, true, false, not, cond, _&&_, _||_}
+use mathlib.Core.Bool.{Bool, true, false, not, cond}
 use mathlib.Core.List.{List, [], _∷_}
 use native.Mathlib.Omega.{arith}
 use lib.Dec.{eqb}
@@ -9,7 +9,6 @@ use lib.ListN.{length, take, drop, length-drop, length-take}
 use borrow.Author.Tests.{eq-eqb, ne-eqb, eqb-true, eqb-false, lt-ltb, le-ltb}
 use Rattle.wire.specs.Copies.{sameNumbers}
 use Rattle.wire.specs.Fields.{byteAt}
-use Rattle.wire.specs.Pieces.{isNone}
 use Rattle.wire.specs.Tests.{firstMet}
 use Rattle.wire.proofs.Laws.Copies.{same-is}
 use Rattle.wire.proofs.Laws.Tests.{clash}

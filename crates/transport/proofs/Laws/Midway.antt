@@ -1,6 +1,6 @@
 -- IN THE MIDDLE OF A STRETCH: what the state's bytes are to be, and one packet more.
 use Prim.Native.Nat.{ℕ, _+_, _-_, _≤_, _<_}
-use mathlib.Core.Path.{_≡_, refl, sym, ap, ap₂, subst, _∙_}
+use mathlib.Core.Path.{_≡_, refl, sym, ap, ap₂, _∙_}
 use mathlib.Core.Bool.{Bool, true, false, cond}
 use mathlib.Core.List.{List, [], _∷_, _++_, append-assoc}
 use native.Mathlib.Omega.{arith}
@@ -17,7 +17,7 @@ use Rattle.wire.proofs.Laws.Tests.{clash}
 use Rattle.transport.specs.declared.Answer.{Answer}
 use Rattle.transport.specs.declared.Answer.the-variants as answer
 use Rattle.transport.specs.Packet.{packetLength, packetRefusal, viewOf}
-use Rattle.transport.specs.Feed.{State, Fed, isHead, isRepeat, inStep, keptHand, handsOn, leaves, takenBy, passedOver, fed}
+use Rattle.transport.specs.Feed.{State, Fed, isHead, inStep, keptHand, handsOn, leaves, takenBy, fed}
 use Rattle.transport.specs.State.{handAt, stateLength, lastIn, heldIn, handIn, stateIn, stateBytes, stateGood}
 use Rattle.transport.specs.Calls.{isTaken, isBroken, nextState}
 use Rattle.transport.specs.Pieces.{judged, lastSeen, withLast, midway, Midway, Stepped, Plain}
@@ -28,7 +28,7 @@ use Rattle.transport.proofs.Laws.States.{Good, good-says, hand-said, la
 use Rattle.transport.proofs.Laws.Answers.{last-said}
 use Rattle.transport.proofs.Laws.Taking.{left-grown}
 use Rattle.transport.proofs.Laws.Plain.{plain-judged, plain-hands, plain-leaves, plain-long}
-use Rattle.transport.proofs.Laws.Judged.{inside, last-in, last-past, last-some, judged-answer, Taken, NotTaken, is-taken, not-taken}
+use Rattle.transport.proofs.Laws.Judged.{inside, last-in, last-past, last-some, judged-answer, Taken, is-taken, not-taken}
 
 -- a packet before the rest, in its parts
 module _ (p s : List ℕ) (n : ℕ) (e : length p ≡ packetLength) where

@@ -1,5 +1,5 @@
 -- A PACKET'S REFUSAL AND ITS PARTS, from the facts that code learns on its ways.
-use Prim.Native.Nat.{ℕ, zero, suc, _+_, _-_, _/_, _%_, _≤_, _<_}
+use Prim.Native.Nat.{ℕ, zero, suc, _+_, _-_, _≤_, _<_}
 use mathlib.Core.Path.{_≡_, refl, sym, ap, ap₂, _∙_}
 use mathlib.Core.Bool.{Bool, true, false, not, cond, _&&_, _||_, or-true}
 use mathlib.Core.List.{List, [], _∷_}
@@ -7,10 +7,10 @@ use native.Mathlib.Omega.{arith}
 use lib.Dec.{eqb, leb, ltb}
 use lib.ListN.{length, take, drop, length-drop}
 use lib.Seq.{drop-drop, drop-length, take-all}
-use borrow.Author.Tests.{eq-eqb, ne-eqb, eqb-true, eqb-false, lt-ltb, le-ltb, ltb-false, leb-false, not-false}
+use borrow.Author.Tests.{eq-eqb, ne-eqb, lt-ltb, le-ltb, ltb-false, leb-false}
 use Rattle.wire.specs.Fields.{byteAt}
 use Rattle.wire.specs.Tests.{firstMet}
-use Rattle.wire.proofs.Laws.Tests.{neither, clash}
+use Rattle.wire.proofs.Laws.Tests.{neither}
 use Rattle.transport.specs.Packet.{errorOf, scramblingOf, pidOf, unitStartOf, hasField, hasPayload, payloadAt, payloadIn, isStart, fieldPast, pointerPast, isFaulty, packetRefusal, viewOf}
 
 -- one of five tests

@@ -1,20 +1,19 @@
 -- A PLAIN PACKET is taken, hands nothing on, and all it brings stays in hand.
-use Prim.Native.Nat.{ℕ, _+_, _*_, _/_, _%_, _≤_, _<_}
-use mathlib.Core.Path.{_≡_, refl, sym, ap, ap₂, _∙_}
+use Prim.Native.Nat.{ℕ, _+_, _/_, _%_, _<_}
+use mathlib.Core.Path.{_≡_, sym, ap, ap₂, _∙_}
 use mathlib.Core.Bool.{Bool, true, false, not, cond, _&&_}
 use mathlib.Core.List.{List, [], _++_}
 use native.Mathlib.Omega.{arith}
-use lib.Dec.{eqb, leb}
+use lib.Dec.{leb}
 use lib.ListN.{length, take, drop, length-append, length-drop, List·getD-append}
 use borrow.Author.Tests.{eq-eqb, ne-eqb}
-use Rattle.wire.specs.Copies.{sameNumbers, laidAt}
-use Rattle.wire.specs.Fields.{byteAt, fieldAt, sixteenAt, bits}
+use Rattle.wire.specs.Fields.{byteAt, fieldAt, bits}
 use Rattle.wire.specs.Items.{joined}
-use Rattle.section.specs.Whole.{saidLength, wholeAt}
+use Rattle.section.specs.Whole.{wholeAt}
 use Rattle.section.proofs.Laws.Whole.{whole-short}
 use Rattle.transport.specs.declared.Answer.the-variants as answer
 use Rattle.transport.specs.Packet.{packetLength, errorOf, unitStartOf, pidOf, scramblingOf, hasField, hasPayload, counterOf, payloadAt, payloadIn, isStart, isFaulty, packetRefusal, viewOf}
-use Rattle.transport.specs.Feed.{weight, ended, grown, handsOn, leaves}
+use Rattle.transport.specs.Feed.{ended, grown, handsOn, leaves}
 use Rattle.transport.specs.Pieces.{judged, Plain}
 use Rattle.transport.proofs.Laws.Packets.{faulty-pointer, not-refused}
 use Rattle.transport.proofs.Laws.Hands.{ended-short, none-long}

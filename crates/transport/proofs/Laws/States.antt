@@ -1,14 +1,13 @@
 -- THE STATE'S BYTES: what a good state says, and that what a taken packet leaves is good and says what it should.
-use Prim.Native.Nat.{ℕ, suc, _+_, _^_, _%_, _≤_, _<_}
+use Prim.Native.Nat.{ℕ, _+_, _≤_, _<_}
 use mathlib.Core.Path.{_≡_, refl, sym, ap, ap₂, _∙_}
 use mathlib.Core.Bool.{Bool, true, false, not, cond, _&&_}
 use mathlib.Core.List.{List, [], _∷_, _++_, append-assoc}
 use native.Mathlib.Omega.{arith}
 use lib.Dec.{eqb, leb}
-use lib.ListN.{length, take, drop, replicate, length-append, length-drop, take-append-drop}
+use lib.ListN.{length, take, drop, replicate, length-append, length-drop}
 use lib.Seq.{length-take-le, take-at, drop-at, drop-drop}
 use borrow.Author.Tests.{eq-eqb, ne-eqb, eqb-true, eqb-false, le-leb, lt-leb, leb-true}
-use Rattle.wire.specs.Copies.{sameNumbers}
 use Rattle.wire.specs.Fields.{byteAt, fieldAt, sixteenAt, spelled}
 use Rattle.wire.specs.Pieces.{isNone, laidFirst}
 use Rattle.wire.specs.Tests.{firstMet}
@@ -17,8 +16,8 @@ use Rattle.wire.proofs.Laws.Fields.{field-drop, field-take, spelled-length, spe
 use Rattle.wire.proofs.Laws.Tests.{both}
 use Rattle.section.specs.Whole.{wholeAt}
 use Rattle.transport.specs.Packet.{packetLength, packetRefusal, pidOf, isFaulty, viewOf}
-use Rattle.transport.specs.Feed.{State, Fed, isHead, isRepeat, keptHand, takenBy, fed, stateRuled}
-use Rattle.transport.specs.State.{mostInHand, handAt, stateLength, lastIn, heldIn, handIn, stateIn, stateBytes, isUntouched, isLeft, stateGood}
+use Rattle.transport.specs.Feed.{Fed, isHead, isRepeat, keptHand, takenBy, fed, stateRuled}
+use Rattle.transport.specs.State.{mostInHand, handAt, stateLength, heldIn, handIn, stateIn, stateBytes, isUntouched, isLeft, stateGood}
 use Rattle.transport.specs.Calls.{nextState}
 use Rattle.transport.proofs.Laws.Feeding.{fed-refused, fed-repeat, fed-taken, not-none}
 use Rattle.transport.proofs.Laws.Rule.{full, hand-most, ruled-head, leaves-head, kept-head}

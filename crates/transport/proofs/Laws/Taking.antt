@@ -1,15 +1,15 @@
 -- WHAT THE CODE LEAVES in the state and in the buffer, from the facts that it learns on its ways.
-use Prim.Native.Nat.{ℕ, suc, _+_, _-_, _/_, _%_, _≤_, _<_}
+use Prim.Native.Nat.{ℕ, _+_, _-_, _/_, _%_, _≤_, _<_}
 use mathlib.Core.Path.{_≡_, refl, sym, ap, ap₂, _∙_}
-use mathlib.Core.Bool.{Bool, true, false, not, cond, _&&_, _||_}
+use mathlib.Core.Bool.{Bool, true, false, not, cond, _||_}
 use mathlib.Core.List.{List, [], _∷_, _++_, append-assoc}
 use native.Mathlib.Omega.{arith}
 use lib.Dec.{eqb}
-use lib.ListN.{length, take, drop, set, length-append, length-drop, take-append-drop, length-set}
+use lib.ListN.{length, take, drop, set, length-append, length-drop, take-append-drop}
 use lib.Seq.{length-take-le, take-at, drop-at, drop-drop, drop-length, drop-append-le, sets-eq}
 use borrow.Rule.Slice.PartMut.{putMid}
 use borrow.Author.Tests.{eq-eqb, ne-eqb, eqb-false}
-use Rattle.wire.specs.Copies.{sameNumbers, overwrite, laidAt}
+use Rattle.wire.specs.Copies.{overwrite, laidAt}
 use Rattle.wire.specs.Fields.{byteAt, spelled}
 use Rattle.wire.specs.Items.{items, joined}
 use Rattle.wire.specs.Pieces.{isNone, laidFirst}
@@ -19,10 +19,10 @@ use Rattle.wire.proofs.Laws.Meaning.{append-nil, joined-both}
 use Rattle.wire.proofs.Laws.Steps.{covers}
 use Rattle.section.specs.Whole.{wholeAt}
 use Rattle.section.proofs.Laws.Whole.{section-kind}
-use Rattle.transport.specs.Packet.{View, packetLength, counterOf, hasPayload, viewOf}
-use Rattle.transport.specs.Feed.{State, leftOf, headIn, ended, grown, handsOn, leaves, isRepeat, weight, inStep}
-use Rattle.transport.specs.State.{handAt, stateLength, lastIn, stateIn, stateBytes}
-use Rattle.transport.proofs.Laws.Hands.{ended-whole, one-long, none-long}
+use Rattle.transport.specs.Packet.{View, packetLength, hasPayload, viewOf}
+use Rattle.transport.specs.Feed.{leftOf, headIn, ended, grown, handsOn, leaves, weight}
+use Rattle.transport.specs.State.{handAt, stateLength, stateBytes}
+use Rattle.transport.proofs.Laws.Hands.{ended-whole, one-long}
 use Rattle.transport.proofs.Laws.States.{laid-parts}
 
 -- how far a packet turns the counter

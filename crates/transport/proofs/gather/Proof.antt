@@ -1,5 +1,5 @@
 -- `transport::gather` meets its contract: refused for what is lent, or all packets passed.
-use mathlib.Core.Path.{sym, ap, _∙_}
+use mathlib.Core.Path.{ap, _∙_}
 use borrow.Author.Needs.{needs}
 use Rattle.transport.specs.declared.Counts.{Counts}
 use Rattle.transport.proofs.Laws.Calls.{gather-refused}

@@ -1,7 +1,5 @@
 -- `transport::hand::byte_of_both` meets its contract: a byte of the first part, or of the second.
-use Prim.Native.Nat.{ℕ}
 use mathlib.Core.Path.{sym, _∙_}
-use native.Mathlib.Omega.{arith}
 use lib.ListN.{List·getD-append}
 use borrow.Author.Needs.{needs}
 use Rattle.transport.proofs.Laws.Hands.{byte-second}

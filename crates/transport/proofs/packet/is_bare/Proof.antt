@@ -1,5 +1,5 @@
 -- `transport::packet::is_bare` meets its contract.
-use mathlib.Core.Path.{sym, ap, ap₂, _∙_}
+use mathlib.Core.Path.{sym, ap, _∙_}
 use mathlib.Core.Bool.{Bool, not, _&&_}
 use Rattle.transport.specs.Packet.{hasPayload}
 use borrow.Author.Needs.{needs}

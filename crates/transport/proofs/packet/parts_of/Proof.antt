@@ -1,13 +1,13 @@
 -- `transport::packet::parts_of` meets its contract: no payload, one that goes on, one in which a section begins.
 use Prim.Native.Nat.{ℕ, _+_, _≤_}
-use mathlib.Core.Path.{_≡_, sym, ap, ap₂, subst, _∙_}
-use mathlib.Core.Bool.{Bool, true, false}
+use mathlib.Core.Path.{_≡_, sym, ap, subst, _∙_}
+use mathlib.Core.Bool.{true, false}
 use mathlib.Core.List.{List}
 use native.Mathlib.Omega.{arith}
 use lib.ListN.{length}
 use borrow.Author.Tests.{not-true, not-false}
 use Rattle.wire.specs.Fields.{byteAt}
-use Rattle.transport.specs.Packet.{hasPayload, isStart, payloadAt}
+use Rattle.transport.specs.Packet.{hasPayload, payloadAt}
 use Rattle.transport.proofs.Laws.Packets.{Lies, lies-idle, lies-on, lies-start, payload-inside}
 use borrow.Author.Needs.{needs}
 use Rattle.transport.proofs.packet.parts_of.Statement.{statement}

@@ -1,9 +1,9 @@
 -- `transport::state::is_good` meets its contract: the tests, one after another.
-use Prim.Native.Nat.{ℕ, _+_, _-_, _≤_}
+use Prim.Native.Nat.{ℕ, _+_, _-_}
 use mathlib.Core.Path.{_≡_, sym, ap, _∙_}
 use mathlib.Core.List.{List}
 use native.Mathlib.Omega.{arith}
-use lib.ListN.{length, take, drop}
+use lib.ListN.{take, drop}
 use lib.Seq.{length-take-le}
 use Rattle.wire.specs.Fields.{byteAt}
 use Rattle.transport.specs.Packet.{packetLength, packetRefusal}

@@ -2,7 +2,6 @@
 use Prim.Native.Nat.{ℕ, _/_, _%_}
 use mathlib.Core.Path.{ap, _∙_}
 use mathlib.Core.List.{List}
-use native.Mathlib.Omega.{arith}
 use lib.ListN.{set}
 use Rattle.transport.proofs.Laws.Taking.{kept-bytes}
 use borrow.Author.Needs.{needs}

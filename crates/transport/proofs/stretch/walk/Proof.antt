@@ -4,7 +4,6 @@ use mathlib.Core.Path.{_≡_, refl, sym, ap, subst, subst₂, _∙_}
 use mathlib.Core.List.{List, _++_}
 use native.Mathlib.Omega.{arith}
 use lib.ListN.{length, take, drop, length-drop}
-use lib.Seq.{length-take-le}
 use Rattle.wire.specs.Items.{joined}
 use Rattle.wire.specs.Pieces.{laidFirst}
 use Rattle.wire.proofs.Laws.Loops.{tail}

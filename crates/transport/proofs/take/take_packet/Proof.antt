@@ -5,7 +5,7 @@ use mathlib.Core.List.{List}
 use native.Mathlib.Omega.{arith}
 use lib.ListN.{length, take, drop}
 use borrow.Author.Needs.{needs}
-use borrow.Author.Tests.{not-true, not-false}
+use borrow.Author.Tests.{not-false}
 use Rattle.wire.specs.Copies.{laidAt}
 use Rattle.wire.proofs.Laws.Loops.{tail}
 use Rattle.transport.specs.declared.Answer.the-variants as answer

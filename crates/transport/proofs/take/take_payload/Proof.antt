@@ -1,7 +1,6 @@
 -- `transport::take::take_payload` meets its contract: no payload; a packet in which sections begin; or one that goes on with the section in hand.
-use Prim.Native.Nat.{ℕ, _+_, _-_, _≤_, _<_}
-use mathlib.Core.Path.{_≡_, refl, sym, ap, ap₂, subst, _∙_}
-use mathlib.Core.Bool.{Bool, true, false}
+use Prim.Native.Nat.{ℕ, _+_, _-_, _≤_}
+use mathlib.Core.Path.{_≡_, sym, ap, ap₂, _∙_}
 use mathlib.Core.List.{List}
 use native.Mathlib.Omega.{arith}
 use lib.ListN.{length, take, drop, length-append, length-drop}
@@ -12,7 +11,7 @@ use Rattle.wire.specs.Pieces.{laidFirst}
 use Rattle.wire.proofs.Laws.Loops.{tail}
 use Rattle.section.specs.Whole.{wholeAt}
 use Rattle.transport.specs.Packet.{View, viewOf}
-use Rattle.transport.specs.Feed.{isHead, ended, grown, headIn, handsOn, leaves}
+use Rattle.transport.specs.Feed.{isHead, ended, grown, headIn, leaves}
 use Rattle.transport.specs.State.{handAt, stateBytes}
 use Rattle.transport.proofs.Laws.Hands.{none-long, none-laid}
 use Rattle.transport.proofs.Laws.Rule.{brings-most, ended-most, items-most}
