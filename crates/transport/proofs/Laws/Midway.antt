@@ -28,7 +28,7 @@ use Rattle.transport.proofs.Laws.States.{Good, good-says, hand-said, la
 use Rattle.transport.proofs.Laws.Answers.{last-said}
 use Rattle.transport.proofs.Laws.Taking.{left-grown}
 use Rattle.transport.proofs.Laws.Plain.{plain-judged, plain-hands, plain-leaves, plain-long}
-use Rattle.transport.proofs.Laws.Judged.{inside, last-in, last-past, last-some, judged-answer, Taken, is-taken, not-taken}
+use Rattle.transport.proofs.Laws.Judged.{last-in, last-past, last-some, judged-answer, Taken, is-taken, not-taken}
 
 -- a packet before the rest, in its parts
 module _ (p s : List ℕ) (n : ℕ) (e : length p ≡ packetLength) where
@@ -78,10 +78,6 @@ module _ (xs : List ℕ) (at held : ℕ) (s : List ℕ) where
 
     pub midway-full : at < length xs → length (take packetLength (drop at xs)) ≡ packetLength
     midway-full l = full pid _ (m .2 l)
-
-    -- the packet lies in the stretch
-    pub midway-inside : at < length xs → at + packetLength ≤ length xs
-    midway-inside l = inside xs at l (midway-full l)
 
     pub midway-after : drop handAt v ≡ drop handAt s
     midway-after = in-or-past _

@@ -221,16 +221,6 @@ module _ (pid : ℕ) (s p : List ℕ) (g : stateGood pid s ≡ true) where
           ∙ left-says pid p _ s z (head-left z) (good-says pid s g .long)
           ∙ sym (ap (λ (w : Fed). w .state) (fed-taken pid (stateIn s) p z f))
 
-  pub next-long : length (nextState pid s p) ≡ length s
-  next-long = go (eqb (packetRefusal pid p) 0) (isRepeat (stateIn s) p) refl refl
-    where
-      go : (t u : Bool) → eqb (packetRefusal pid p) 0 ≡ t → isRepeat (stateIn s) p ≡ u → length (nextState pid s p) ≡ length s
-      go false u e f = ap (λ (w : List ℕ). length w) (refused-stays pid s p (eqb-false (packetRefusal pid p) 0 e))
-      go true true e f = ap (λ (w : List ℕ). length w) (repeat-stays pid s p (eqb-true (packetRefusal pid p) 0 e) f)
-      go true false e f =
-          let z = eqb-true (packetRefusal pid p) 0 e in
-          ap (λ (w : List ℕ). length w) (taken-left pid s p z f) ∙ left-long pid p _ s z (head-left z) (good-says pid s g .long)
-
 -- A HEAD, and a good state, by the tests
 module _ (h : List ℕ) where
   pub head-none : length h ≡ 0 → isHead h ≡ true
