@@ -1,10 +1,8 @@
 -- THEOREM 1: each section of a rotation is accepted and is judged to be exactly that announcement or that block, field by field.
-use Prim.Native.Nat.{ℕ, _+_, _-_, _*_, _%_, _^_, _≤_, _<_}
+use Prim.Native.Nat.{ℕ, _+_, _-_, _*_, _%_, _^_, _≤_, _<_, min}
 use mathlib.Core.Path.{_≡_, refl, sym, ap, subst, _∙_}
-use mathlib.Core.Bool.{Bool, true, false, cond}
 use mathlib.Core.List.{List, map, map-map}
 use native.Mathlib.Omega.{arith}
-use lib.Dec.{ltb}
 use lib.ListN.{length, getD, drop, length-drop, length-map}
 use lib.Seq.{length-take-le}
 use Rattle.wire.specs.Fields.{fieldAt, spelled}
@@ -23,7 +21,7 @@ use Rattle.carousel_messages.proofs.Good.{announcement-says, block-says}
 use Rattle.carousel_record.specs.Record.{moduleAt, blockCount, blockLength}
 use Rattle.carousel_record.proofs.Laws.Blocks.{few, length-le, ends}
 use Rattle.carousel_record.proofs.Laws.Places.{size-most, module-fits}
-use Rattle.carousel_play.specs.Bytes.{messageBytes, listBytes, announcementBytes, startOf, blockData, carriedBytes, lesser, blockBytes}
+use Rattle.carousel_play.specs.Bytes.{messageBytes, listBytes, announcementBytes, startOf, blockData, carriedBytes, blockBytes}
 use Rattle.carousel_play.specs.Rotation.{Playable, Holding}
 use Rattle.carousel_play.proofs.Laws.Limits.{not-ten}
 use Rattle.carousel_play.proofs.Laws.Framing.{two, section-header, section-body, section-good, message-long, message-identifier, message-payload, message-good}
@@ -174,25 +172,21 @@ module _ (a : Announced) (ok : Playable a) (image : List ℕ) (holds : Holding a
   narrow : moduleAt a i .version % 32 < 32
   narrow = omega arith
 
-  last-above : b % 256 ≤ lesser 255 (blockCount a i - 1)
-  last-above = go (ltb 255 (blockCount a i - 1))
-    where
-      go : (t : Bool) → b % 256 ≤ cond t 255 (blockCount a i - 1)
-      go true = omega arith
-      go false = omega arith
+  last-above : b % 256 ≤ min 255 (blockCount a i - 1)
+  last-above = omega arith
 
   -- its header: the extension is the module's number, the section version its version mod 32 (what §6 asks), and the numbers as §13 has them
-  pub block-header : headerOf c ≡ record { table = blockTable; extension = moduleAt a i .number; version = moduleAt a i .version % 32; section = b % 256; last = lesser 255 (blockCount a i - 1) }
+  pub block-header : headerOf c ≡ record { table = blockTable; extension = moduleAt a i .number; version = moduleAt a i .version % 32; section = b % 256; last = min 255 (blockCount a i - 1) }
   unfolding blockBytes
-  block-header = section-header blockTable (moduleAt a i .number) (moduleAt a i .version % 32) (b % 256) (lesser 255 (blockCount a i - 1)) body (ok .number i there) narrow body-small
+  block-header = section-header blockTable (moduleAt a i .number) (moduleAt a i .version % 32) (b % 256) (min 255 (blockCount a i - 1)) body (ok .number i there) narrow body-small
 
   block-body : bodyOf c ≡ body
   unfolding blockBytes
-  block-body = section-body blockTable (moduleAt a i .number) (moduleAt a i .version % 32) (b % 256) (lesser 255 (blockCount a i - 1)) body (ok .number i there) narrow body-small
+  block-body = section-body blockTable (moduleAt a i .number) (moduleAt a i .version % 32) (b % 256) (min 255 (blockCount a i - 1)) body (ok .number i there) narrow body-small
 
   block-section : GoodSection Carousel c
   unfolding blockBytes
-  block-section = section-good blockTable (moduleAt a i .number) (moduleAt a i .version % 32) (b % 256) (lesser 255 (blockCount a i - 1)) body (ok .number i there) narrow body-small refl last-above
+  block-section = section-good blockTable (moduleAt a i .number) (moduleAt a i .version % 32) (b % 256) (min 255 (blockCount a i - 1)) body (ok .number i there) narrow body-small refl last-above
 
   block-payload : payloadOf (bodyOf c) ≡ p
   block-payload = ap payloadOf block-body ∙ message-payload Blocks (a .download) p payload-small

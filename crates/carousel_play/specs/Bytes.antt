@@ -1,9 +1,7 @@
 -- THE SECTIONS THAT SHORE WRITES, byte for byte. 02, §13; the fields and their widths are those of 01, "The section" and "The messages".
 -- `spelled n x` is x in n bytes, most significant first.
-use Prim.Native.Nat.{ℕ, _+_, _-_, _*_, _%_, _^_}
-use mathlib.Core.Bool.{cond}
+use Prim.Native.Nat.{ℕ, _+_, _-_, _*_, _%_, _^_, min}
 use mathlib.Core.List.{List, [], _∷_, _++_, map}
-use lib.Dec.{ltb}
 use lib.ListN.{length, getD, take, drop, replicate}
 use Rattle.wire.specs.Fields.{spelled}
 use Rattle.wire.specs.Items.{joined}
@@ -56,13 +54,9 @@ blockData a i b image = take (blockLength a i b) (drop (startOf a i + b * a .blo
 abbrev pub carriedBytes : (number version block : ℕ) → (bytes : List ℕ) → List ℕ
 carriedBytes n v b ds = spelled 2 n ++ (v ∷ 0xFF ∷ []) ++ spelled 2 b ++ ds
 
--- "whichever is less"
-abbrev pub lesser : (m n : ℕ) → ℕ
-lesser m n = cond (ltb m n) m n
-
 -- "A block's section version is its module version mod 32, its last section number 255 or the module's last block, whichever is less." By 01's 9 the extension is the module
 -- number and the section number the block number mod 256; the identifier is the downloadId.
 unfoldable pub blockBytes : Announced → (place block : ℕ) → (image : List ℕ) → List ℕ
 blockBytes a i b image =
-    sectionBytes blockTable (moduleAt a i .number) (moduleAt a i .version % 32) (b % 256) (lesser 255 (blockCount a i - 1))
+    sectionBytes blockTable (moduleAt a i .number) (moduleAt a i .version % 32) (b % 256) (min 255 (blockCount a i - 1))
     (messageBytes 0x1003 (a .download) (carriedBytes (moduleAt a i .number) (moduleAt a i .version) b (blockData a i b image)))

@@ -5,7 +5,6 @@ ghost use mathlib.Core.Path.{_≡_};
 ghost use Prim.Native.Nat.{_+_, _≤_, _<_};
 ghost use Rattle.carousel_messages.specs.Limits.{mostModules};
 ghost use Rattle.carousel_record.specs.Record.{blockCount};
-ghost use Rattle.carousel_play.specs.Bytes as bytes;
 ghost use Rattle.carousel_play.specs.Bytes.{startOf};
 ghost use Rattle.carousel_play.specs.Rotation.{blocksTo, sectionCount};
 ghost use Rattle.carousel_play.specs.Calls.{toPlay};
@@ -64,14 +63,4 @@ pub fn spot_at(p: Playlist, place: usize) -> Spot
         block: left,
         start: start,
     }
-}
-
-// Whichever is less.
-pub fn lesser(m: usize, n: usize) -> usize
-    ensures { λ r. ⌜ r ≡ bytes.lesser m n ⌝ }
-{
-    if m < n {
-        return m;
-    }
-    n
 }

@@ -1,5 +1,5 @@
 -- The block that a place chooses: how long it is, that it lies in the image, and that what is written for it is the section at that place.
-use Prim.Native.Nat.{ℕ, suc, _+_, _-_, _*_, _%_, _^_, _≤_, _<_}
+use Prim.Native.Nat.{ℕ, suc, _+_, _-_, _*_, _%_, _^_, _≤_, _<_, min}
 use mathlib.Core.Path.{_≡_, refl, sym, ap, _∙_}
 use mathlib.Core.Bool.{Bool, true, false}
 use mathlib.Core.List.{List}
@@ -7,7 +7,7 @@ use native.Mathlib.Omega.{arith}
 use lib.Dec.{ltb}
 use lib.ListN.{length, take, drop, length-drop}
 use lib.Seq.{length-take-le}
-use borrow.Author.Tests.{lt-ltb, le-ltb, ltb-true, ltb-false}
+use borrow.Author.Tests.{ltb-true, ltb-false}
 use Rattle.wire.specs.Fields.{spelled}
 use Rattle.section.specs.Header.{announcementTable, blockTable}
 use Rattle.carousel_messages.specs.declared.Listed.{Listed}
@@ -17,42 +17,30 @@ use Rattle.carousel_record.specs.Blocks.{blocksOf, blockLengthOf}
 use Rattle.carousel_record.specs.Record.{moduleAt, bytesOf, blockCount}
 use Rattle.carousel_record.proofs.Laws.Blocks.{covers, few, inner-length, last-length, begins, length-le, ends}
 use Rattle.carousel_record.proofs.Laws.Places.{block-size-pos, block-size-most, size-most, bytes-most, module-fits}
-use Rattle.carousel_play.specs.Bytes.{sectionBytes, messageBytes, listBytes, announcementBytes, carriedBytes, startOf, blockData, lesser, blockBytes}
+use Rattle.carousel_play.specs.Bytes.{sectionBytes, messageBytes, listBytes, announcementBytes, carriedBytes, startOf, blockData, blockBytes}
 use Rattle.carousel_play.specs.Rotation.{blocksTo, sectionAt}
 use Rattle.carousel_play.proofs.Laws.Places.{block-place}
 use Rattle.carousel_play.proofs.Laws.Framing.{section-long, message-long}
 use Rattle.carousel_play.proofs.Laws.Payload.{list-long}
 
--- which is less
-pub lesser-first : (m n : ℕ) → m < n → m ≡ lesser m n
-lesser-first m n h = rw (lt-ltb m n h)
-
-pub lesser-second : (m n : ℕ) → n ≤ m → n ≡ lesser m n
-lesser-second m n h = rw (le-ltb m n h)
-
-pub lesser-most : (m n : ℕ) → lesser m n ≤ m
-lesser-most m n = go (ltb m n) refl
-  where
-    go : (t : Bool) → ltb m n ≡ t → lesser m n ≤ m
-    go true e = rw e (omega arith)
-    go false e = rw e (ltb-false m n e)
-
 -- A BLOCK HAS blockSize BYTES OR WHAT IS LEFT, whichever is less
 module _ (bs z : ℕ) (some : 0 < bs) (b : ℕ) (one : b < blocksOf bs z) where
-  pub length-is : lesser bs (z - b * bs) ≡ blockLengthOf bs z b
+  pub length-is : min bs (z - b * bs) ≡ blockLengthOf bs z b
   length-is = go (ltb (suc b) (blocksOf bs z)) refl
     where
-      go : (t : Bool) → ltb (suc b) (blocksOf bs z) ≡ t → lesser bs (z - b * bs) ≡ blockLengthOf bs z b
+      go : (t : Bool) → ltb (suc b) (blocksOf bs z) ≡ t → min bs (z - b * bs) ≡ blockLengthOf bs z b
       go true e =
           let h = ltb-true (suc b) (blocksOf bs z) e in
           let k = begins bs z some (suc b) h in
-          sym (lesser-first bs (z - b * bs) (omega arith)) ∙ sym (inner-length bs z some b h)
+          let l = inner-length bs z some b h in
+          omega arith
       go false e =
           let h = ltb-false (suc b) (blocksOf bs z) e in
           let k = covers bs z some in
           let q : blocksOf bs z ≡ suc b = omega arith in
           let r : z ≤ suc b * bs = rw q at k in
-          sym (lesser-second bs (z - b * bs) (omega arith)) ∙ sym (last-length bs z some b h)
+          let l = last-length bs z some b h in
+          omega arith
 
 -- HOW LONG A SECTION IS
 pub carried-size : (n v b : ℕ) (ds : List ℕ) → length (carriedBytes n v b ds) ≡ 6 + length ds
@@ -120,7 +108,7 @@ module _ (a : Announced) (limits : beyond10 (a .blockSize) (sizesOf (a .modules)
 
   -- what code writes for it is the section at its place
   module _ (id : ℕ) (image : List ℕ) (place : ℕ) (q : place ≡ blocksTo a i + b) where
-    pub section-is : (last : ℕ) → last ≡ lesser 255 (blocksOf (a .blockSize) (m .size) - 1) → (ds : List ℕ)
+    pub section-is : (last : ℕ) → last ≡ min 255 (blocksOf (a .blockSize) (m .size) - 1) → (ds : List ℕ)
         → ds ≡ take (blockLengthOf (a .blockSize) (m .size) b) (drop (startOf a i + b * a .blockSize) image)
         → sectionBytes blockTable (m .number) (m .version % 32) (b % 256) last (messageBytes 0x1003 (a .download) (carriedBytes (m .number) (m .version) b ds))
         ≡ sectionAt id a image (1 + place)
@@ -134,5 +122,5 @@ module _ (a : Announced) (limits : beyond10 (a .blockSize) (sizesOf (a .modules)
         let ds : List ℕ = take n (drop (startOf a i + b * bs) image) in
         let w = chosen .inside in
         let l : length ds ≡ n = length-take-le n (drop (startOf a i + b * bs) image) (rw length-drop (omega arith)) in
-        sym (ap length (section-is (lesser 255 (blocksOf bs (m .size) - 1)) refl ds refl))
+        sym (ap length (section-is (min 255 (blocksOf bs (m .size) - 1)) refl ds refl))
         ∙ block-size blockTable _ _ _ _ 0x1003 _ _ _ _ ds ∙ ap (λ (k : ℕ). 30 + k) l

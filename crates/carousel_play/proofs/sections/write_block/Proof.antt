@@ -1,5 +1,5 @@
 -- `carousel_play::sections::write_block` meets its contract: the block that the place chooses lies in the image, and is put where there is room.
-use Prim.Native.Nat.{ℕ, _+_, _-_, _*_, _%_, _≤_, _<_}
+use Prim.Native.Nat.{ℕ, _+_, _-_, _*_, _%_, _≤_, _<_, min}
 use mathlib.Core.Path.{_≡_, ap, _∙_}
 use mathlib.Core.List.{List}
 use native.Mathlib.Omega.{arith}
@@ -11,11 +11,11 @@ use Rattle.carousel_messages.specs.Limits.{mostBytes}
 use Rattle.carousel_messages.specs.Heard.{Announced, noneListed}
 use Rattle.carousel_record.specs.Blocks.{blockLengthOf}
 use Rattle.carousel_record.specs.Record.{moduleAt}
-use Rattle.carousel_play.specs.Bytes.{sectionBytes, messageBytes, carriedBytes, lesser}
+use Rattle.carousel_play.specs.Bytes.{sectionBytes, messageBytes, carriedBytes}
 use Rattle.carousel_play.specs.Rotation.{sectionAt}
 use Rattle.carousel_play.specs.Calls.{toPlay}
 use Rattle.carousel_play.proofs.Laws.Spots.{played-count, entry-is}
-use Rattle.carousel_play.proofs.Laws.Chosen.{length-is, lesser-most, Chosen, chosen, section-is, section-size, cut, part-long}
+use Rattle.carousel_play.proofs.Laws.Chosen.{length-is, Chosen, chosen, section-is, section-size, cut, part-long}
 use Rattle.carousel_play.proofs.Laws.Refusals.{no-room, room}
 use borrow.Author.Needs.{needs}
 use Rattle.carousel_play.proofs.sections.write_block.Statement.{statement}
@@ -77,7 +77,7 @@ length-told c =
     let s = before-length c in
     let k = known s in
     let bs = start s .args .p .«block_size» in
-    let e : c .lesser .result ≡ lesser bs (m s .size - block s * bs) = c .lesser .ensures in
+    let e : c .lesser .result ≡ min bs (m s .size - block s * bs) = c .lesser .ensures in
     e ∙ length-is bs (m s .size) (k .some) (block s) (k .one)
 
 spot-at-requires : tie.Need-spot-at-requires
@@ -141,7 +141,7 @@ written : (c : tie.After-lesser2) → let s = before-length (length-of c) in let
 unfolding toPlay
 written c =
     let s = before-length (length-of c) in
-    let l = c .lesser2 .ensures ∙ ap (λ (n : ℕ). lesser 255 (n - 1)) (c .before .blocks-of .ensures .0) in
+    let l = c .lesser2 .ensures ∙ ap (λ (n : ℕ). min 255 (n - 1)) (c .before .blocks-of .ensures .0) in
     section-is (said s) (start s .pre .1) (s .spot-at .result .which) (block s) (there s) (s .spot-at .ensures .1) (m s) (is-module s) 0 (start s .args .image .now) (start s .args .place)
     (s .spot-at .ensures .2) (c .lesser2 .result) l (data-cut c) (cut _ _ _ _ _ _ (length-told (length-of c)) (s .spot-at .ensures .3))
 
@@ -156,7 +156,7 @@ cast-put-block : tie.Need-cast-put-block
 cast-put-block c = let k = known (before-length (length-of (c .before .before))) .below in omega arith
 
 cast-put-block-2 : tie.Need-cast-put-block-2
-cast-put-block-2 c = let l = c .before .before .lesser2 .ensures in let k = lesser-most 255 (c .before .before .before .blocks-of .result - 1) in omega arith
+cast-put-block-2 c = let l = c .before .before .lesser2 .ensures in omega arith
 
 sub-put-block : tie.Need-sub-put-block
 sub-put-block c = search needs
