@@ -4,6 +4,7 @@ use crate::arguments::MOST_SIXTEEN;
 use crate::arguments::value;
 use carousel_messages::Listed;
 use carousel_messages::MOST_MODULES;
+use wire::lesser;
 ghost use Prim.Native.Nat.{_+_, _*_, _^_, _≤_, _<_};
 ghost use lib.ListN.{length};
 
@@ -109,14 +110,4 @@ fn read_some(fd: i32, part: &mut [u8]) -> Came
         failed: got < 0,
         size: io::count(got, part),
     }
-}
-
-// Whichever is less.
-pub fn lesser(m: usize, n: usize) -> usize
-    ensures { λ r. ⌜ (r ≤ m) × (r ≤ n) ⌝ }
-{
-    if m < n {
-        return m;
-    }
-    n
 }
