@@ -16,8 +16,9 @@ use carousel_messages::MOST_MODULES;
 use carousel_play::Counted;
 use carousel_play::Played;
 use carousel_play::Playlist;
+use wire::lesser;
 ghost use mathlib.Core.Path.{_≡_};
-ghost use Prim.Native.Nat.{_≤_, _<_};
+ghost use Prim.Native.Nat.{_<_};
 ghost use lib.ListN.{length};
 
 // The bytes of a command before its modules, of a module, and after them.
@@ -188,14 +189,4 @@ fn digest(s: &[u8]) -> u32 {
 
 fn mixed(d: u32, b: u8) -> u32 {
     ((d as u64 * 16777619 + b as u64 + 1) % 4294967291) as u32
-}
-
-// Whichever is less.
-fn lesser(m: usize, n: usize) -> usize
-    ensures { λ r. ⌜ (r ≤ m) × (r ≤ n) ⌝ }
-{
-    if m < n {
-        return m;
-    }
-    n
 }

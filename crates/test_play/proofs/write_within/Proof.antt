@@ -32,7 +32,7 @@ array-borrow-prefix-out c = search needs
 
 slice-aggregate-print-write : tie.Need-slice-aggregate-print-write
 slice-aggregate-print-write c =
-    let l = c .before .before .lesser .ensures .1 in
+    let l = c .before .before .lesser .ensures in
     let m = c .before .marked .ensures in
     sym (length-take-le _ _ (omega (arith, l, m)))
 
