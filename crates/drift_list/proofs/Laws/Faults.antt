@@ -2,7 +2,7 @@
 use Prim.Native.Nat.{ℕ, zero, suc, _+_, _-_, _<_, _≤_}
 use mathlib.Core.Path.{_≡_, refl, sym, ap, _∙_}
 use mathlib.Core.Logic.{_⊎_, inl, inr, _↔_}
-use mathlib.Core.Bool.{Bool, true, false, not, cond, _||_}
+use mathlib.Core.Bool.{Bool, true, false, not, cond, or-true}
 use mathlib.Core.List.{_∷_}
 use native.Mathlib.Omega.{arith}
 use lib.Dec.{eqb, leb, ltb}
@@ -224,17 +224,13 @@ module _ (before : ℕ) (f : Fields) (spare : ℕ) where
   abbrev answer : ℕ
   answer = firstMet (fixTests before f spare)
 
-  or-true : (a b : Bool) → b ≡ true → (a || b) ≡ true
-  or-true true b e = refl
-  or-true false b e = e
-
   pub is31-longitude : between west east (f .longitude) ≡ false → 31 ≡ answer
   unfolding fixTests firstMet meets31
   is31-longitude e = rw e
 
   pub is31-latitude : between south north (f .latitude) ≡ false → 31 ≡ answer
   unfolding fixTests firstMet meets31
-  is31-latitude e = rw (or-true (not (between west east (f .longitude))) (not (between south north (f .latitude))) (ap not e))
+  is31-latitude e = rw (e, or-true (not (between west east (f .longitude))))
 
   module _ (x : between west east (f .longitude) ≡ true) (y : between south north (f .latitude) ≡ true) where
     in-ranges : meets31 f ≡ false
