@@ -23,6 +23,9 @@ pub const BLOCK_TABLE: u8 = 0x3C;
 // The byte that fills a stretch after its last section.
 pub const STUFFING: u8 = 0xFF;
 
+// The bytes of a section up to the end of its length.
+const UP_TO_LENGTH: usize = 3;
+
 // The largest lengths L: of an application section, and of a carousel section.
 pub const APPLICATION_LIMIT: usize = 1021;
 
@@ -81,13 +84,13 @@ pub fn check(s: &[u8], rules: Rules) -> Checked
 pub fn whole_at(s: &[u8]) -> usize
     ensures { λ r. ⌜ (r ≡ wholeAt (now (s .entry))) × (r ≤ length (now (s .entry))) ⌝ }
 {
-    if s.len() < 3 {
+    if s.len() < UP_TO_LENGTH {
         return 0;
     }
     if wire::byte_at(s, 0) == STUFFING {
         return 0;
     }
-    let n = 3 + wire::twelve_at(s, 1);
+    let n = UP_TO_LENGTH + wire::twelve_at(s, 1);
     if s.len() < n {
         return 0;
     }
