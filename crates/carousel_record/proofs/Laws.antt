@@ -6,4 +6,5 @@ pub mod Says
 pub mod Entries
 pub mod Words
 pub mod Rule
+pub mod Keeping
 pub mod Where

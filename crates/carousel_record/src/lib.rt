@@ -17,6 +17,7 @@ use entries::listed;
 pub use entries::numbers_of;
 pub use entries::place_in;
 pub use marks::MARK_WORDS;
+pub use marks::MODULE_WORDS;
 pub use marks::is_marked;
 pub use marks::set_mark;
 pub use rule::is_ruled;

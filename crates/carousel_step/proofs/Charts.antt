@@ -24,7 +24,8 @@ use Rattle.carousel_record.specs.Blocks.{blocksOf, blockLengthOf}
 use Rattle.carousel_record.specs.Marks.{isMarked}
 use Rattle.carousel_record.specs.Record.{announcedBy, startsBy, recordOf, blockAt, ruledOf}
 use Rattle.carousel_record.specs.Refusals.{meets13, meets15}
-use Rattle.carousel_record.specs.Changes.{emptyRecord, entries, madeAfresh, withMark}
+use Rattle.carousel_record.specs.Keeping.{sameAt, wordsKept, wordsFrom, marksKept}
+use Rattle.carousel_record.specs.Changes.{emptyRecord, entries, bareRecord, madeAfresh, withMark}
 use Rattle.carousel_record.proofs.Laws.Places.{some-modules}
 use Rattle.carousel_step.specs.declared.Answer.the-variants as answer
 use Rattle.carousel_step.specs.Step.{meets12, meets14, meets16, blockRefusal, sameModules, sameAnnounced, refusing, new, stored}
@@ -102,11 +103,11 @@ module _ (image : List ℕ) where
 
   last-stored : 1024 ≤ length image → outcomeOf charted block1023 image ≡ stored 1023 1023 (0x42 ∷ [])
   unfolding onHeard onArrived matched blockRefusal firstMet meets12 meets13 meets14 meets15 meets16 placeIn total blocksOf blockLengthOf blockAt
-      isMarked announcedBy startsBy madeAfresh emptyRecord entries
+      isMarked announcedBy startsBy madeAfresh bareRecord marksKept wordsFrom wordsKept sameAt emptyRecord entries
   last-stored h = comes charted block1023 image _ charted-ruled (hears-blocks .0) ∙ rw (le-ltb (length image) 1024 h)
 
   past-last : 1024 ≤ length image → outcomeOf charted block1024 image ≡ refusing (refused 16)
-  unfolding onHeard onArrived blockRefusal firstMet meets12 meets13 meets14 meets15 meets16 placeIn total blocksOf announcedBy madeAfresh emptyRecord entries
+  unfolding onHeard onArrived blockRefusal firstMet meets12 meets13 meets14 meets15 meets16 placeIn total blocksOf announcedBy madeAfresh bareRecord emptyRecord entries
   past-last h = comes charted block1024 image _ charted-ruled (hears-blocks .1) ∙ rw (le-ltb (length image) 1024 h)
 
   -- block 1,023 of a module of 1,024 blocks, section number 255, is stored, at its own place and under its own mark; block 1,024 gives 16
@@ -119,12 +120,12 @@ module _ (image : List ℕ) where
   widened-ruled = left-ruled emptyRecord wide image _ empty-ruled (first-new wide image _ (hears .4))
 
   too-wide : length image < 65537 → outcomeOf widened wideBlock image ≡ refusing (refused 15)
-  unfolding onHeard onArrived blockRefusal firstMet meets12 meets13 meets14 meets15 placeIn total announcedBy madeAfresh emptyRecord entries
+  unfolding onHeard onArrived blockRefusal firstMet meets12 meets13 meets14 meets15 placeIn total announcedBy madeAfresh bareRecord emptyRecord entries
   too-wide h = comes widened wideBlock image _ widened-ruled (hears-blocks .2) ∙ rw (lt-ltb (length image) 65537 h)
 
   wide-enough : 65537 ≤ length image → outcomeOf widened wideBlock image ≡ stored 0 0 (replicate 65 0x41)
   unfolding onHeard onArrived matched blockRefusal firstMet meets12 meets13 meets14 meets15 meets16 placeIn total blocksOf blockLengthOf blockAt
-      isMarked announcedBy startsBy madeAfresh emptyRecord entries
+      isMarked announcedBy startsBy madeAfresh bareRecord marksKept wordsFrom wordsKept sameAt emptyRecord entries
   wide-enough h = comes widened wideBlock image _ widened-ruled (hears-blocks .2) ∙ rw (le-ltb (length image) 65537 h)
 
   -- a size of 65,537 is announced; its block gives 15 in an image of 65,536 bytes, and is stored in one byte more

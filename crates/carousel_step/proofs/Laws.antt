@@ -2,3 +2,4 @@ pub mod Sames
 pub mod Images
 pub mod Afresh
 pub mod Outcomes
+pub mod Keeping

@@ -5,6 +5,7 @@ pub mod Held
 pub mod Matching
 pub mod Simulation
 pub mod Steps
+pub mod Renewed
 pub mod Exact
 pub mod Told
 pub mod Longest

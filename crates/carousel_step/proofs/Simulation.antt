@@ -18,14 +18,16 @@ use Rattle.carousel_messages.proofs.Laws.Heard.{heard-limits}
 use Rattle.carousel_record.specs.declared.Carousel.{Carousel}
 use Rattle.carousel_record.specs.Marks.{moduleWords, markWords}
 use Rattle.carousel_record.specs.Record.{Record, listedIn, startIn, announcedBy, startsBy, recordOf, placeOf, sums, withinLimits, ruled, unused, allUnused, ruledOf}
-use Rattle.carousel_record.specs.Changes.{emptyRecord, entries, madeAfresh, withMark, afresh, marking}
+use Rattle.carousel_record.specs.Keeping.{marksKept}
+use Rattle.carousel_record.specs.Changes.{emptyRecord, entries, bareRecord, madeAfresh, withMark, unmarked, afresh, marking}
 use Rattle.carousel_step.specs.Step.{blockRefusal, sameAnnounced, StepOutcome, refusing, new, same, repeated, stored, matched, onArrived}
 use Rattle.carousel_step.specs.Step.{onAnnounced, onHeard, outcomeOf, carouselAfter, recordAfter, steppedOf}
 use Rattle.carousel_step.proofs.Views.{isNew}
 use Rattle.carousel_record.proofs.Laws.Tests.{joint}
 use Rattle.carousel_record.proofs.Laws.Marks.{within-fresh}
 use Rattle.carousel_record.proofs.Laws.Places.{few-modules}
-use Rattle.carousel_record.proofs.Laws.Rule.{kept, keeps, fresh-kept, shaped, ruled-parts, parts-ruled}
+use Rattle.carousel_record.proofs.Laws.Rule.{kept, keeps, shaped, ruled-parts, parts-ruled}
+use Rattle.carousel_record.proofs.Laws.Keeping.{fresh-kept}
 use Rattle.carousel_step.proofs.Laws.Afresh.{entries-length}
 use Rattle.carousel_step.proofs.View.{fits, matched-fixed, arrived-old}
 
@@ -41,14 +43,18 @@ entries-starts s [] = refl
 entries-starts s (m ∷ ms) = ap (λ (l : List ℕ). s ∷ l) (entries-starts (s + m .size) ms)
 
 -- a record made afresh, and one with a mark set, say what they should
-pub says-afresh : (c : Carousel) (a : Announced) → recordOf (madeAfresh c a) ≡ afresh (recordOf c) a
-unfolding announcedBy startsBy madeAfresh afresh
-says-afresh c a =
+pub says-bare : (a : Announced) → recordOf (bareRecord a) ≡ unmarked a
+unfolding announcedBy startsBy bareRecord
+says-bare a =
     rw (
       take-at (entries 0 (a .modules)) (replicate (mostModules - length (a .modules)) unused) (length (a .modules)) (entries-length 0 (a .modules)),
       entries-listed 0 (a .modules),
       entries-starts 0 (a .modules),
     )
+
+pub says-afresh : (c : Carousel) (a : Announced) → recordOf (madeAfresh c a) ≡ afresh (recordOf c) a
+unfolding announcedBy startsBy madeAfresh afresh
+says-afresh c a = ap (λ (q : Record). record { announced = q .announced; starts = q .starts; marks = marksKept (recordOf c) q }) (says-bare a)
 
 pub says-marked : (c : Carousel) (k : ℕ) → recordOf (withMark c k) ≡ marking (recordOf c) k
 unfolding announcedBy startsBy withMark marking
@@ -74,7 +80,7 @@ unused-zero zero = refl
 unused-zero (suc n) = unused-zero n
 
 fresh-shaped : (c : Carousel) (a : Announced) → length (a .modules) ≤ mostModules → shaped (madeAfresh c a) ≡ true
-unfolding madeAfresh
+unfolding madeAfresh bareRecord
 fresh-shaped c a l =
     rw (
       le-leb (length (a .modules)) mostModules l,
@@ -117,7 +123,7 @@ rule-after r image (announced a) l e = go (sameAnnounced (r .announced) a)
   where
     go : (t : Bool) → ruled (recordAfter r (cond t same (new a))) ≡ true
     go true = e
-    go false = keeps _ (fresh-kept r a (l a refl .0) (l a refl .1))
+    go false = keeps _ (fresh-kept r e a (l a refl .0) (l a refl .1))
 rule-after r image (arrived d) l e = go (eqb (blockRefusal (r .announced) (length image) d) 0) refl
   where
     go : (t : Bool) → eqb (blockRefusal (r .announced) (length image) d) 0 ≡ t

@@ -19,7 +19,8 @@ use Rattle.carousel_step.specs.declared.Stepped.{Stepped}
 use Rattle.carousel_record.specs.Blocks.{blocksOf, blockLengthOf}
 use Rattle.carousel_record.specs.Marks.{markWords, isMarked, marksWith, clearAmong}
 use Rattle.carousel_record.specs.Record.{Record, announcedBy, startsBy, recordOf, sums, blockAt, missingOf, completeOf, withinLimits, ruledOf}
-use Rattle.carousel_record.specs.Changes.{emptyRecord, entries, madeAfresh, withMark, afresh, marking}
+use Rattle.carousel_record.specs.Keeping.{sameAt, wordsKept, wordsFrom, marksKept}
+use Rattle.carousel_record.specs.Changes.{emptyRecord, entries, bareRecord, madeAfresh, withMark, afresh, marking}
 use Rattle.carousel_step.specs.Step.{meets12, meets14, meets16, blockRefusal, bytesDiffer, sameModules, sameAnnounced, refusing, new, same, repeated, stored}
 use Rattle.carousel_record.specs.Refusals.{meets13, meets15}
 use Rattle.carousel_step.specs.Step.{matched, onArrived, onAnnounced, onHeard, outcomeOf, recordAfter, imageAfter, steppedOf, imageOf}
@@ -76,7 +77,7 @@ twice = recordAfter once (onHeard once onceImage copy)
 
 pub two-copies : (onHeard started (replicate 8 0) copy ≡ stored 0 0 (65 ∷ 66 ∷ 67 ∷ 68 ∷ [])) × (onHeard once onceImage copy ≡ repeated)
     × (completeOf twice 0 ≡ false) × (missingOf twice 0 ≡ 1 ∷ [])
-unfolding afresh sums blocksOf blockLengthOf onHeard onArrived matched blockRefusal firstMet meets12 meets13 meets14 meets15 meets16 placeIn total
+unfolding afresh marksKept wordsFrom wordsKept sameAt sums blocksOf blockLengthOf onHeard onArrived matched blockRefusal firstMet meets12 meets13 meets14 meets15 meets16 placeIn total
     blockAt bytesDiffer sameNumbers isMarked marksWith marking overwrite missingOf clearAmong
 two-copies = (refl, refl, refl, refl)
 
@@ -120,7 +121,7 @@ tells = stepped-is emptyRecord announcing image _ (comes emptyRecord announcing 
 
 carried-stored : onHeard (recordOf renewed) image (arrived carried) ≡ stored 0 0 (carried .bytes)
 unfolding onHeard onArrived matched blockRefusal firstMet meets12 meets13 meets14 meets15 meets16 placeIn total blocksOf blockLengthOf blockAt
-    isMarked announcedBy startsBy madeAfresh emptyRecord entries
+    isMarked announcedBy startsBy madeAfresh bareRecord marksKept wordsFrom wordsKept sameAt emptyRecord entries
 carried-stored = refl
 
 -- the step keeps the rule
@@ -141,16 +142,16 @@ holding-ruled = left-ruled renewed abcd image _ renewed-ruled stores
 
 carried-repeated : onHeard (recordOf holding) imaged (arrived carried) ≡ repeated
 unfolding onHeard onArrived matched blockRefusal firstMet meets12 meets13 meets14 meets15 meets16 placeIn total blocksOf blockLengthOf blockAt
-    isMarked announcedBy startsBy madeAfresh emptyRecord entries withMark marksWith bytesDiffer sameNumbers
+    isMarked announcedBy startsBy madeAfresh bareRecord marksKept wordsFrom wordsKept sameAt emptyRecord entries withMark marksWith bytesDiffer sameNumbers
 carried-repeated = refl
 
 told-same : onHeard (recordOf renewed) image (announced told) ≡ same
-unfolding onHeard onAnnounced sameAnnounced sameModules announcedBy madeAfresh emptyRecord entries
+unfolding onHeard onAnnounced sameAnnounced sameModules announcedBy madeAfresh bareRecord emptyRecord entries
 told-same = refl
 
 carried-other : onHeard (recordOf holding) image (arrived carried) ≡ refusing (refused 17)
 unfolding onHeard onArrived matched blockRefusal firstMet meets12 meets13 meets14 meets15 meets16 placeIn total blocksOf blockLengthOf blockAt
-    isMarked announcedBy startsBy madeAfresh emptyRecord entries withMark marksWith bytesDiffer sameNumbers
+    isMarked announcedBy startsBy madeAfresh bareRecord marksKept wordsFrom wordsKept sameAt emptyRecord entries withMark marksWith bytesDiffer sameNumbers
 carried-other = refl
 
 -- "new", "same", "stored" and "repeated", and what each leaves; and where the image has other bytes at a marked block's place, 17

@@ -1,6 +1,7 @@
 // An announcement, and the record.
 use crate::Answer;
 use crate::Stepped;
+use crate::keep::kept_marks;
 use carousel_messages::Announcement;
 use carousel_messages::Listed;
 use carousel_messages::MOST_MODULES;
@@ -17,7 +18,7 @@ ghost use lib.ListN.{length, take};
 ghost use Rattle.carousel_messages.specs.Limits.{mostModules, mostBytes, total};
 ghost use Rattle.carousel_messages.specs.Heard.{listOf, announcedIn, sizesOf};
 ghost use Rattle.carousel_record.specs.Record.{announcedBy, recordOf, listedIn};
-ghost use Rattle.carousel_record.specs.Changes.{madeAfresh};
+ghost use Rattle.carousel_record.specs.Changes.{bareRecord, madeAfresh};
 ghost use Rattle.carousel_step.specs.Step.{sameModules, sameAnnounced, onAnnounced, returning};
 
 // "Same", or "new" with the record made afresh. `list` is where the announced modules lie.
@@ -85,10 +86,21 @@ fn is_same_module(m: Module, l: Listed) -> bool
     m.version == l.version
 }
 
-// The record after a new announcement. Nothing of the old one stays.
+// The record after a new announcement: of the old one, the marks of modules that are the same stay.
 fn made_afresh(c: Carousel, a: Announcement, list: &[u8]) -> Carousel
-    requires { ⌜ (a .count ≤ mostModules) × (a .count ≡ length (listOf (now list))) × (total (sizesOf (listOf (now list))) ≤ mostBytes) ⌝ }
+    requires { ⌜ (c .count ≤ mostModules) × (a .count ≤ mostModules) × (a .count ≡ length (listOf (now list))) × (total (sizesOf (listOf (now list))) ≤ mostBytes) ⌝ }
     ensures { λ r. ⌜ r ≡ madeAfresh c (announcedIn a (now (list .entry))) ⌝ }
+{
+    let mut next = bare(a, list);
+    let marks = kept_marks(c, next);
+    next.marks = marks;
+    next
+}
+
+// The record of an announcement of which no block has come.
+fn bare(a: Announcement, list: &[u8]) -> Carousel
+    requires { ⌜ (a .count ≤ mostModules) × (a .count ≡ length (listOf (now list))) × (total (sizesOf (listOf (now list))) ≤ mostBytes) ⌝ }
+    ensures { λ r. ⌜ r ≡ bareRecord (announcedIn a (now (list .entry))) ⌝ }
 {
     let mut next = empty();
     next.download = a.download;

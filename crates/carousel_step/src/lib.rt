@@ -4,6 +4,7 @@
 // call trusts the record: one that breaks its rule is refused with 1.
 
 mod announce;
+mod keep;
 mod store;
 
 use announce::take_announcement;

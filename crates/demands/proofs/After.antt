@@ -1,34 +1,111 @@
--- What a run from a just accepted new announcement leaves of a module, block by block: the lemmas behind the statements of demand 3.
-use Prim.Native.Nat.{ℕ, _*_, _<_}
-use mathlib.Core.Path.{_≡_, refl, sym, ap, ap₂, _∙_}
+-- What a run leaves of a module that it keeps, block by block, from the announcement that emptied it: the lemmas behind the statements of demand 3.
+use Prim.Native.Nat.{ℕ, zero, suc, _+_, _*_, _<_}
+use mathlib.Core.Path.{_≡_, refl, sym, ap, _∙_}
 use mathlib.Core.Logic.{_↔_}
-use mathlib.Core.Bool.{Bool, true, false, not, cond}
-use mathlib.Core.List.{List, [], _∷_}
+use mathlib.Core.Bool.{Bool, true, false, cond, _&&_}
+use mathlib.Core.List.{List, [], _∷_, _++_}
 use native.Mathlib.Omega.{arith}
-use lib.Dec.{eqb}
-use lib.ListN.{length}
-use borrow.Author.Tests.{lt-ltb, le-ltb, not-false}
-use Rattle.wire.specs.Tests.{firstMet}
+use borrow.Author.Tests.{lt-ltb, le-ltb, ltb-true, ltb-false, not-false}
+use Rattle.wire.proofs.Laws.Tests.{clash}
 use Rattle.wire.proofs.Laws.Order.{none-exactly}
 use Rattle.carousel_messages.specs.Limits.{mostBlocks}
-use Rattle.carousel_messages.specs.Heard.{Announced, heardOf}
-use Rattle.carousel_record.specs.Marks.{clearAmong}
-use Rattle.carousel_record.specs.Record.{recordOf, moduleAt, placeOf, bytesOf, blockCount, received, missingOf, completeOf}
+use Rattle.carousel_record.specs.Marks.{isMarked, clearAmong}
+use Rattle.carousel_record.specs.Record.{Record, recordOf, moduleAt, received, missingOf, ruledOf}
+use Rattle.carousel_record.specs.Keeping.{placeFor, sameAt}
+use Rattle.carousel_record.specs.Changes.{afresh}
 use Rattle.carousel_record.specs.Refusals.{meets13, meets15}
+use Rattle.carousel_record.proofs.Laws.Places.{number-at, few-modules}
+use Rattle.carousel_record.proofs.Laws.Rule.{Kept, number-small, ruled-says}
+use Rattle.carousel_record.proofs.Laws.Keeping.{keeping-marks}
 use Rattle.carousel_handout.specs.Calls.{handoutTests, handoutNumber, handedOut}
-use Rattle.carousel_step.proofs.Views.{Slot, slot, hit}
-use Rattle.carousel_record.proofs.Laws.Blocks.{some-block}
-use Rattle.carousel_record.proofs.Laws.Places.{place-is, block-size-pos, size-pos}
-use Rattle.carousel_record.proofs.Laws.Rule.{Kept}
-use Rattle.carousel_step.proofs.View.{slot-marked}
-use Rattle.carousel_step.proofs.Matching.{matching-means}
 use Rattle.carousel_handout.proofs.Complete.{complete-means, handout-part}
-use Rattle.receiver.specs.Run.{Held, walk}
-use Rattle.demands.specs.Demand.{Begun, NoNew, told, modules, blocks, matches, sectionsFor, bytesIn, missingIn, isComplete, Came, firstData, joinedBlocks, RepeatsAgree, FoundIn}
-use Rattle.demands.proofs.Given.{saying, begun-ruled, begun-clear}
-use Rattle.demands.proofs.Lists.{joined-ext, clear-ext, some, some-holds, holds-some}
-use Rattle.demands.proofs.Alike.{part-slots, Alike, alike-sym, alike-trans}
-use Rattle.demands.proofs.Walks.{kept-in, Stays, walk-stays, walk-view, alone}
+use Rattle.carousel_step.specs.Step.{new}
+use Rattle.carousel_step.proofs.Views.{Held as Said, Slot, slot, hit}
+use Rattle.carousel_step.proofs.View.{slot-marked}
+use Rattle.carousel_step.proofs.Renewed.{afresh-told}
+use Rattle.receiver.specs.Run.{Held, given, walk}
+use Rattle.demands.specs.Demand.{fateOf, isNew, told, modules, place, Announces, blocks, matches, sectionData, HasRoom, Emptied, Keeps, bytesIn, missingIn, isComplete, Took, Matched, Came}
+use Rattle.demands.specs.Demand.{firstData, joinedBlocks, RepeatsAgree, FoundIn}
+use Rattle.demands.proofs.Given.{saying, new-ruled, Renewal, renewal}
+use Rattle.demands.proofs.Lists.{joined-ext}
+use Rattle.demands.proofs.Alike.{part-slots}
+use Rattle.demands.proofs.Walks.{kept-in, next-rule, Stays, walk-stays, same-blocks, cameBy, walk-view}
+
+-- THE START: the call that emptied the module left a record that keeps its rule, and none of the module's marks
+module _ (x : Held) (k : ℕ) (em : Emptied x k) where
+  abbrev y : Held
+  y = em .before
+
+  was-new : isNew (fateOf y (em .section)) ≡ true
+  was-new = ap isNew (em .new)
+
+  was-ruled : ruledOf (y .state) ≡ true
+  was-ruled = new-ruled y (em .section) was-new
+
+  pub emptied-ruled : ruledOf (x .state) ≡ true
+  emptied-ruled = ap (λ (z : Held). ruledOf (z .state)) (sym (em .left)) ∙ next-rule y (em .section) was-ruled
+
+  pub emptied-kept : Kept (recordOf (x .state))
+  emptied-kept = let u = em .announces in kept-in x emptied-ruled (omega arith)
+
+  w : Renewal y (em .section)
+  w = renewal y (em .section) was-new
+
+  is-afresh : recordOf (x .state) ≡ afresh (recordOf (y .state)) (w .told)
+  is-afresh = ap (λ (z : Held). recordOf (z .state)) (sym (em .left)) ∙ ap (λ (z : Said). z .says) (w .left)
+
+  was-told : told x ≡ w .told
+  was-told = ap (λ (r : Record). r .announced) is-afresh ∙ afresh-told (recordOf (y .state)) (w .told)
+
+  pub emptied-clear : (b : ℕ) → b < blocks x k → received (recordOf (x .state)) (place x k) b ≡ false
+  emptied-clear b l =
+      let r = recordOf (y .state) in
+      let q = afresh r (w .told) in
+      let u = number-small (recordOf (x .state)) emptied-kept (place x k) b (em .announces) l in
+      let f = few-modules (told x .blockSize) (told x .modules) (emptied-kept .limits) in
+      let t = em .announces in
+      let n : moduleAt (q .announced) (place x k) .number ≡ k
+      = ap (λ (p : Record). moduleAt (p .announced) (place x k) .number) (sym is-afresh) ∙ number-at k (told x .modules) (em .announces) in
+      let o : sameAt r q (placeFor r k) (place x k) ≡ false = ap (λ (p : Record). sameAt r p (placeFor r k) (place x k)) (sym is-afresh) ∙ em .other in
+      ap (λ (p : Record). received p (place x k) b) is-afresh
+      ∙ keeping-marks r (ruled-says (y .state) was-ruled) (w .told) (place x k) b (omega arith) u
+      ∙ ap (λ (m : ℕ). sameAt r q (placeFor r m) (place x k) && received r (placeFor r m) b) n
+      ∙ rw o
+
+-- A BLOCK CAME exactly where some section was matching when it came; and then the first that was is one
+took-first : (s : List ℕ) (ss : List (List ℕ)) → Took (s ∷ ss) [] s
+took-first s ss = record { rest = ss; whole = refl }
+
+took-later : (s : List ℕ) (ss us : List (List ℕ)) (t : List ℕ) → Took ss us t → Took (s ∷ ss) (s ∷ us) t
+took-later s ss us t w = record { rest = w .rest; whole = ap (λ (l : List (List ℕ)). s ∷ l) (w .whole) }
+
+came-found : (x : Held) (k b : ℕ) (ss : List (List ℕ)) → cameBy x k b ss ≡ true → (s : List ℕ) × Matched x k b ss s × (firstData x k ss b ≡ sectionData s)
+unfolding cameBy firstData walk
+came-found x k b [] e = absurd (clash _ e refl)
+came-found x k b (s ∷ ss) e = go (matches x k b s) refl e (λ h. came-found (given x s) k b ss h)
+  where
+    go : (t : Bool) → matches x k b s ≡ t → cond t true (cameBy (given x s) k b ss) ≡ true
+        → (cameBy (given x s) k b ss ≡ true → (q : List ℕ) × Matched (given x s) k b ss q × (firstData (given x s) k ss b ≡ sectionData q))
+        → (q : List ℕ) × Matched x k b (s ∷ ss) q × (cond t (sectionData s) (firstData (given x s) k ss b) ≡ sectionData q)
+    go true m e ih = (s, record { before = []; took = took-first s ss; matching = m }, refl)
+    go false m e ih =
+        let h = ih e in
+        (h .0, record { before = s ∷ h .1 .before; took = took-later s ss (h .1 .before) (h .0) (h .1 .took); matching = h .1 .matching }, h .2)
+
+came-at : (x : Held) (k b : ℕ) (us : List (List ℕ)) (s : List ℕ) (rest : List (List ℕ)) → matches (walk x us) k b s ≡ true → cameBy x k b (us ++ (s ∷ rest)) ≡ true
+unfolding cameBy walk
+came-at x k b [] s rest m = rw m
+came-at x k b (t ∷ us) s rest m = go (matches x k b t) (came-at (given x t) k b us s rest m)
+  where
+    go : (c : Bool) → cameBy (given x t) k b (us ++ (s ∷ rest)) ≡ true → cond c true (cameBy (given x t) k b (us ++ (s ∷ rest))) ≡ true
+    go true h = refl
+    go false h = h
+
+found-came : (x : Held) (k b : ℕ) (ss : List (List ℕ)) (s : List ℕ) → Matched x k b ss s → cameBy x k b ss ≡ true
+found-came x k b ss s m = ap (λ (l : List (List ℕ)). cameBy x k b l) (m .took .whole) ∙ came-at x k b (m .before) s (m .took .rest) (m .matching)
+
+pub came-means : (x : Held) (k b : ℕ) (ss : List (List ℕ)) → (cameBy x k b ss ≡ true) ↔ Came x k b ss
+came-means x k b ss = ((λ e. let h = came-found x k b ss e in (h .0, h .1)), (λ h. found-came x k b ss (h .0) (h .1)))
 
 -- a view that was clear
 settled : (t : Bool) (ds : List ℕ) (v : Slot) → v .marked ≡ false → cond t (hit ds v) v ≡ record { marked = t; bytes = cond t ds (v .bytes) }
@@ -41,136 +118,105 @@ same-test true u f g = sym (f refl)
 same-test false true f g = g refl
 same-test false false f g = refl
 
-module _ (x : Held) (start : Begun x) (i : ℕ) (there : i < modules x) where
-  pub rule : Kept (recordOf (x .state))
-  rule = kept-in x (begun-ruled x start) (omega arith)
+-- the clear marks of a module, at the places that it has in two records
+clear-moved : (ws vs : List ℕ) (f g n b : ℕ) → ((q : ℕ) → q < b + n → isMarked ws (f + q) ≡ isMarked vs (g + q)) → clearAmong ws f b n ≡ clearAmong vs g b n
+unfolding clearAmong
+clear-moved ws vs f g zero b h = refl
+clear-moved ws vs f g (suc n) b h = rw (h b (omega arith), clear-moved ws vs f g n (suc b) (λ q l. h q (omega arith)))
 
-  -- both runs leave the module as its own sections, run alone, do
-  pub both-alone : (ss us : List (List ℕ)) → NoNew x ss → NoNew x us → sectionsFor x i ss ≡ sectionsFor x i us → Alike i (saying (walk x ss)) (saying (walk x us))
-  both-alone ss us n m e =
-      alike-trans i _ _ _ (alone x (begun-ruled x start) i there ss n .1) (rw (← e) at (alike-sym i _ _ (alone x (begun-ruled x start) i there us m .1)))
+missing-moved : (x y : Held) (k n : ℕ) → blocks x k ≡ n → blocks y k ≡ n
+    → ((b : ℕ) → b < n → received (recordOf (x .state)) (place x k) b ≡ received (recordOf (y .state)) (place y k) b) → missingIn x k ≡ missingIn y k
+unfolding missingOf
+missing-moved x y k n p q h =
+    ap (λ (m : ℕ). clearAmong (x .state .marks) (mostBlocks * place x k) 0 m) p
+    ∙ clear-moved (x .state .marks) (y .state .marks) (mostBlocks * place x k) (mostBlocks * place y k) n 0 (λ b l. h b (omega arith))
+    ∙ ap (λ (m : ℕ). clearAmong (y .state .marks) (mostBlocks * place y k) 0 m) (sym q)
 
-  -- whether block b came in a run, in a matching section
-  abbrev came : List (List ℕ) → ℕ → Bool
-  came ss b = some (λ s. matches x i b s) ss
+-- THE HAND-OUT of a record that keeps its rule: the module is announced, the image holds the sizes together, and it is complete
+pub handed-means : (x : Held) (k : ℕ) → ruledOf (x .state) ≡ true → (handoutNumber (x .state) (x .image) k ≡ 0) ↔ (Announces x k × HasRoom x × (isComplete x k ≡ true))
+unfolding handoutNumber meets13 meets15
+handed-means x k r =
+    let t = none-exactly (handoutTests (x .state) (x .image) k) (λ z. omega arith, (λ z. omega arith, (λ z. omega arith, (λ z. omega arith, tt)))) in (
+      (λ e. let h = t .0 e .1 in (ltb-true _ _ (not-false _ (h .0)), ltb-false _ _ (h .1 .0), not-false _ (h .1 .1 .0))),
+      (λ p. t .1 (rw r, (rw (lt-ltb _ _ (p .0)), (le-ltb _ _ (p .1), (rw (p .2), tt))))),
+    )
 
-  came-means : (ss : List (List ℕ)) (b : ℕ) → (came ss b ≡ true) ↔ Came x i b ss
-  came-means ss b = (
-    (λ e. let h = some-holds (λ s. matches x i b s) ss e in (h .0, h .1, h .2)),
-    (λ h. holds-some (λ s. matches x i b s) ss (h .0) (h .1) (h .2)),
-  )
+module _ (x : Held) (k : ℕ) (em : Emptied x k) where
+  abbrev ok : ruledOf (x .state) ≡ true
+  ok = emptied-ruled x k em
 
-  module _ (ss : List (List ℕ)) (n : NoNew x ss) where
-    pub stays : Stays x (walk x ss)
-    stays = walk-stays x ss (begun-ruled x start) (omega arith) n
+  module _ (ss : List (List ℕ)) (n : Keeps x k ss) where
+    pub stays : Stays x k (walk x ss)
+    stays = walk-stays x k ok (em .announces) ss n
+
+    pub count-after : blocks (walk x ss) k ≡ blocks x k
+    count-after = same-blocks x k (walk x ss) (stays .same)
 
     kept-after : Kept (recordOf (walk x ss .state))
-    kept-after = kept-in (walk x ss) (stays .ruled) (rw (stays .same) (omega arith))
+    kept-after = let t = stays .same .now in kept-in (walk x ss) (stays .ruled) (omega arith)
 
     -- each block: its mark is whether it came; its bytes are the first matching section's, or else as they were
-    view-after : (b : ℕ) → b < blocks x i → slot (saying (walk x ss)) i b ≡ record { marked = came ss b; bytes = cond (came ss b) (firstData x i ss b) (slot (saying x) i b .bytes) }
+    pub view-after : (b : ℕ) → b < blocks x k → slot (saying (walk x ss)) (place (walk x ss) k) b
+        ≡ record { marked = cameBy x k b ss; bytes = cond (cameBy x k b ss) (firstData x k ss b) (slot (saying x) (place x k) b .bytes) }
     view-after b l =
-        walk-view (told x) (length (x .image)) i b there l x ss (begun-ruled x start) refl refl n
-        ∙ settled (came ss b) (firstData x i ss b) (slot (saying x) i b) (slot-marked (saying x) i b ∙ begun-clear x start i b)
+        walk-view x k b ok (em .announces) l ss n
+        ∙ settled (cameBy x k b ss) (firstData x k ss b) (slot (saying x) (place x k) b) (slot-marked (saying x) (place x k) b ∙ emptied-clear x k em b l)
 
-    mark-after : (b : ℕ) → b < blocks x i → received (recordOf (walk x ss .state)) i b ≡ came ss b
-    mark-after b l = sym (slot-marked (saying (walk x ss)) i b) ∙ ap (λ (v : Slot). v .marked) (view-after b l)
+    mark-after : (b : ℕ) → b < blocks x k → received (recordOf (walk x ss .state)) (place (walk x ss) k) b ≡ cameBy x k b ss
+    mark-after b l = sym (slot-marked (saying (walk x ss)) (place (walk x ss) k) b) ∙ ap (λ (v : Slot). v .marked) (view-after b l)
 
-    bytes-after : bytesIn (walk x ss) i ≡ joinedBlocks (blocks x i) (λ b. cond (came ss b) (firstData x i ss b) (slot (saying x) i b .bytes))
+    bytes-after : bytesIn (walk x ss) k ≡ joinedBlocks (blocks x k) (λ b. cond (cameBy x k b ss) (firstData x k ss b) (slot (saying x) (place x k) b .bytes))
     bytes-after =
-        part-slots (saying (walk x ss)) kept-after i
-        ∙ ap (λ (a : Announced). joinedBlocks (blockCount a i) (λ b. slot (saying (walk x ss)) i b .bytes)) (stays .same)
-        ∙ joined-ext (blocks x i) _ _ (λ b l. ap (λ (v : Slot). v .bytes) (view-after b l))
+        part-slots (saying (walk x ss)) kept-after (place (walk x ss) k)
+        ∙ ap (λ (m : ℕ). joinedBlocks m (λ b. slot (saying (walk x ss)) (place (walk x ss) k) b .bytes)) count-after
+        ∙ joined-ext (blocks x k) _ _ (λ b l. ap (λ (v : Slot). v .bytes) (view-after b l))
 
     -- COMPLETE: every block came
-    pub complete-came : (isComplete (walk x ss) i ≡ true) ↔ ((b : ℕ) → b < blocks x i → Came x i b ss)
+    pub complete-came : (isComplete (walk x ss) k ≡ true) ↔ ((b : ℕ) → b < blocks x k → Came x k b ss)
     complete-came =
-        let c = complete-means (recordOf (walk x ss .state)) i in (
-          (λ e b l. came-means ss b .0 (sym (mark-after b l) ∙ c .0 e b (rw (stays .same) l))),
-          (λ f. c .1 (λ b l. let k = rw (stays .same) at l in mark-after b k ∙ came-means ss b .1 (f b k))),
+        let c = complete-means (recordOf (walk x ss .state)) (place (walk x ss) k) in
+        let m = count-after in (
+          (λ h b l. came-means x k b ss .0 (sym (mark-after b l) ∙ c .0 h b (omega arith))),
+          (λ f. c .1 (λ b l. let q : b < blocks x k = omega arith in mark-after b q ∙ came-means x k b ss .1 (f b q))),
         )
 
     -- and then its bytes are their data
-    pub complete-bytes : isComplete (walk x ss) i ≡ true → bytesIn (walk x ss) i ≡ joinedBlocks (blocks x i) (λ b. firstData x i ss b)
-    complete-bytes c = bytes-after ∙ joined-ext (blocks x i) _ _ (λ b l. rw (came-means ss b .1 (complete-came .0 c b l)))
+    pub complete-bytes : isComplete (walk x ss) k ≡ true → bytesIn (walk x ss) k ≡ joinedBlocks (blocks x k) (λ b. firstData x k ss b)
+    complete-bytes c = bytes-after ∙ joined-ext (blocks x k) _ _ (λ b l. rw (came-means x k b ss .1 (complete-came .0 c b l)))
 
-    -- THE HAND-OUT. The module is found by its number; and where a block came, and there is always a first one, the image holds the sizes together.
-    abbrev its-number : ℕ
-    its-number = moduleAt (told x) i .number
-
-    found : placeOf (told (walk x ss)) its-number ≡ i
-    found = ap (λ (a : Announced). placeOf a its-number) (stays .same) ∙ place-is (told x .modules) i (rule .numbers) there
-
-    room : ((b : ℕ) → b < blocks x i → Came x i b ss) → meets15 (told (walk x ss)) (length (walk x ss .image)) ≡ false
-    unfolding meets15
-    room f =
-        let a = told x in
-        let h = f 0 (some-block (a .blockSize) (moduleAt a i .size) (block-size-pos (a .blockSize) (a .modules) (rule .limits)) (size-pos (a .blockSize) (a .modules) (rule .limits) i there)) in
-        let m = matching-means a (rule .numbers) (length (x .image)) i 0 there (heardOf (h .0)) .0 (h .2) in
-        rw (stays .same, stays .long) (le-ltb (length (x .image)) (bytesOf a) (m .2 .imageHolds))
-
-    pub handed-came : (handoutNumber (walk x ss .state) (walk x ss .image) its-number ≡ 0) ↔ ((b : ℕ) → b < blocks x i → Came x i b ss)
-    unfolding handoutNumber meets13
+    -- it is handed out where it is complete and the image holds the sizes together
+    pub handed-came : (handoutNumber (walk x ss .state) (walk x ss .image) k ≡ 0) ↔ (HasRoom (walk x ss) × ((b : ℕ) → b < blocks x k → Came x k b ss))
     handed-came =
-        let t = none-exactly (handoutTests (walk x ss .state) (walk x ss .image) its-number) (λ z. omega arith, (λ z. omega arith, (λ z. omega arith, (λ z. omega arith, tt)))) in (
-          (λ e. complete-came .0 (rw found at (not-false (completeOf (recordOf (walk x ss .state)) (placeOf (told (walk x ss)) its-number)) (t .0 e .1 .1 .1 .0)))),
-          (λ f. t .1 (rw (stays .ruled), (rw (found, lt-ltb i (modules (walk x ss)) (rw (stays .same) there)), (room f, (rw (found, complete-came .1 f), tt))))),
-        )
+        let h = handed-means (walk x ss) k (stays .ruled) in
+        ((λ e. let p = h .0 e in (p .1, complete-came .0 (p .2))), (λ p. h .1 (stays .same .now, p .0, complete-came .1 (p .1))))
 
-    pub handed-bytes : isComplete (walk x ss) i ≡ true → handedOut (walk x ss .state) (walk x ss .image) its-number ≡ joinedBlocks (blocks x i) (λ b. firstData x i ss b)
-    handed-bytes c =
-        handout-part (walk x ss .state) (walk x ss .image) its-number (handed-came .1 (complete-came .0 c)) ∙ rw found (complete-bytes c)
-
-    -- the hand-out looks at what is announced, at the image's length and at the module's missing blocks and bytes
-    abbrev numbered : List ℕ → ℕ
-    numbered ms = firstMet ((1, false) ∷ (13, meets13 (told x) its-number) ∷ (15, meets15 (told x) (length (x .image))) ∷ (20, not (eqb (length ms) 0)) ∷ [])
-
-    pub handout-by : handoutNumber (walk x ss .state) (walk x ss .image) its-number ≡ numbered (missingIn (walk x ss) i)
-    unfolding handoutNumber
-    handout-by = rw (found, stays .ruled, stays .same, stays .long)
-
-    pub handed-by : handedOut (walk x ss .state) (walk x ss .image) its-number ≡ cond (eqb (numbered (missingIn (walk x ss) i)) 0) (bytesIn (walk x ss) i) []
-    unfolding handedOut
-    handed-by = rw (handout-by, found)
-
-  pub same-handout : (ss us : List (List ℕ)) (n : NoNew x ss) (m : NoNew x us) → bytesIn (walk x ss) i ≡ bytesIn (walk x us) i
-      → missingIn (walk x ss) i ≡ missingIn (walk x us) i → let k = moduleAt (told x) i .number in
-      (handoutNumber (walk x ss .state) (walk x ss .image) k ≡ handoutNumber (walk x us .state) (walk x us .image) k)
-      × (handedOut (walk x ss .state) (walk x ss .image) k ≡ handedOut (walk x us .state) (walk x us .image) k)
-  same-handout ss us n m b e =
-      let number : List ℕ → ℕ = λ ms. numbered ss n ms in (
-        handout-by ss n ∙ ap number e ∙ sym (handout-by us m),
-        handed-by ss n ∙ ap₂ (λ (ms l : List ℕ). cond (eqb (number ms) 0) l []) e b ∙ sym (handed-by us m),
-      )
+    pub handed-bytes : handoutNumber (walk x ss .state) (walk x ss .image) k ≡ 0 → handedOut (walk x ss .state) (walk x ss .image) k ≡ joinedBlocks (blocks x k) (λ b. firstData x k ss b)
+    handed-bytes e = handout-part (walk x ss .state) (walk x ss .image) k e ∙ complete-bytes (handed-means (walk x ss) k (stays .ruled) .0 e .2)
 
   -- TWO RUNS with the same matching sections, order and repeats aside
-  same-came : (ss us : List (List ℕ)) → FoundIn x i ss us → (b : ℕ) → came ss b ≡ true → came us b ≡ true
-  same-came ss us f b e = let h = came-means ss b .0 e in let g = f b (h .0) (h .1) (h .2) in came-means us b .1 (g .0, g .1, g .2)
+  same-came : (ss us : List (List ℕ)) → FoundIn x k ss us → (b : ℕ) → cameBy x k b ss ≡ true → cameBy x k b us ≡ true
+  same-came ss us f b e = let h = came-found x k b ss e in let g = f b (h .0) (h .1) in found-came x k b us (g .0) (g .1)
 
-  module _ (ss us : List (List ℕ)) (n : NoNew x ss) (m : NoNew x us) (agree : RepeatsAgree x i ss) (to : FoundIn x i ss us) (back : FoundIn x i us ss) where
-    both-came : (b : ℕ) → came ss b ≡ came us b
+  module _ (ss us : List (List ℕ)) (n : Keeps x k ss) (m : Keeps x k us) (agree : RepeatsAgree x k ss) (to : FoundIn x k ss us) (back : FoundIn x k us ss) where
+    both-came : (b : ℕ) → cameBy x k b ss ≡ cameBy x k b us
     both-came b = same-test _ _ (same-came ss us to b) (same-came us ss back b)
 
-    same-first : (b : ℕ) → came ss b ≡ true → firstData x i ss b ≡ firstData x i us b
+    same-first : (b : ℕ) → cameBy x k b ss ≡ true → firstData x k ss b ≡ firstData x k us b
     same-first b e =
-        let h = some-holds (λ s. matches x i b s) ss e in
-        let g = some-holds (λ s. matches x i b s) us (sym (both-came b) ∙ e) in
-        let k = back b (g .0) (g .1) (g .2) in
-        h .3 ∙ agree b (h .0) (k .0) (h .1) (k .1) (h .2) (k .2) ∙ k .3 ∙ sym (g .3)
+        let h = came-found x k b ss e in
+        let g = came-found x k b us (sym (both-came b) ∙ e) in
+        let q = back b (g .0) (g .1) in
+        h .2 ∙ agree b (h .0) (q .0) (h .1) (q .1) ∙ q .2 ∙ sym (g .2)
 
-    same-bytes : (b : ℕ) → cond (came ss b) (firstData x i ss b) (slot (saying x) i b .bytes) ≡ cond (came us b) (firstData x i us b) (slot (saying x) i b .bytes)
-    same-bytes b = rw (← both-came b) (go (came ss b) refl)
+    same-bytes : (b : ℕ) → cond (cameBy x k b ss) (firstData x k ss b) (slot (saying x) (place x k) b .bytes) ≡ cond (cameBy x k b us) (firstData x k us b) (slot (saying x) (place x k) b .bytes)
+    same-bytes b = rw (← both-came b) (go (cameBy x k b ss) refl)
       where
-        go : (t : Bool) → came ss b ≡ t → cond t (firstData x i ss b) (slot (saying x) i b .bytes) ≡ cond t (firstData x i us b) (slot (saying x) i b .bytes)
+        go : (t : Bool) → cameBy x k b ss ≡ t → cond t (firstData x k ss b) (slot (saying x) (place x k) b .bytes) ≡ cond t (firstData x k us b) (slot (saying x) (place x k) b .bytes)
         go true e = same-first b e
         go false e = refl
 
-    pub same-module : (bytesIn (walk x ss) i ≡ bytesIn (walk x us) i) × (missingIn (walk x ss) i ≡ missingIn (walk x us) i)
-    unfolding missingOf
-    same-module = (
-      bytes-after ss n ∙ joined-ext (blocks x i) _ _ (λ b l. same-bytes b) ∙ sym (bytes-after us m),
-      ap (λ (a : Announced). clearAmong (walk x ss .state .marks) (mostBlocks * i) 0 (blockCount a i)) (stays ss n .same)
-          ∙ clear-ext (walk x ss .state .marks) (walk x us .state .marks) (mostBlocks * i) (blocks x i) 0
-          (λ b l. let k : b < blocks x i = omega arith in mark-after ss n b k ∙ both-came b ∙ sym (mark-after us m b k))
-          ∙ ap (λ (a : Announced). clearAmong (walk x us .state .marks) (mostBlocks * i) 0 (blockCount a i)) (sym (stays us m .same)),
+    pub same-content : (bytesIn (walk x ss) k ≡ bytesIn (walk x us) k) × (missingIn (walk x ss) k ≡ missingIn (walk x us) k)
+    same-content = (
+      bytes-after ss n ∙ joined-ext (blocks x k) _ _ (λ b l. same-bytes b) ∙ sym (bytes-after us m),
+      missing-moved (walk x ss) (walk x us) k (blocks x k) (count-after ss n) (count-after us m) (λ b l. mark-after ss n b l ∙ both-came b ∙ sym (mark-after us m b l)),
     )

@@ -1,9 +1,8 @@
 -- THE PAPER'S FALSE BEARINGS (01), each as what the theorems exclude.
 use Prim.Native.Nat.{ℕ, _<_}
 use mathlib.Core.Path.{_≡_, sym, ap}
-use mathlib.Core.Bool.{true, false}
+use mathlib.Core.Bool.{true}
 use mathlib.Core.List.{List}
-use Rattle.wire.proofs.Laws.Tests.{clash}
 use Rattle.section.specs.Header.{bodyOf}
 use Rattle.section.specs.Answer.{refused}
 use Rattle.carousel_messages.specs.Message.{payloadOf}
@@ -17,16 +16,14 @@ use Rattle.carousel_record.specs.Blocks.{blocksOf, blockLengthOf}
 use Rattle.carousel_record.proofs.Laws.Blocks.{length-pos}
 use Rattle.carousel_step.proofs.Steps.{refusal-changes-nothing}
 use Rattle.receiver.specs.Run.{Held, walk}
-use Rattle.demands.specs.Demand.{Begun, NoNew, modules, blocks, matches, isComplete, Holds}
+use Rattle.demands.specs.Demand.{blocks, Emptied, Keeps, isComplete, Matched}
 use Rattle.demands.proofs.Three.{completeness}
 
--- "Counting arrivals and not distinct blocks: two copies of block 0 "complete" a two-block module." However many sections come: where none of them matches block b, the module is
--- not complete.
-pub arrivals-do-not-count : (x : Held) (start : Begun x) (i : ℕ) (there : i < modules x) (ss : List (List ℕ)) → NoNew x ss
-    → (b : ℕ) → b < blocks x i → ((s : List ℕ) → Holds ss s → matches x i b s ≡ false) → isComplete (walk x ss) i ≡ true → ⊥
-arrivals-do-not-count x start i there ss n b l none c =
-    let h = completeness x start i there ss n .0 c b l in
-    clash _ (h .2) (none (h .0) (h .1))
+-- "Counting arrivals and not distinct blocks: two copies of block 0 "complete" a two-block module." However many sections come: where none of them matched block b when it came,
+-- the module is not complete.
+pub arrivals-do-not-count : (x : Held) (k : ℕ) → Emptied x k → (ss : List (List ℕ)) → Keeps x k ss
+    → (b : ℕ) → b < blocks x k → ((s : List ℕ) → Matched x k b ss s → ⊥) → isComplete (walk x ss) k ≡ true → ⊥
+arrivals-do-not-count x k start ss n b l none c = let h = completeness x k start ss n .0 c b l in none (h .0) (h .1)
 
 -- "A last block of 0 bytes when the size divides evenly." Every block of a module has bytes.
 pub no-empty-block : (blockSize size b : ℕ) → 0 < blockSize → b < blocksOf blockSize size → 0 < blockLengthOf blockSize size b

@@ -1,40 +1,53 @@
--- Calls of `run`, and of the carousel's `step`, one after another: the one-section calls over the sections that they took.
+-- Calls of any kind, one after another, leave what one-section calls leave over the sections that they took.
 use Prim.Native.Nat.{ℕ}
 use mathlib.Core.Path.{_≡_, refl, sym, ap, _∙_}
-use mathlib.Core.Bool.{true}
+use mathlib.Core.Bool.{Bool, true, false, cond, _||_}
 use mathlib.Core.List.{List, [], _∷_, _++_}
+use lib.Dec.{eqb}
+use lib.ListN.{take}
+use Rattle.section.specs.Whole.{wholeAt}
 use Rattle.carousel_record.specs.Record.{ruledOf}
-use Rattle.carousel_step.specs.Step.{steppedOf, imageOf}
-use Rattle.receiver.specs.Run.{RunOutcome, runOf, sectionsOf, Held, given, walk}
-use Rattle.demands.specs.Demand.{Call, called, tookBy, stepped}
+use Rattle.receiver.specs.declared.Took.{Took}
+use Rattle.receiver.specs.declared.What.the-variants as what
+use Rattle.receiver.specs.Run.{stopAt, stoppedBy, givenOf, imageGiven, tookOf, imageTook, RunOutcome, Held, given, walk}
 use Rattle.receiver.proofs.Laws.Runs.{run-ruled}
-use Rattle.receiver.proofs.Runs.{heldBy, run-walks, runs-rule}
+use Rattle.receiver.proofs.Runs.{heldBy, run-walks}
+use Rattle.demands.specs.Demand.{Call, stepping, taking, running, leftAfter, called, tookOne, tookBy}
 use Rattle.demands.proofs.Given.{given-steps}
+use Rattle.demands.proofs.Walks.{next-rule}
 
 walk-both : (x : Held) (ss us : List (List ℕ)) → walk x (ss ++ us) ≡ walk (walk x ss) us
 unfolding walk
 walk-both x [] us = refl
 walk-both x (s ∷ ss) us = walk-both (given x s) ss us
 
--- a call of `run`, of a record that keeps its rule
-one-call : (x : Held) (k : Call) → ruledOf (x .state) ≡ true → heldBy (runOf (x .state) (k .stretch) (x .image) (k .budget)) ≡ walk x (sectionsOf (k .budget) (k .stretch))
-one-call x k r =
-    ap (λ (o : RunOutcome). heldBy o) (run-ruled (x .state) (k .stretch) (x .image) (k .budget) r)
-    ∙ run-walks (k .budget) (x .state) (k .stretch) (x .image) .0
+pub walk-rule : (x : Held) (ss : List (List ℕ)) → ruledOf (x .state) ≡ true → ruledOf (walk x ss .state) ≡ true
+unfolding walk
+walk-rule x [] r = r
+walk-rule x (s ∷ ss) r = walk-rule (given x s) ss (next-rule x s r)
 
-pub called-walks : (x : Held) (ks : List Call) → ruledOf (x .state) ≡ true → called x ks ≡ walk x (tookBy ks)
+-- one call, of a record that keeps its rule
+one-call : (x : Held) (c : Call) → ruledOf (x .state) ≡ true → leftAfter x c ≡ walk x (tookOne c)
+unfolding walk tookOf imageTook
+one-call x (stepping s) r = sym (given-steps x s)
+one-call x (taking s n) r = rw r (go (eqb (wholeAt s) 0 || eqb n 0))
+  where
+    one : List ℕ
+    one = take (wholeAt s) s
+
+    taken : Took
+    taken = record { what = what.Taken (record { length = wholeAt s; fate = givenOf (x .state) one (x .image) .fate }); state = givenOf (x .state) one (x .image) .state }
+
+    go : (t : Bool) → _≡_ {A = Held} (record { state = cond t (stoppedBy (x .state) (stopAt s)) taken .state; image = cond t (x .image) (imageGiven (x .state) one (x .image)) })
+        (walk x (cond t [] (one ∷ [])))
+    go true = refl
+    go false = refl
+one-call x (running s n) r = ap (λ (o : RunOutcome). heldBy o) (run-ruled (x .state) s (x .image) n r) ∙ run-walks n (x .state) s (x .image) .0
+
+pub called-walks : (x : Held) (cs : List Call) → ruledOf (x .state) ≡ true → called x cs ≡ walk x (tookBy cs)
 unfolding called tookBy walk
 called-walks x [] r = refl
-called-walks x (k ∷ ks) r =
-    let c = run-ruled (x .state) (k .stretch) (x .image) (k .budget) r in
-    let w = ap (λ (o : RunOutcome). ruledOf (o .state)) c ∙ runs-rule (k .budget) (x .state) (k .stretch) (x .image) r in
-    called-walks (heldBy (runOf (x .state) (k .stretch) (x .image) (k .budget))) ks w
-    ∙ ap (λ (y : Held). walk y (tookBy ks)) (one-call x k r)
-    ∙ sym (walk-both x (sectionsOf (k .budget) (k .stretch)) (tookBy ks))
-
-pub stepped-walks : (x : Held) (ss : List (List ℕ)) → stepped x ss ≡ walk x ss
-unfolding stepped walk
-stepped-walks x [] = refl
-stepped-walks x (s ∷ ss) =
-    stepped-walks (record { state = steppedOf (x .state) s (x .image) .state; image = imageOf (x .state) s (x .image) }) ss
-    ∙ ap (λ (y : Held). walk y ss) (sym (given-steps x s))
+called-walks x (c ∷ cs) r =
+    let e = one-call x c r in
+    let w = ap (λ (y : Held). ruledOf (y .state)) e ∙ walk-rule x (tookOne c) r in
+    called-walks (leftAfter x c) cs w ∙ ap (λ (y : Held). walk y (tookBy cs)) e ∙ sym (walk-both x (tookOne c) (tookBy cs))

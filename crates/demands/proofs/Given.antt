@@ -13,28 +13,25 @@ use Rattle.section.specs.Answer.{refused}
 use Rattle.carousel_messages.specs.declared.Judged.{Judged}
 use Rattle.carousel_messages.specs.declared.Judged.the-variants as judged
 use Rattle.carousel_messages.specs.Judged.{judgedOf, numberOfJudged}
-use Rattle.carousel_messages.specs.Heard.{Announced, Heard, refusal, heardIn, heardOf}
+use Rattle.carousel_messages.specs.Heard.{Announced, Heard, refusal, announced, arrived, heardIn, heardOf}
 use Rattle.carousel_messages.proofs.Exact.{good-exactly}
 use Rattle.ait_read.specs.declared.ReadAnswer.{ReadAnswer}
 use Rattle.ait_read.specs.declared.ReadAnswer.the-variants as reading
 use Rattle.ait_read.specs.Answers.{readAnswer}
 use Rattle.carousel_record.specs.declared.Carousel.{Carousel}
+use Rattle.carousel_step.specs.declared.Answer.{Answer}
 use Rattle.carousel_step.specs.declared.Answer.the-variants as answer
-use Rattle.carousel_record.specs.Marks.{markWords, markOf, isMarked}
-use Rattle.carousel_record.specs.Record.{Record, recordOf, received, ruledOf}
-use Rattle.carousel_record.specs.Changes.{madeAfresh}
-use Rattle.carousel_step.specs.Step.{StepOutcome, refusing, new, same, repeated, stored, onHeard, outcomeOf, answerOf, carouselAfter, imageAfter, steppedOf, imageOf}
+use Rattle.carousel_record.specs.Record.{Record, announcedBy, recordOf, ruledOf}
+use Rattle.carousel_step.specs.Step.{StepOutcome, refusing, new, same, repeated, stored, sameAnnounced, onAnnounced, onHeard, outcomeOf, answerOf, carouselAfter, imageAfter, steppedOf, imageOf}
 use Rattle.carousel_step.specs.Matching.{heardFor}
 use Rattle.carousel_step.proofs.Views.{Held as Said, after, isNew as madeNew}
-use Rattle.carousel_record.proofs.Laws.Marks.{clear}
+use Rattle.carousel_step.proofs.View.{arrived-old}
 use Rattle.carousel_step.proofs.Simulation.{says-after, outcome-ruled}
-use Rattle.carousel_step.proofs.Steps.{Renewing, new-changes}
+use Rattle.carousel_step.proofs.Steps.{new-changes}
 use Rattle.receiver.specs.declared.Given.{Given}
-use Rattle.receiver.specs.declared.Fate.the-variants as fate
 use Rattle.receiver.specs.Run.{readFate, tableFate, carouselFate, givenOf, imageGiven, Held, given}
-use Rattle.demands.specs.Demand.{Begun, isNew}
-use Rattle.receiver.proofs.Runs.{given-rule}
-use Rattle.receiver.proofs.Laws.Fates.{fate-table, fate-other, fate-tells}
+use Rattle.demands.specs.Demand.{fateOf, isNew}
+use Rattle.receiver.proofs.Laws.Fates.{fate-table, fate-other}
 
 -- what the record says, and the image
 abbrev pub saying : Held → Said
@@ -121,41 +118,56 @@ new-outcome same = refl
 new-outcome repeated = refl
 new-outcome (stored k at bytes) = refl
 
-pub given-old : (x : Held) (s : List ℕ) → ruledOf (x .state) ≡ true → isNew (givenOf (x .state) s (x .image) .fate) ≡ false → madeNew (came x s) ≡ false
+pub new-says : (x : Held) (s : List ℕ) → ruledOf (x .state) ≡ true → isNew (fateOf x s) ≡ madeNew (came x s)
 unfolding steppedOf onHeard madeNew
-given-old x s r n = go (eqb (byteAt s 0) applicationTable) refl
+new-says x s r = go (eqb (byteAt s 0) applicationTable) refl
   where
-    go : (t : Bool) → eqb (byteAt s 0) applicationTable ≡ t → madeNew (came x s) ≡ false
-    go true e = ap (λ (h : Heard). madeNew (onHeard (recordOf (x .state)) (x .image) h)) (table-refused s (eqb-true _ _ e) .1)
+    go : (t : Bool) → eqb (byteAt s 0) applicationTable ≡ t → isNew (fateOf x s) ≡ madeNew (came x s)
+    go true e =
+        ap isNew (fate-table (x .state) s (x .image) e)
+        ∙ read-old (readAnswer s)
+        ∙ sym (ap (λ (h : Heard). madeNew (onHeard (recordOf (x .state)) (x .image) h)) (table-refused s (eqb-true _ _ e) .1))
     go false e =
-        sym (new-outcome (came x s))
-        ∙ sym (ap (λ (o : StepOutcome). isNew (carouselFate (answerOf o))) (outcome-ruled (x .state) s (x .image) r))
-        ∙ sym (ap isNew (fate-other (x .state) s (x .image) e)) ∙ n
+        ap isNew (fate-other (x .state) s (x .image) e)
+        ∙ ap (λ (o : StepOutcome). isNew (carouselFate (answerOf o))) (outcome-ruled (x .state) s (x .image) r)
+        ∙ new-outcome (came x s)
 
--- THE START: a call that answered "new" left a record that keeps its rule, with all marks clear
-fate-new : (c : Carousel) (s image : List ℕ) → givenOf c s image .fate ≡ fate.New → steppedOf c s image .answer ≡ answer.New
+-- only a record that keeps its rule is answered "new"
+fate-new : (c : Carousel) (s image : List ℕ) → isNew (givenOf c s image .fate) ≡ true → steppedOf c s image .answer ≡ answer.New
 unfolding carouselFate
 fate-new c s image e = go (eqb (byteAt s 0) applicationTable) refl
   where
+    is-new : (a : Answer) → isNew (carouselFate a) ≡ true → a ≡ answer.New
+    is-new answer.New h = refl
+    is-new answer.Same h = absurd (clash _ h refl)
+    is-new answer.Stored h = absurd (clash _ h refl)
+    is-new answer.Repeated h = absurd (clash _ h refl)
+    is-new (answer.Refused n) h = absurd (clash _ h refl)
+
     go : (t : Bool) → eqb (byteAt s 0) applicationTable ≡ t → steppedOf c s image .answer ≡ answer.New
-    go true f = absurd (clash _ (ap isNew e) (ap isNew (fate-table c s image f) ∙ read-old (readAnswer s)))
-    go false f = fate-tells (steppedOf c s image .answer) answer.New (sym (fate-other c s image f) ∙ e)
+    go true f = absurd (clash _ e (ap isNew (fate-table c s image f) ∙ read-old (readAnswer s)))
+    go false f = is-new (steppedOf c s image .answer) (sym (ap isNew (fate-other c s image f)) ∙ e)
 
-afresh-clear : (c : Carousel) (a : Announced) (k : ℕ) → isMarked (madeAfresh c a .marks) k ≡ false
-unfolding madeAfresh
-afresh-clear c a k = clear markWords k
+pub new-ruled : (x : Held) (s : List ℕ) → isNew (fateOf x s) ≡ true → ruledOf (x .state) ≡ true
+new-ruled x s e = new-changes (x .state) s (x .image) (fate-new (x .state) s (x .image) e) .ruled
 
-module _ (x : Held) (start : Begun x) where
-  abbrev before : Held
-  before = start .0
+-- WHAT A CALL THAT ANSWERED "NEW" HEARD AND LEFT
+pub record Renewal (x : Held) (s : List ℕ) : Type 0 where
+  pub told : Announced
+  pub heard : heardOf s ≡ announced told
+  pub other : sameAnnounced (announcedBy (x .state)) told ≡ false
+  pub left : saying (given x s) ≡ after (saying x) (new told)
 
-  renewed : Renewing (before .state) (start .1) (before .image)
-  renewed = new-changes (before .state) (start .1) (before .image) (fate-new (before .state) (start .1) (before .image) (start .2))
+renews : (x : Held) (s : List ℕ) (h : Heard) → heardOf s ≡ h → saying (given x s) ≡ after (saying x) (onHeard (recordOf (x .state)) (x .image) h)
+    → madeNew (onHeard (recordOf (x .state)) (x .image) h) ≡ true → Renewal x s
+unfolding onHeard onAnnounced madeNew
+renews x s (refusal n) f g e = absurd (clash _ e refl)
+renews x s (announced a) f g e = go (sameAnnounced (announcedBy (x .state)) a) refl g e
+  where
+    go : (t : Bool) → sameAnnounced (announcedBy (x .state)) a ≡ t → saying (given x s) ≡ after (saying x) (cond t same (new a)) → madeNew (cond t same (new a)) ≡ true → Renewal x s
+    go true o g e = absurd (clash _ e refl)
+    go false o g e = record { told = a; heard = f; other = o; left = g }
+renews x s (arrived d) f g e = absurd (clash _ e (arrived-old (recordOf (x .state)) (x .image) d))
 
-  pub begun-ruled : ruledOf (x .state) ≡ true
-  begun-ruled = ap (λ (z : Held). ruledOf (z .state)) (sym (start .3)) ∙ given-rule (before .state) (start .1) (before .image) (renewed .ruled)
-
-  pub begun-clear : (i b : ℕ) → received (recordOf (x .state)) i b ≡ false
-  begun-clear i b =
-      let e = ap (λ (z : Held). z .state) (sym (start .3) ∙ given-steps before (start .1)) ∙ renewed .state in
-      ap (λ (c : Carousel). isMarked (c .marks) (markOf i b)) e ∙ afresh-clear (before .state) (renewed .told) (markOf i b)
+pub renewal : (x : Held) (s : List ℕ) → isNew (fateOf x s) ≡ true → Renewal x s
+renewal x s n = let r = new-ruled x s n in renews x s (heardOf s) refl (given-says x s r) (sym (new-says x s r) ∙ n)

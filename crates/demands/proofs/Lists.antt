@@ -11,7 +11,8 @@ use Rattle.wire.proofs.Laws.Tests.{clash}
 use Rattle.carousel_record.specs.Blocks.{blocksOf, blockLengthOf}
 use Rattle.carousel_record.specs.Marks.{isMarked, clearAmong}
 use Rattle.carousel_record.proofs.Laws.Blocks.{covers, begins, inner-length, last-length}
-use Rattle.demands.specs.Demand.{sectionData, Holds, firstMatching, joinedBlocks}
+use Rattle.demands.specs.Demand.{sectionData, joinedBlocks}
+use Rattle.demands.specs.Quiet.{Holds, firstMatching}
 
 pub joined-ext : (n : ℕ) (f g : ℕ → List ℕ) → ((b : ℕ) → b < n → f b ≡ g b) → joinedBlocks n f ≡ joinedBlocks n g
 unfolding joinedBlocks

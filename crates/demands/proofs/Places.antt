@@ -19,7 +19,7 @@ use Rattle.section.specs.Refusals.{Placed}
 use Rattle.section.specs.Answer.{Told}
 use Rattle.section.proofs.Laws.Places.{placed-exactly, crc-place, told-byte, told-within}
 use Rattle.receiver.specs.Run.{placeOfFate, Held}
-use Rattle.demands.specs.Demand.{Begun, NoNew, modules, sectionsFor, answersFor}
+use Rattle.demands.specs.Demand.{Emptied, Keeps, trace, answersFor}
 use Rattle.demands.proofs.Three.{isolation}
 
 module _ (rules : Rules) (s : List ℕ) (r : Refusal) (t : Told rules s r) where
@@ -43,6 +43,6 @@ module _ (rules : Rules) (s : List ℕ) (r : Refusal) (t : Told rules s r) where
       (place-said .five e ∙ ap Byte (sym (c .1)), omega (arith, c .0, c .1))
 
 -- "DEMAND 3'S EQUAL ANSWERS INCLUDE IT": the answers that isolation shows equal are whole, so their places are too
-pub isolation-places : (x : Held) (start : Begun x) (i : ℕ) (there : i < modules x) (ss us : List (List ℕ)) → NoNew x ss → NoNew x us → sectionsFor x i ss ≡ sectionsFor x i us
-    → map placeOfFate (answersFor x i ss) ≡ map placeOfFate (answersFor x i us)
-isolation-places x start i there ss us n m e = ap (map placeOfFate) (isolation x start i there ss us n m e .0)
+pub isolation-places : (x : Held) (k : ℕ) → Emptied x k → (ss us : List (List ℕ)) → Keeps x k ss → Keeps x k us → trace x k ss ≡ trace x k us
+    → map placeOfFate (answersFor x k ss) ≡ map placeOfFate (answersFor x k us)
+isolation-places x k start ss us n m e = ap (map placeOfFate) (isolation x k start ss us n m e .0)

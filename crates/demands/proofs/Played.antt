@@ -1,7 +1,7 @@
 -- What the box makes of a rotation's sections: the theorems of Player.antt, from demand 3.
 use Prim.Native.Nat.{ℕ, _*_, _≤_, _<_}
 use mathlib.Core.Path.{_≡_, refl, sym, ap, ap₂, subst, _∙_}
-use mathlib.Core.Bool.{true, false}
+use mathlib.Core.Bool.{Bool, true, false, cond}
 use mathlib.Core.Logic.{_⊎_, inl, inr}
 use mathlib.Core.List.{List, [], _∷_, List·Memᴰ·head, List·Memᴰ·tail}
 use native.Mathlib.Omega.{arith}
@@ -11,11 +11,14 @@ use Rattle.wire.proofs.Laws.Tests.{clash}
 use Rattle.section.specs.Header.{headerOf}
 use Rattle.carousel_messages.specs.Heard.{Announced, Arrived, announced, arrived, heardOf}
 use Rattle.carousel_messages.specs.Good.{saidAnnouncement}
-use Rattle.carousel_record.specs.Record.{Record, announcedBy, moduleAt, placeOf, bytesOf, blockCount, blockLength, ruledOf}
+use Rattle.carousel_record.specs.Record.{Record, recordOf, announcedBy, moduleAt, placeOf, bytesOf, blockCount, blockLength, blockAt, received, ruledOf}
 use Rattle.carousel_record.proofs.Laws.Places.{block-size-pos, some-modules, place-is}
+use Rattle.carousel_record.proofs.Laws.Rule.{Kept}
 use Rattle.carousel_step.specs.declared.Answer.the-variants as answer
 use Rattle.carousel_step.specs.Step.{steppedOf}
 use Rattle.carousel_step.specs.Matching.{heardMatches, heardBytes}
+use Rattle.carousel_step.proofs.Views.{Slot, slot, hit}
+use Rattle.carousel_step.proofs.View.{slot-marked}
 use Rattle.carousel_step.proofs.Matching.{matching-means}
 use Rattle.carousel_step.proofs.Steps.{new-changes, image-length}
 use Rattle.carousel_step.proofs.Simulation.{says-afresh}
@@ -24,16 +27,36 @@ use Rattle.receiver.specs.declared.Fate.{Fate}
 use Rattle.receiver.specs.declared.Fate.the-variants as fate
 use Rattle.receiver.specs.Run.{Held, givenOf, given, walk}
 use Rattle.carousel_handout.specs.Calls.{handoutNumber, handedOut}
-use Rattle.demands.specs.Demand.{fates, Begun, isNew, noneNew, NoNew, told, modules, blocks, matches, sectionData, bytesIn, isComplete, Holds, Came, firstData, joinedBlocks}
-use Rattle.demands.proofs.Given.{given-steps, begun-ruled}
-use Rattle.demands.proofs.Lists.{joined-ext, joined-pieces, some-holds, holds-some}
-use Rattle.demands.proofs.Walks.{walk-stays}
+use Rattle.carousel_handout.proofs.Complete.{complete-means, handout-part}
+use Rattle.demands.specs.Demand.{fates, isNew, told, modules, place, Announces, blocks, blocksAt, matchesAt, sectionData, HasRoom, sameIn, Emptied, bytesAt, isCompleteAt, joinedBlocks}
+use Rattle.demands.specs.Quiet.{noneNew, NoNew, Holds, firstIn}
+use Rattle.demands.specs.Shore.{HasShores}
+use Rattle.demands.proofs.Given.{saying, given-steps}
+use Rattle.demands.proofs.Lists.{joined-ext, joined-pieces, some, some-holds, holds-some}
+use Rattle.demands.proofs.Alike.{part-slots}
+use Rattle.demands.proofs.Walks.{kept-in, next-rule}
+use Rattle.demands.proofs.After.{emptied-clear, handed-means}
+use Rattle.demands.proofs.Quiet.{Stays, quiet-stays, quiet-view}
 use Rattle.demands.proofs.Two.{new-accepted, kind-new}
-use Rattle.demands.proofs.Three.{completeness, content, handed-out, content-handed-out}
 use Rattle.carousel_play.specs.Bytes.{announcementBytes, startOf, shorePart, blockData, blockBytes}
 use Rattle.carousel_play.specs.Rotation.{Playable, Holding, IsBlock}
 use Rattle.carousel_play.proofs.Laws.Limits.{not-ten, not-eleven}
 use Rattle.carousel_play.proofs.Heard.{announcement-heard-as, announcement-well, data-long, theBlock, block-heard-as, block-well}
+
+-- a block of the shore's that hits a view: where the view is marked it is the shore's already
+pub hit-shores : (a : Announced) (image : List ℕ) (x : Held) (i : ℕ) → told x ≡ a → HasShores a image x i → (b : ℕ) → b < blockCount a i
+    → hit (blockData a i b image) (slot (saying x) i b) ≡ record { marked = true; bytes = blockData a i b image }
+unfolding hit slot
+hit-shores a image x i e had b l =
+    go (received (recordOf (x .state)) i b) (λ m. ap (λ (c : Announced). take (blockLength c i b) (drop (blockAt (recordOf (x .state)) i b) (x .image))) e ∙ had b l m)
+  where
+    its : List ℕ
+    its = take (blockLength (told x) i b) (drop (blockAt (recordOf (x .state)) i b) (x .image))
+
+    go : (t : Bool) → (t ≡ true → its ≡ blockData a i b image)
+        → _≡_ {A = Slot} (cond t (record { marked = t; bytes = its }) (record { marked = true; bytes = blockData a i b image })) (record { marked = true; bytes = blockData a i b image })
+    go true h = ap (λ (l : List ℕ). record { marked = true; bytes = l }) (h refl)
+    go false h = refl
 
 module _ (id : ℕ) (a : Announced) (ok : Playable a) (image : List ℕ) (holds : Holding a image) where
   -- a section of the rotation
@@ -70,7 +93,7 @@ module _ (id : ℕ) (a : Announced) (ok : Playable a) (image : List ℕ) (holds 
       let one : NoNew x (s ∷ []) = rw o in
       let m = some-modules (a .blockSize) (a .modules) (not-ten a (ok .keeps)) in
       let k : 0 < modules x = rw e m in
-      let f = walk-stays x (s ∷ []) r k one in
+      let f = quiet-stays x (s ∷ []) r k one in
       rw o (no-new (given x s) (f .ruled) (f .same ∙ e) ss (λ t q. h t (List·Memᴰ·tail q)))
 
   -- A BLOCK MATCHES ITSELF AND NO OTHER
@@ -128,8 +151,8 @@ module _ (id : ℕ) (a : Announced) (ok : Playable a) (image : List ℕ) (holds 
     pub announcement-new : givenOf (y .state) (announcementBytes id a) (y .image) .fate ≡ fate.New
     announcement-new = kind-new (y .state) (announcementBytes id a) (y .image) .1 answers-new
 
-    pub begun : Begun begun-with
-    begun = (y, announcementBytes id a, announcement-new, refl)
+    pub begun-ruled : ruledOf (begun-with .state) ≡ true
+    begun-ruled = next-rule y (announcementBytes id a) ruled
 
     same-announced : (c d : Announced) → announced c ≡ announced d → c ≡ d
     same-announced c d e = cc
@@ -144,7 +167,7 @@ module _ (id : ℕ) (a : Announced) (ok : Playable a) (image : List ℕ) (holds 
         ∙ same-announced (w .told) a (sym (w .heard) ∙ announcement-heard-as id a ok)
 
     -- matching is by what was told
-    pub match-told : (i b : ℕ) (s : List ℕ) → matches begun-with i b s ≡ heardMatches a (length (begun-with .image)) i b (heardOf s)
+    pub match-told : (i b : ℕ) (s : List ℕ) → matchesAt begun-with i b s ≡ heardMatches a (length (begun-with .image)) i b (heardOf s)
     match-told i b s = ap (λ (c : Announced). heardMatches c (length (begun-with .image)) i b (heardOf s)) told-it
 
     pub long-enough : bytesOf a ≤ length (begun-with .image)
@@ -153,29 +176,59 @@ module _ (id : ℕ) (a : Announced) (ok : Playable a) (image : List ℕ) (holds 
         let f = image-length (y .state) (announcementBytes id a) (y .image) in
         omega arith
 
-    -- THEOREM 4, of one module: a run of any sections after the announcement, in which no call answers "new" (quiet), whatever matches one of the module's blocks carries
-    -- the shore's data (agree), and every block of the module is held (every)
-    module _ (ss : List (List ℕ)) (quiet : NoNew begun-with ss) (i : ℕ) (there : i < length (a .modules))
-        (agree : (b : ℕ) (s : List ℕ) → Holds ss s → matches begun-with i b s ≡ true → sectionData s ≡ blockData a i b image)
+    -- of a module that the announcement emptied, the box has nothing
+    pub emptied-none : (i : ℕ) → i < length (a .modules) → sameIn y begun-with (moduleAt a i .number) ≡ false
+        → (b : ℕ) → b < blockCount a i → received (recordOf (begun-with .state)) i b ≡ false
+    emptied-none i u e b l =
+        let k = moduleAt a i .number in
+        let p : place begun-with k ≡ i = ap (λ (c : Announced). placeOf c k) told-it ∙ place-is (a .modules) i (not-eleven a (ok .keeps)) u in
+        let t : Announces begun-with k = subst (λ (j : ℕ). j < modules begun-with) (sym p) (subst (λ (c : Announced). i < length (c .modules)) (sym told-it) u) in
+        let m : b < blocks begun-with k = subst (λ (j : ℕ). b < blocksAt begun-with j) (sym p) (subst (λ (c : Announced). b < blockCount c i) (sym told-it) l) in
+        let em : Emptied begun-with k = record { before = y; section = announcementBytes id a; new = announcement-new; left = refl; announces = t; other = e } in
+        ap (λ (j : ℕ). received (recordOf (begun-with .state)) j b) (sym p) ∙ emptied-clear begun-with k em b m
+
+    -- THEOREM 4, of one module: a run of any sections after the announcement, in which no call answers "new" (quiet); what the box had of the module by then is the shore's
+    -- (had), whatever matches one of the module's blocks carries the shore's data (agree), and every block of the module is held (every)
+    module _ (ss : List (List ℕ)) (quiet : NoNew begun-with ss) (i : ℕ) (there : i < length (a .modules)) (had : HasShores a image begun-with i)
+        (agree : (b : ℕ) (s : List ℕ) → Holds ss s → matchesAt begun-with i b s ≡ true → sectionData s ≡ blockData a i b image)
         (every : (b : ℕ) → b < blockCount a i → Holds ss (blockBytes a i b image)) where
+      abbrev z : Held
+      z = walk begun-with ss
+
       among : i < modules begun-with
       among = rw told-it there
 
-      came : (b : ℕ) → b < blockCount a i → Came begun-with i b ss
-      came b l = (blockBytes a i b image, every b l, match-told i b (blockBytes a i b image) ∙ matches-it (length (begun-with .image)) long-enough i b there l)
+      stays : Stays begun-with z
+      stays = let u = among in quiet-stays begun-with ss begun-ruled (omega arith) quiet
 
-      all-came : (b : ℕ) → b < blocks begun-with i → Came begun-with i b ss
-      all-came b l = came b (subst (λ (c : Announced). b < blockCount c i) told-it l)
+      still-told : told z ≡ a
+      still-told = stays .same ∙ told-it
+
+      its-rule : Kept (recordOf (z .state))
+      its-rule = kept-in z (stays .ruled) (subst (λ (c : Announced). 0 < length (c .modules)) (sym still-told) (omega arith))
+
+      -- each block came, and the first that did carries the shore's data
+      came : (b : ℕ) → b < blockCount a i → some (λ s. matchesAt begun-with i b s) ss ≡ true
+      came b l =
+          let m = match-told i b (blockBytes a i b image) ∙ matches-it (length (begun-with .image)) long-enough i b there l in
+          holds-some (λ s. matchesAt begun-with i b s) ss (blockBytes a i b image) (every b l) m
+
+      first-is : (b : ℕ) → b < blockCount a i → firstIn begun-with i ss b ≡ blockData a i b image
+      first-is b l = let h = some-holds (λ s. matchesAt begun-with i b s) ss (came b l) in h .3 ∙ agree b (h .0) (h .1) (h .2)
+
+      -- so its view is the shore's block, whether it was there before or not
+      view : (b : ℕ) → b < blockCount a i → slot (saying z) i b ≡ record { marked = true; bytes = blockData a i b image }
+      view b l =
+          let m = subst (λ (c : Announced). b < blockCount c i) (sym told-it) l in
+          quiet-view begun-with begun-ruled i among ss quiet b m
+          ∙ ap (λ (t : Bool). cond t (hit (firstIn begun-with i ss b) (slot (saying begun-with) i b)) (slot (saying begun-with) i b)) (came b l)
+          ∙ ap (λ (ds : List ℕ). hit ds (slot (saying begun-with) i b)) (first-is b l)
+          ∙ hit-shores a image begun-with i told-it had b l
 
       -- the module is complete
-      pub played-complete : isComplete (walk begun-with ss) i ≡ true
-      played-complete = completeness begun-with begun i among ss quiet .1 all-came
-
-      first-is : (b : ℕ) → b < blockCount a i → firstData begun-with i ss b ≡ blockData a i b image
-      first-is b l =
-          let c = came b l in
-          let h = some-holds (λ s. matches begun-with i b s) ss (holds-some (λ s. matches begun-with i b s) ss (c .0) (c .1) (c .2)) in
-          h .3 ∙ agree b (h .0) (h .1) (h .2)
+      pub played-complete : isCompleteAt z i ≡ true
+      played-complete = complete-means (recordOf (z .state)) i .1
+          (λ b l. sym (slot-marked (saying z) i b) ∙ ap (λ (v : Slot). v .marked) (view b (subst (λ (c : Announced). b < blockCount c i) still-told l)))
 
       pieces : joinedBlocks (blockCount a i) (λ b. blockData a i b image) ≡ shorePart a image i
       unfolding blockData shorePart
@@ -183,30 +236,29 @@ module _ (id : ℕ) (a : Announced) (ok : Playable a) (image : List ℕ) (holds 
           joined-ext (blockCount a i) _ _ (λ b l. ap (take (blockLength a i b)) (sym (drop-drop (b * a .blockSize) (startOf a i) image)))
           ∙ joined-pieces (a .blockSize) (moduleAt a i .size) (block-size-pos (a .blockSize) (a .modules) (not-ten a (ok .keeps))) (drop (startOf a i) image)
 
-      blocks-are : joinedBlocks (blocks begun-with i) (λ b. firstData begun-with i ss b) ≡ shorePart a image i
-      blocks-are =
-          ap (λ (c : Announced). joinedBlocks (blockCount c i) (λ b. firstData begun-with i ss b)) told-it
-          ∙ joined-ext (blockCount a i) _ _ first-is
-          ∙ pieces
-
       -- and equal to the shore's
-      pub played-bytes : bytesIn (walk begun-with ss) i ≡ shorePart a image i
-      played-bytes = content begun-with begun i among ss quiet played-complete ∙ blocks-are
+      pub played-bytes : bytesAt z i ≡ shorePart a image i
+      played-bytes =
+          part-slots (saying z) its-rule i
+          ∙ ap (λ (c : Announced). joinedBlocks (blockCount c i) (λ b. slot (saying z) i b .bytes)) still-told
+          ∙ joined-ext (blockCount a i) _ _ (λ b l. ap (λ (v : Slot). v .bytes) (view b l))
+          ∙ pieces
 
       -- and is handed out as such
       pub played-handed-out : let k = moduleAt a i .number in
-          (handoutNumber (walk begun-with ss .state) (walk begun-with ss .image) k ≡ 0) × (handedOut (walk begun-with ss .state) (walk begun-with ss .image) k ≡ shorePart a image i)
+          (handoutNumber (z .state) (z .image) k ≡ 0) × (handedOut (z .state) (z .image) k ≡ shorePart a image i)
       played-handed-out =
-          let k : moduleAt (told begun-with) i .number ≡ moduleAt a i .number = ap (λ (c : Announced). moduleAt c i .number) told-it in
-          let z = walk begun-with ss in (
-            ap (handoutNumber (z .state) (z .image)) (sym k) ∙ handed-out begun-with begun i among ss quiet .1 all-came,
-            ap (handedOut (z .state) (z .image)) (sym k) ∙ content-handed-out begun-with begun i among ss quiet played-complete ∙ blocks-are,
-          )
+          let k = moduleAt a i .number in
+          let p : place z k ≡ i = ap (λ (c : Announced). placeOf c k) still-told ∙ place-is (a .modules) i (not-eleven a (ok .keeps)) there in
+          let u : Announces z k = subst (λ (c : Announced). placeOf c k < length (c .modules)) (sym still-told) (subst (λ (j : ℕ). j < length (a .modules)) (sym (place-is (a .modules) i (not-eleven a (ok .keeps)) there)) there) in
+          let r : HasRoom z = subst (λ (c : Announced). bytesOf c ≤ length (z .image)) (sym still-told) (subst (λ (l : ℕ). bytesOf a ≤ l) (sym (stays .long)) long-enough) in
+          let h = handed-means z k (stays .ruled) .1 (u, r, ap (isCompleteAt z) p ∙ played-complete) in
+          (h, handout-part (z .state) (z .image) k h ∙ ap (bytesAt z) p ∙ played-bytes)
 
     -- THEOREM 3: any sections of the rotation are such a run
     module _ (ss : List (List ℕ)) (own : (s : List ℕ) → Holds ss s → Played s) where
       pub own-quiet : NoNew begun-with ss
-      own-quiet = no-new begun-with (begun-ruled begun-with begun) told-it ss own
+      own-quiet = no-new begun-with begun-ruled told-it ss own
 
-      pub own-agree : (i b : ℕ) → i < length (a .modules) → (s : List ℕ) → Holds ss s → matches begun-with i b s ≡ true → sectionData s ≡ blockData a i b image
+      pub own-agree : (i b : ℕ) → i < length (a .modules) → (s : List ℕ) → Holds ss s → matchesAt begun-with i b s ≡ true → sectionData s ≡ blockData a i b image
       own-agree i b u s h m = matched-data (length (begun-with .image)) long-enough i b u s (own s h) (sym (match-told i b s) ∙ m)

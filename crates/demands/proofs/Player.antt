@@ -5,11 +5,11 @@
 --   announcement, any order that holds every block at least once ends the same."
 --
 -- `rotation` is the list of sections, its bytes are carousel_play `Bytes`; `Playable` and `Holding` are the two premises of the first sentence (carousel_play `Rotation`).
--- The identifier is any number, for the box does not read it; nothing is asked of the bytes of either image. `walk`, `fates`, `NoNew`, `matches` are demand 3's words; `Ends`
+-- The identifier is any number, for the box does not read it; nothing is asked of the bytes of either image. `walk`, `fates`, `NoNew`, `matchesAt` are demand 3's words; `Ends`
 -- says of one module that it is complete, equal to the shore's, and handed out as such (specs/Shore.antt).
 use Prim.Native.Nat.{ℕ, _≤_, _<_}
-use mathlib.Core.Path.{_≡_, sym, ap, subst, _∙_}
-use mathlib.Core.Bool.{true}
+use mathlib.Core.Path.{_≡_, refl, sym, ap, subst, _∙_}
+use mathlib.Core.Bool.{Bool, true, false}
 use mathlib.Core.Logic.{_⊎_, inl, inr}
 use mathlib.Core.List.{List, [], _∷_, List·Memᴰ·tail, List·Memᴰ·cases-cons}
 use native.Mathlib.Omega.{arith}
@@ -18,7 +18,10 @@ use Rattle.wire.specs.Items.{joined}
 use Rattle.wire.proofs.Laws.Meaning.{append-nil}
 use Rattle.carousel_messages.specs.Heard.{Announced, Arrived, announced, arrived, heardOf}
 use Rattle.carousel_messages.specs.Good.{GoodAnnouncement, GoodBlock, saidAnnouncement, saidBlock}
-use Rattle.carousel_record.specs.Record.{announcedBy, moduleAt, blockCount, ruledOf}
+use Rattle.wire.proofs.Laws.Tests.{clash}
+use Rattle.carousel_record.specs.Record.{Record, announcedBy, recordOf, moduleAt, blockCount, received, ruledOf}
+use Rattle.carousel_record.specs.Keeping.{SameModule}
+use Rattle.carousel_record.proofs.Laws.Keeping.{same-means}
 use Rattle.carousel_record.specs.Changes.{emptyRecord}
 use Rattle.carousel_step.proofs.Simulation.{empty-ruled}
 use Rattle.carousel_handout.specs.Calls.{handedOut, handoutNumber}
@@ -40,13 +43,19 @@ use Rattle.drift_list.specs.Values.{fixOf}
 use Rattle.drift_list.specs.Answers.{listAnswer, fixAnswer}
 use Rattle.drift_list.specs.Writing.{Draft, fixGiven, writeRefusal}
 use Rattle.drift_list.proofs.Round.{writtenList, written-then-read}
-use Rattle.demands.specs.Demand.{fates, NoNew, matches, sectionData, Holds, Call, called, tookBy, stepped}
-use Rattle.demands.specs.Shore.{Ends, Widths, sentBy}
-use Rattle.demands.proofs.Three.{calls-walk, steps-walk}
-use Rattle.demands.proofs.Played.{Played, played-complete, played-bytes, played-handed-out, own-quiet, own-agree}
+use Rattle.demands.specs.Demand.{fates, matchesAt, sectionData, sameIn, Call, running, called, tookBy}
+use Rattle.demands.specs.Quiet.{NoNew, Holds}
+use Rattle.demands.specs.Shore.{Ends, HasShores, Widths, sentBy}
+use Rattle.demands.proofs.Three.{calls-walk}
+use Rattle.demands.proofs.Played.{Played, emptied-none, played-complete, played-bytes, played-handed-out, own-quiet, own-agree}
 use Rattle.demands.proofs.Taken.{again-same, block-again, block-first, rotation-fates}
 use Rattle.demands.proofs.Stretches.{Cut, joined-run, joined-sections}
 use Rattle.demands.proofs.Sent.{playable, count-is, sent-is}
+
+-- nothing is the same as in the empty record
+empty-none : (q : Record) (k : ℕ) → SameModule (recordOf emptyRecord) q k → ⊥
+unfolding emptyRecord announcedBy
+empty-none q k s = let h = s .before in omega arith
 
 module _ (id : ℕ) (a : Announced) (ok : Playable a) (image : List ℕ) (holds : Holding a image) where
   -- THEOREM 1: each section of the rotation is well formed (demand 2), and is judged to be exactly that announcement or that block, field by field
@@ -71,23 +80,28 @@ module _ (id : ℕ) (a : Announced) (ok : Playable a) (image : List ℕ) (holds 
   own-one : (s : List ℕ) → Holds (rotation id a image) s → Played id a ok image holds s
   own-one s h = elim (List·Memᴰ·cases-cons h) [ inl e ↦ inl e | inr m ↦ inr (rotation-has a image s m) ]
 
-  -- PLAYED TO A BOX: its record keeps its rule and does not hold this announcement already, its image is at least as long as the sizes together
+  -- PLAYED TO A BOX: its record keeps its rule and does not hold this announcement already, its image is at least as long as the sizes together. The announcement empties
+  -- modules, and keeps those that are the same as before (02 §5); of a module, what the box then has is to be the shore's (`HasShores`).
   module _ (y : Held) (ruled : ruledOf (y .state) ≡ true) (other : announcedBy (y .state) ≡ a → ⊥) (room : Holding a (y .image)) where
     abbrev pub told-first : Held
     told-first = given y (announcementBytes id a)
 
+    -- Of a module that the announcement emptied it has nothing.
+    pub emptied-has : (i : ℕ) → i < length (a .modules) → sameIn y told-first (moduleAt a i .number) ≡ false → HasShores a image told-first i
+    emptied-has i u e b l m = absurd (clash _ m (emptied-none id a ok image holds y ruled other room i u e b l))
+
     -- THEOREM 4, of the module at place i: after the announcement come any sections, tables, refused ones and other carousels' among them, in which no call answers "new" and
     -- no section matches a block of the module with other data than the shore's; every block of the module is among them. Then the module ends whole.
-    pub interleaved : (ss : List (List ℕ)) → NoNew told-first ss → (i : ℕ) → i < length (a .modules)
-        → ((b : ℕ) (s : List ℕ) → Holds ss s → matches told-first i b s ≡ true → sectionData s ≡ blockData a i b image)
+    pub interleaved : (ss : List (List ℕ)) → NoNew told-first ss → (i : ℕ) → i < length (a .modules) → HasShores a image told-first i
+        → ((b : ℕ) (s : List ℕ) → Holds ss s → matchesAt told-first i b s ≡ true → sectionData s ≡ blockData a i b image)
         → ((b : ℕ) → b < blockCount a i → Holds ss (blockBytes a i b image))
         → Ends a image (walk y (announcementBytes id a ∷ ss)) i
     unfolding walk
-    interleaved ss quiet i u agree every =
-        let h = played-handed-out id a ok image holds y ruled other room ss quiet i u agree every in
+    interleaved ss quiet i u had agree every =
+        let h = played-handed-out id a ok image holds y ruled other room ss quiet i u had agree every in
         record {
-          complete = played-complete id a ok image holds y ruled other room ss quiet i u agree every;
-          equal = played-bytes id a ok image holds y ruled other room ss quiet i u agree every;
+          complete = played-complete id a ok image holds y ruled other room ss quiet i u had agree every;
+          equal = played-bytes id a ok image holds y ruled other room ss quiet i u had agree every;
           number = h .0;
           handed = h .1;
         }
@@ -98,35 +112,34 @@ module _ (id : ℕ) (a : Announced) (ok : Playable a) (image : List ℕ) (holds 
       each s h = own-one s (own s h)
 
       pub any-order : ((i b : ℕ) → i < length (a .modules) → b < blockCount a i → Holds ss (blockBytes a i b image))
-          → (i : ℕ) → i < length (a .modules) → Ends a image (walk y (announcementBytes id a ∷ ss)) i
-      any-order every i u =
-          interleaved ss (own-quiet id a ok image holds y ruled other room ss each) i u
+          → (i : ℕ) → i < length (a .modules) → HasShores a image told-first i → Ends a image (walk y (announcementBytes id a ∷ ss)) i
+      any-order every i u had =
+          interleaved ss (own-quiet id a ok image holds y ruled other room ss each) i u had
           (λ b s h m. own-agree id a ok image holds y ruled other room ss each i b u s h m)
           (λ b v. every i b u v)
 
-      -- and what each section is answered after them: the announcement again "same", a block that came "repeated", one that did not "stored". None is refused.
+      -- and what each section is answered after them: the announcement again "same", a block that came or was kept "repeated", one that did not "stored". None is refused.
       pub answered-same : let x = walk y (announcementBytes id a ∷ ss) in givenOf (x .state) (announcementBytes id a) (x .image) .fate ≡ fate.Same
       unfolding walk
       answered-same = again-same id a ok image holds y ruled other room ss each
 
       module _ (i b : ℕ) (u : i < length (a .modules)) (v : b < blockCount a i) where
         pub answered-repeated : let x = walk y (announcementBytes id a ∷ ss) in
-            Holds ss (blockBytes a i b image) → givenOf (x .state) (blockBytes a i b image) (x .image) .fate ≡ fate.Repeated
+            HasShores a image told-first i → (received (recordOf (told-first .state)) i b ≡ true) ⊎ Holds ss (blockBytes a i b image)
+            → givenOf (x .state) (blockBytes a i b image) (x .image) .fate ≡ fate.Repeated
         unfolding walk
-        answered-repeated h = block-again id a ok image holds y ruled other room ss each i b u v h
+        answered-repeated had h = block-again id a ok image holds y ruled other room ss each i b u v had h
 
         pub answered-stored : let x = walk y (announcementBytes id a ∷ ss) in
-            (Holds ss (blockBytes a i b image) → ⊥) → givenOf (x .state) (blockBytes a i b image) (x .image) .fate ≡ fate.Stored
+            (Holds ss (blockBytes a i b image) → ⊥) → received (recordOf (told-first .state)) i b ≡ false
+            → givenOf (x .state) (blockBytes a i b image) (x .image) .fate ≡ fate.Stored
         unfolding walk
-        answered-stored h = block-first id a ok image holds y ruled other room ss each i b u v h
+        answered-stored h c = block-first id a ok image holds y ruled other room ss each i b u v h c
 
-    -- THE SAME OVER THE BOX'S CALLS: what calls of `run` (or `run_in`) leave that took these sections, however they were grouped in stretches; and calls of `step` (or `step_in`)
+    -- THE SAME OVER THE BOX'S CALLS, of any kind and mixed (`step`, `take`, `run` and the entries in place), that took these sections, however they were grouped in stretches
     module _ (ss : List (List ℕ)) (i : ℕ) (ends : Ends a image (walk y (announcementBytes id a ∷ ss)) i) where
-      pub of-calls : (ks : List Call) → tookBy ks ≡ announcementBytes id a ∷ ss → Ends a image (called y ks) i
-      of-calls ks e = subst (λ (x : Held). Ends a image x i) (sym (calls-walk y ruled ks ∙ ap (walk y) e)) ends
-
-      pub of-steps : Ends a image (stepped y (announcementBytes id a ∷ ss)) i
-      of-steps = subst (λ (x : Held). Ends a image x i) (sym (steps-walk y (announcementBytes id a ∷ ss))) ends
+      pub of-calls : (cs : List Call) → tookBy cs ≡ announcementBytes id a ∷ ss → Ends a image (called y cs) i
+      of-calls cs e = subst (λ (x : Held). Ends a image x i) (sym (calls-walk y ruled cs ∙ ap (walk y) e)) ends
 
   -- THEOREM 2: "Played from the empty record into an image at least as long as the sizes together, one rotation is taken without refusal", "new" once and then "stored" for each
   -- block, "and leaves every module complete and equal to the shore's"
@@ -141,11 +154,19 @@ module _ (id : ℕ) (a : Announced) (ok : Playable a) (image : List ℕ) (holds 
         let z : 0 ≡ length (a .modules) = ap (λ (c : Announced). length (c .modules)) e in
         omega arith
 
+    none-same : (k : ℕ) → sameIn start (given start (announcementBytes id a)) k ≡ false
+    none-same k = go (sameIn start (given start (announcementBytes id a)) k) refl
+      where
+        go : (t : Bool) → sameIn start (given start (announcementBytes id a)) k ≡ t → sameIn start (given start (announcementBytes id a)) k ≡ false
+        go true e = absurd (empty-none (recordOf (given start (announcementBytes id a) .state)) k (same-means _ _ _ _ e))
+        go false e = e
+
     pub one-rotation : (fates start (rotation id a image) ≡ fate.New ∷ replicate (length (blockSections a image)) fate.Stored)
         × ((i : ℕ) → i < length (a .modules) → Ends a image (walk start (rotation id a image)) i)
     one-rotation = (
-      rotation-fates id a ok image holds start empty-ruled nothing-yet room,
-      any-order start empty-ruled nothing-yet room (blockSections a image) (λ s h. List·Memᴰ·tail h) (λ i b u v. rotation-holds a image i b u v),
+      rotation-fates id a ok image holds start empty-ruled nothing-yet room (λ i b u v. emptied-none id a ok image holds start empty-ruled nothing-yet room i u (none-same _) b v),
+      λ i u. any-order start empty-ruled nothing-yet room (blockSections a image) (λ s h. List·Memᴰ·tail h) (λ i b u v. rotation-holds a image i b u v) i u
+          (emptied-has start empty-ruled nothing-yet room i u (none-same _)),
     )
 
     -- and by one call of `run` on all of it, laid end to end, with the budget for it: it takes every section, passes every byte and stops at the end
@@ -155,7 +176,7 @@ module _ (id : ℕ) (a : Announced) (ok : Playable a) (image : List ℕ) (holds 
       | inr w ↦ let g = w .4 .0 .formed in record { headed = g .section .headed; exact = g .section .exact; plain = λ z. omega (arith, z, g .table) }
     ]
 
-    pub one-stretch : (budget : ℕ) → sectionCount a ≤ budget → tookBy (record { stretch = joined (rotation id a image); budget = budget } ∷ []) ≡ rotation id a image
+    pub one-stretch : (budget : ℕ) → sectionCount a ≤ budget → tookBy (running (joined (rotation id a image)) budget ∷ []) ≡ rotation id a image
     unfolding tookBy
     one-stretch budget l = let n = rotation-long a image id in append-nil _ ∙ joined-sections (rotation id a image) cut-one budget (omega arith)
 
@@ -189,14 +210,14 @@ module _ (p : Playlist) (widths : Widths p) (n : ℕ) (told : countAnswer p ≡ 
   calls-send = (sent-is p n told id image holds buffers large, count-is p n told, playable p n told widths)
 
   -- THEOREM 5, THE WHOLE WAY FROM SHORE TO WHEELHOUSE. A list that `write` took is the module at place i of the shore's image. What the player's calls put is taken by the box's
-  -- calls, in that order, however it is grouped in stretches, by a record that keeps its rule and does not hold this announcement already, into an image long enough. Then the
-  -- box hands the module out, and reads it record for record as it was given to the writer. (In any order, with repeats and among other sections: `list-read` of what
+  -- calls, in that order, however it is grouped in stretches, by a record that keeps its rule and does not hold this announcement already, into an image long enough; what
+  -- the box has kept of the module, if anything, is the shore's. Then the box hands the module out, and reads it record for record as it was given to the writer. (In any order, with repeats and among other sections: `list-read` of what
   -- `any-order` and `interleaved` leave.)
   module _ (d : Draft) (buffer : List ℕ) (written : writeRefusal d (length buffer) ≡ 0) (i : ℕ) (there : i < length (toPlay p .modules)) (its : shorePart (toPlay p) image i ≡ writtenList d buffer)
       (y : Held) (ruled : ruledOf (y .state) ≡ true) (other : announcedBy (y .state) ≡ toPlay p → ⊥) (room : Holding (toPlay p) (y .image))
-      (ks : List Call) (heard : tookBy ks ≡ sentBy id p image buffers n) where
+      (had : HasShores (toPlay p) image (given y (announcementBytes id (toPlay p))) i) (cs : List Call) (heard : tookBy cs ≡ sentBy id p image buffers n) where
     abbrev x : Held
-    x = called y ks
+    x = called y cs
 
     abbrev out : List ℕ
     out = handedOut (x .state) (x .image) (moduleAt (toPlay p) i .number)
@@ -208,7 +229,7 @@ module _ (p : Playlist) (widths : Widths p) (n : ℕ) (told : countAnswer p ≡ 
         let a = toPlay p in
         let ok = calls-send .2 in
         let bs = blockSections a image in
-        let e = any-order id a ok image holds y ruled other room bs (λ s h. List·Memᴰ·tail h) (λ j b u v. rotation-holds a image j b u v) i there in
-        let f = of-calls id a ok image holds y ruled other room bs i e ks (heard ∙ calls-send .0) in
+        let e = any-order id a ok image holds y ruled other room bs (λ s h. List·Memᴰ·tail h) (λ j b u v. rotation-holds a image j b u v) i there had in
+        let f = of-calls id a ok image holds y ruled other room bs i e cs (heard ∙ calls-send .0) in
         let r = list-read id a ok image holds d buffer written i its x f in
         (f .number, r .0, r .1)

@@ -5,7 +5,7 @@
 --
 -- "The module version" is the one that the section's own message bears, so that no record is looked at. Below, x is any record that keeps its rule, and any image; s is a data
 -- section that none of 2 to 8 meets (`BlockSection` of carousel_messages `Good`); and `stale` is the request's sentence.
-use Prim.Native.Nat.{ℕ, _%_, _<_}
+use Prim.Native.Nat.{ℕ, _%_}
 use mathlib.Core.Path.{_≡_, ap, _∙_}
 use mathlib.Core.Bool.{true, false}
 use mathlib.Core.List.{List, [], _∷_}
@@ -28,8 +28,8 @@ use Rattle.carousel_step.proofs.Simulation.{outcome-ruled}
 use Rattle.receiver.specs.declared.Fate.the-variants as fate
 use Rattle.receiver.specs.Run.{Held, carouselFate, givenOf}
 use Rattle.receiver.proofs.Laws.Fates.{fate-other}
-use Rattle.demands.specs.Demand.{Begun, told, modules, isFor, matches}
-use Rattle.demands.proofs.Three.{matching}
+use Rattle.demands.specs.Demand.{told, place, isFor, Emptied, Keeps, Matched}
+use Rattle.demands.proofs.Three.{of-module}
 
 module _ (x : Held) (ruled : ruledOf (x .state) ≡ true) (s : List ℕ) (formed : BlockSection s)
     (stale : versionOf s ≡ blockVersionOf (payloadOf (bodyOf s)) % 32 → ⊥) where
@@ -52,17 +52,17 @@ module _ (x : Held) (ruled : ruledOf (x .state) ≡ true) (s : List ℕ) (formed
   stale-taken = fate-other (x .state) s (x .image) (rw (formed .table)) ∙ ap (λ (a : Stepped). carouselFate (a .answer)) (stale-refused .0)
 
   -- IT IS FOR NO MODULE: demand 3 passes over it
-  pub stale-for-none : (i : ℕ) → isFor x i s ≡ false
+  pub stale-for-none : (k : ℕ) → isFor x k s ≡ false
   unfolding heardFor
-  stale-for-none i = ap (heardFor (told x) i) says-nine
+  stale-for-none k = ap (heardFor (told x) (place x k)) says-nine
 
--- MATCHING NARROWS WITH IT: the section version of what matches is the announced version mod 32
-pub matching-version : (x : Held) (start : Begun x) (i : ℕ) (there : i < modules x) (b : ℕ) (s : List ℕ) → matches x i b s ≡ true
-    → versionOf s ≡ moduleAt (told x) i .version % 32
-matching-version x start i there b s e =
-    let m = matching x start i there b s .0 e in
-    let h = block-heard s (m .0) .0 (m .1) in
-    h .0 .version ∙ ap (λ (v : ℕ). v % 32) (ap (λ (d : Arrived). d .version) (h .1) ∙ m .2 .announcedVersion)
+-- MATCHING NARROWS WITH IT: the section version of what matches, whenever it comes, is the announced version mod 32
+pub matching-version : (x : Held) (k : ℕ) → Emptied x k → (ss : List (List ℕ)) → Keeps x k ss → (b : ℕ) (s : List ℕ) → Matched x k b ss s
+    → versionOf s ≡ moduleAt (told x) (place x k) .version % 32
+matching-version x k start ss n b s m =
+    let w = of-module x k start ss n b s m in
+    let h = block-heard s (w .block) .0 (w .heard) in
+    h .0 .version ∙ ap (λ (v : ℕ). v % 32) (ap (λ (d : Arrived). d .version) (h .1) ∙ w .announcedVersion)
 
 -- THE SOUNDINGS OF THE REQUEST, as whole sections: module version 32 under section version 0 passes; 33 under 0 gives 9; 0 under 31 gives 9; 255 under 31 passes
 pub soundings : (judgedOf (messages.carrying 0xC1 32 (0xF3 ∷ 0x02 ∷ 0xC9 ∷ 0x0E ∷ [])) ≡ judged.Carried (messages.carried 32))

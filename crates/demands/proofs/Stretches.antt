@@ -16,7 +16,7 @@ use Rattle.receiver.specs.Run.{givenOf, imageGiven, RunOutcome, runAfter, runs,
 use Rattle.section.proofs.Laws.Whole.{whole-few, whole-is}
 use Rattle.receiver.proofs.Laws.Places.{stop-end}
 use Rattle.receiver.proofs.Laws.Runs.{runs-stop, runs-next}
-use Rattle.demands.specs.Demand.{Holds}
+use Rattle.demands.specs.Quiet.{Holds}
 
 -- a section that is as long as it says, and is no stuffing
 pub record Cut (s : List ℕ) : Type 0 where

@@ -2,7 +2,7 @@
 use Prim.Native.Nat.{ℕ, zero, suc, _≤_, _<_}
 use mathlib.Core.Path.{_≡_, refl, sym, ap, ap₂, subst, _∙_}
 use mathlib.Core.Bool.{Bool, true, false, cond}
-use mathlib.Core.Logic.{inl, inr}
+use mathlib.Core.Logic.{_⊎_, inl, inr}
 use mathlib.Core.List.{List, [], _∷_, _++_, append-assoc}
 use native.Mathlib.Omega.{arith}
 use lib.ListN.{length, take, drop, replicate, length-append, replicate-append-replicate}
@@ -13,21 +13,28 @@ use Rattle.carousel_record.specs.Record.{recordOf, announcedBy, bytesOf, blockC
 use Rattle.carousel_record.proofs.Laws.Places.{some-modules}
 use Rattle.carousel_step.specs.Matching.{Matching, heardMatches}
 use Rattle.carousel_step.proofs.Views.{Slot, slot, hit}
-use Rattle.carousel_step.proofs.View.{slot-marked}
+use Rattle.carousel_step.proofs.View.{hit-marked, slot-marked}
 use Rattle.receiver.specs.declared.Fate.{Fate}
 use Rattle.receiver.specs.declared.Fate.the-variants as fate
 use Rattle.receiver.specs.Run.{Held, givenOf, given, walk}
-use Rattle.demands.specs.Demand.{fates, Begun, NoNew, told, modules, Holds, firstMatching}
-use Rattle.demands.proofs.Given.{saying, begun-ruled, begun-clear}
+use Rattle.demands.specs.Demand.{fates, told}
+use Rattle.demands.specs.Quiet.{NoNew, Holds, firstMatching}
+use Rattle.demands.specs.Shore.{HasShores}
+use Rattle.demands.proofs.Given.{saying}
 use Rattle.demands.proofs.Lists.{some, some-holds, holds-some}
-use Rattle.demands.proofs.Walks.{Stays, walk-stays, walk-view}
+use Rattle.demands.proofs.Quiet.{Stays, quiet-stays, quiet-view}
 use Rattle.demands.proofs.Two.{same-accepted, stored-accepted, repeated-accepted, kind-same, kind-stored, kind-repeated}
 use Rattle.carousel_play.specs.Bytes.{announcementBytes, blockData, blockBytes}
 use Rattle.carousel_play.specs.Rotation.{moduleSections, sectionsTo, blockSections, rotation, Playable, Holding}
 use Rattle.carousel_play.proofs.Laws.Limits.{not-ten}
 use Rattle.carousel_play.proofs.Heard.{announcement-well, data-long, theBlock, block-well}
 use Rattle.carousel_play.proofs.Laws.Members.{in-either, module-has, sections-have}
-use Rattle.demands.proofs.Played.{Played, no-new, matches-it, matches-only, matched-is, matched-data, begun-with, announcement-new, begun, told-it, long-enough}
+use Rattle.demands.proofs.Played.{hit-shores, Played, no-new, matches-it, matches-only, matched-is, matched-data, begun-with, announcement-new, begun-ruled, told-it, long-enough}
+
+-- a marked view is left by whatever comes
+left-alone : (t : Bool) (ds : List ℕ) (v : Slot) → v .marked ≡ true → cond t (hit ds v) v ≡ v
+left-alone true ds v m = hit-marked ds v m
+left-alone false ds v m = refl
 
 module _ (id : ℕ) (a : Announced) (ok : Playable a) (image : List ℕ) (holds : Holding a image)
     (y : Held) (ruled : ruledOf (y .state) ≡ true) (other : announcedBy (y .state) ≡ a → ⊥) (room : Holding a (y .image)) where
@@ -40,11 +47,8 @@ module _ (id : ℕ) (a : Announced) (ok : Playable a) (image : List ℕ) (holds 
   is-told : told x ≡ a
   is-told = told-it id a ok image holds y ruled other room
 
-  is-begun : Begun x
-  is-begun = begun id a ok image holds y ruled other room
-
   is-ruled : ruledOf (x .state) ≡ true
-  is-ruled = begun-ruled x is-begun
+  is-ruled = begun-ruled id a ok image holds y ruled other room
 
   fits : bytesOf a ≤ n
   fits = long-enough id a ok image holds y ruled other room
@@ -58,7 +62,7 @@ module _ (id : ℕ) (a : Announced) (ok : Playable a) (image : List ℕ) (holds 
     quiet = no-new id a ok image holds x is-ruled is-told ss own
 
     stays : Stays x z
-    stays = let m = some-modules (a .blockSize) (a .modules) (not-ten a (ok .keeps)) in walk-stays x ss is-ruled (rw is-told m) quiet
+    stays = let m = some-modules (a .blockSize) (a .modules) (not-ten a (ok .keeps)) in quiet-stays x ss is-ruled (rw is-told m) quiet
 
     still-told : announcedBy (z .state) ≡ a
     still-told = stays .same ∙ is-told
@@ -79,11 +83,13 @@ module _ (id : ℕ) (a : Announced) (ok : Playable a) (image : List ℕ) (holds 
       abbrev s : List ℕ
       s = blockBytes a i b image
 
-      view : slot (saying z) i b ≡ cond came (hit (firstMatching (λ s. heardMatches a n i b (heardOf s)) ss) (slot (saying x) i b)) (slot (saying x) i b)
-      view = walk-view a n i b u v x ss is-ruled is-told refl quiet
+      abbrev before-it : Slot
+      before-it = slot (saying x) i b
 
-      clear-before : slot (saying x) i b .marked ≡ false
-      clear-before = slot-marked (saying x) i b ∙ begun-clear x is-begun i b
+      view : slot (saying z) i b ≡ cond came (hit (firstMatching (λ s. heardMatches a n i b (heardOf s)) ss) before-it) before-it
+      view =
+          quiet-view x is-ruled i (subst (λ (c : Announced). i < length (c .modules)) (sym is-told) u) ss quiet b (subst (λ (c : Announced). b < blockCount c i) (sym is-told) v)
+          ∙ ap (λ (c : Announced). cond (some (λ s. heardMatches c n i b (heardOf s)) ss) (hit (firstMatching (λ s. heardMatches c n i b (heardOf s)) ss) before-it) before-it) is-told
 
       -- it matches what the record was told
       abbrev At : Arrived → Type 0
@@ -107,57 +113,74 @@ module _ (id : ℕ) (a : Announced) (ok : Playable a) (image : List ℕ) (holds 
       abbrev Clear : Arrived → Type 0
       Clear e = At e × (received (recordOf (z .state)) i (e .block) ≡ false)
 
-      not-received : came ≡ false → received (recordOf (z .state)) i b ≡ false
-      not-received e =
+      not-received : came ≡ false → received (recordOf (x .state)) i b ≡ false → received (recordOf (z .state)) i b ≡ false
+      not-received e f =
           let k : slot (saying z) i b ≡ slot (saying x) i b = view ∙ rw e in
-          sym (slot-marked (saying z) i b) ∙ ap (λ (w : Slot). w .marked) k ∙ clear-before
+          sym (slot-marked (saying z) i b) ∙ ap (λ (w : Slot). w .marked) k ∙ slot-marked (saying x) i b ∙ f
 
-      pub first-stored : came ≡ false → givenOf (z .state) s (z .image) .fate ≡ fate.Stored
-      first-stored e =
-          let w = subst Clear says (matches-now, not-received e) in
+      pub first-stored : came ≡ false → received (recordOf (x .state)) i b ≡ false → givenOf (z .state) s (z .image) .fate ≡ fate.Stored
+      first-stored e f =
+          let w = subst Clear says (matches-now, not-received e f) in
           kind-stored (z .state) s (z .image) .1 (stored-accepted (z .state) s (z .image) .1 (stays .ruled, good, (i, w .0, w .1)))
 
       -- and one that has, "repeated"
       abbrev Marked : Arrived → Type 0
       Marked e = At e × (received (recordOf (z .state)) i (e .block) ≡ true) × (take (length (e .bytes)) (drop (blockAt (recordOf (z .state)) i (e .block)) (z .image)) ≡ e .bytes)
 
-      after-hit : (t : Bool) (ds : List ℕ) (w : Slot) → t ≡ true → w .marked ≡ false → cond t (hit ds w) w ≡ record { marked = true; bytes = ds }
-      unfolding hit
-      after-hit t ds w e f = rw (e, f)
+      -- where what the box had is the shore's, and it had the block or the block came since
+      module _ (had : HasShores a image x i) (there : (received (recordOf (x .state)) i b ≡ true) ⊎ (came ≡ true)) where
+        abbrev shores : Slot
+        shores = record { marked = true; bytes = blockData a i b image }
 
-      view-hit : came ≡ true → slot (saying z) i b ≡ record { marked = true; bytes = blockData a i b image }
-      view-hit e =
-          let h = some-holds (λ s. heardMatches a n i b (heardOf s)) ss e in
-          let k = h .3 ∙ matched-data id a ok image holds n fits i b u (h .0) (own (h .0) (h .1)) (h .2) in
-          view ∙ after-hit came _ _ e clear-before ∙ ap (λ (l : List ℕ). record { marked = true; bytes = l }) k
+        view-hit : came ≡ true → slot (saying z) i b ≡ shores
+        view-hit e =
+            let h = some-holds (λ s. heardMatches a n i b (heardOf s)) ss e in
+            let k = h .3 ∙ matched-data id a ok image holds n fits i b u (h .0) (own (h .0) (h .1)) (h .2) in
+            view
+            ∙ ap (λ (t : Bool). cond t (hit (firstMatching (λ s. heardMatches a n i b (heardOf s)) ss) before-it) before-it) e
+            ∙ ap (λ (ds : List ℕ). hit ds before-it) k
+            ∙ hit-shores a image x i is-told had b v
 
-      bytes-there : came ≡ true → take (length (blockData a i b image)) (drop (blockAt (recordOf (z .state)) i b) (z .image)) ≡ blockData a i b image
-      unfolding slot
-      bytes-there e =
-          let l = data-long a ok image holds i b u v ∙ ap (λ (c : Announced). blockLength c i b) (sym still-told) in
-          ap (λ (k : ℕ). take k (drop (blockAt (recordOf (z .state)) i b) (z .image))) l ∙ ap (λ (w : Slot). w .bytes) (view-hit e)
+        -- what was marked is its own hit
+        view-kept : received (recordOf (x .state)) i b ≡ true → slot (saying z) i b ≡ shores
+        view-kept e =
+            let m = slot-marked (saying x) i b ∙ e in
+            let o : (t : Bool) (ds : List ℕ) → cond t (hit ds before-it) before-it ≡ before-it = λ t ds. left-alone t ds before-it m in
+            view ∙ o came _ ∙ sym (hit-marked (blockData a i b image) before-it m) ∙ hit-shores a image x i is-told had b v
 
-      pub later-repeated : came ≡ true → givenOf (z .state) s (z .image) .fate ≡ fate.Repeated
-      later-repeated e =
-          let m = sym (slot-marked (saying z) i b) ∙ ap (λ (w : Slot). w .marked) (view-hit e) in
-          let w = subst Marked says (matches-now, m, bytes-there e) in
-          kind-repeated (z .state) s (z .image) .1 (repeated-accepted (z .state) s (z .image) .1 (stays .ruled, good, (i, w .0, w .1, w .2)))
+        view-there : slot (saying z) i b ≡ shores
+        view-there = elim there [ inl e ↦ view-kept e | inr e ↦ view-hit e ]
+
+        bytes-there : take (length (blockData a i b image)) (drop (blockAt (recordOf (z .state)) i b) (z .image)) ≡ blockData a i b image
+        unfolding slot
+        bytes-there =
+            let l = data-long a ok image holds i b u v ∙ ap (λ (c : Announced). blockLength c i b) (sym still-told) in
+            ap (λ (k : ℕ). take k (drop (blockAt (recordOf (z .state)) i b) (z .image))) l ∙ ap (λ (w : Slot). w .bytes) view-there
+
+        pub later-repeated : givenOf (z .state) s (z .image) .fate ≡ fate.Repeated
+        later-repeated =
+            let m = sym (slot-marked (saying z) i b) ∙ ap (λ (w : Slot). w .marked) view-there in
+            let w = subst Marked says (matches-now, m, bytes-there) in
+            kind-repeated (z .state) s (z .image) .1 (repeated-accepted (z .state) s (z .image) .1 (stays .ruled, good, (i, w .0, w .1, w .2)))
 
       -- that it has come, said of the run itself
-      pub block-again : Holds ss s → givenOf (z .state) s (z .image) .fate ≡ fate.Repeated
-      block-again h = later-repeated (holds-some (λ s. heardMatches a n i b (heardOf s)) ss s h (matches-it id a ok image holds n fits i b u v))
+      held-came : Holds ss s → came ≡ true
+      held-came h = holds-some (λ s. heardMatches a n i b (heardOf s)) ss s h (matches-it id a ok image holds n fits i b u v)
 
-      pub block-first : (Holds ss s → ⊥) → givenOf (z .state) s (z .image) .fate ≡ fate.Stored
-      block-first h = go came refl
+      pub block-again : HasShores a image x i → (received (recordOf (x .state)) i b ≡ true) ⊎ Holds ss s → givenOf (z .state) s (z .image) .fate ≡ fate.Repeated
+      block-again had h = later-repeated had (elim h [ inl e ↦ inl e | inr m ↦ inr (held-came m) ])
+
+      pub block-first : (Holds ss s → ⊥) → received (recordOf (x .state)) i b ≡ false → givenOf (z .state) s (z .image) .fate ≡ fate.Stored
+      block-first h c = go came refl
         where
           go : (t : Bool) → came ≡ t → givenOf (z .state) s (z .image) .fate ≡ fate.Stored
           go true e =
               let f = some-holds (λ s. heardMatches a n i b (heardOf s)) ss e in
               let k = matched-is id a ok image holds n fits i b u (f .0) (own (f .0) (f .1)) (f .2) in
               absurd (h (subst (λ (l : List ℕ). Holds ss l) k (f .1)))
-          go false e = first-stored e
+          go false e = first-stored e c
 
-  -- THEOREM 2, the answers: "one rotation is taken without refusal", and every block is stored
+  -- THEOREM 2, the answers: "one rotation is taken without refusal", and every block is stored, where the announcement kept none
   abbrev stored : List (List ℕ) → List Fate
   stored ss = replicate (length ss) fate.Stored
 
@@ -168,6 +191,9 @@ module _ (id : ℕ) (a : Announced) (ok : Playable a) (image : List ℕ) (holds 
 
   stored-snoc : (ss : List (List ℕ)) (s : List ℕ) → stored ss ++ (fate.Stored ∷ []) ≡ stored (ss ++ (s ∷ []))
   stored-snoc ss s = replicate-append-replicate (length ss) 1 fate.Stored ∙ ap (λ (k : ℕ). replicate k fate.Stored) (sym (length-append ss (s ∷ [])))
+
+  abbrev pub NoneHad : Type 0
+  NoneHad = (i b : ℕ) → i < length (a .modules) → b < blockCount a i → received (recordOf (x .state)) i b ≡ false
 
   -- what is played before block m of the module at place k
   abbrev before : (k m : ℕ) → List (List ℕ)
@@ -202,22 +228,22 @@ module _ (id : ℕ) (a : Announced) (ok : Playable a) (image : List ℕ) (holds 
         go true e = absurd (never e)
         go false e = e
 
-    module-stored : fates x (sectionsTo a image k) ≡ stored (sectionsTo a image k) → (m : ℕ) → m ≤ blockCount a k → fates x (before k m) ≡ stored (before k m)
+    module-stored : NoneHad → fates x (sectionsTo a image k) ≡ stored (sectionsTo a image k) → (m : ℕ) → m ≤ blockCount a k → fates x (before k m) ≡ stored (before k m)
     unfolding moduleSections
-    module-stored ih zero l = rw (append-nil (sectionsTo a image k)) ih
-    module-stored ih (suc m) l =
+    module-stored none ih zero l = rw (append-nil (sectionsTo a image k)) ih
+    module-stored none ih (suc m) l =
         let s = blockBytes a k m image in
         let e : before k (suc m) ≡ before k m ++ (s ∷ []) = sym (append-assoc (sectionsTo a image k) (moduleSections a image k m) (s ∷ [])) in
-        let f = first-stored (before k m) (before-own m (omega arith)) k m u (omega arith) (fresh m (omega arith)) in
+        let f = first-stored (before k m) (before-own m (omega arith)) k m u (omega arith) (fresh m (omega arith)) (none k m u (omega arith)) in
         let g : fates x (before k m ++ (s ∷ [])) ≡ stored (before k m ++ (s ∷ [])) =
-        fates-snoc x (before k m) s ∙ ap₂ (λ (l : List Fate) (w : Fate). l ++ (w ∷ [])) (module-stored ih m (omega arith)) f ∙ stored-snoc (before k m) s in
+        fates-snoc x (before k m) s ∙ ap₂ (λ (l : List Fate) (w : Fate). l ++ (w ∷ [])) (module-stored none ih m (omega arith)) f ∙ stored-snoc (before k m) s in
         subst (λ (l : List (List ℕ)). fates x l ≡ stored l) (sym e) g
 
-  all-stored : (k : ℕ) → k ≤ length (a .modules) → fates x (sectionsTo a image k) ≡ stored (sectionsTo a image k)
+  all-stored : NoneHad → (k : ℕ) → k ≤ length (a .modules) → fates x (sectionsTo a image k) ≡ stored (sectionsTo a image k)
   unfolding sectionsTo fates
-  all-stored zero l = refl
-  all-stored (suc k) l = module-stored k (omega arith) (all-stored k (omega arith)) (blockCount a k) (omega arith)
+  all-stored none zero l = refl
+  all-stored none (suc k) l = module-stored k (omega arith) none (all-stored none k (omega arith)) (blockCount a k) (omega arith)
 
-  pub rotation-fates : fates y (rotation id a image) ≡ fate.New ∷ replicate (length (blockSections a image)) fate.Stored
+  pub rotation-fates : NoneHad → fates y (rotation id a image) ≡ fate.New ∷ replicate (length (blockSections a image)) fate.Stored
   unfolding fates
-  rotation-fates = ap₂ (λ (f : Fate) (fs : List Fate). f ∷ fs) (announcement-new id a ok image holds y ruled other room) (all-stored (length (a .modules)) (omega arith))
+  rotation-fates none = ap₂ (λ (f : Fate) (fs : List Fate). f ∷ fs) (announcement-new id a ok image holds y ruled other room) (all-stored none (length (a .modules)) (omega arith))

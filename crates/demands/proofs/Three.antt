@@ -1,4 +1,4 @@
--- DEMAND 3, as 00 says it:
+-- DEMAND 3. 00 says:
 --
 --   "Begin from a just accepted new announcement, with one record and one image, carried from call to call and written by nobody but these calls. From that same start
 --   take two runs, each being the sections its calls took, with no further new announcement. If both hold the same data sections for one announced module, in the same
@@ -6,117 +6,214 @@
 --   announced version came in a matching section, and its bytes are then those blocks' data in block order, each as it first matched; and if matching repeats agree,
 --   order and repeats don't alter its bytes."
 --
--- Here x is the record and image that a call left which answered "new" (Begun); its record may have been any record that keeps its rule, and its image any bytes of any
--- length. The runs ss and us are lists of sections, any bytes: application tables, refused sections, other modules' blocks, "same" and refused announcements. NoNew says
--- that no call of the run answered "new". i is the place of an announced module (there). The words are defined in specs/Demand.antt, one by one.
+-- and 02 §5:
+--
+--   "Demand 3 reads from the last announcement that emptied the module, and admits further new announcements that keep it, provided both runs hold the same new ones, in
+--   the same order and at the same places among that module's sections; those that answer "same" are free as before."
+--
+-- Here k is a module's number, and x the record and image that a call left which answered "new" and did not keep module k (Emptied); the record before may have been any
+-- that keeps its rule, the image any bytes of any length. The runs ss and us are lists of sections, any bytes: application tables, refused sections, other modules'
+-- blocks, announcements. Keeps says that each call of the run that answered "new" left the same module k as it found. The words are defined in specs/Demand.antt, one by
+-- one. What 00 says of runs with no further new announcement is a case of it: Quiet.antt.
 --
 -- What these theorems do not exclude by themselves: a receiver that refuses everything, or answers "new" to everything. Demand 2's exact acceptance does (Two.antt).
 use Prim.Native.Nat.{ℕ, _<_}
-use mathlib.Core.Path.{_≡_, refl, sym, ap, _∙_}
-use mathlib.Core.Bool.{true}
+use mathlib.Core.Path.{_≡_, refl, sym, ap, ap₂, subst, _∙_}
+use mathlib.Core.Bool.{true, not, cond}
 use mathlib.Core.Logic.{_↔_}
-use mathlib.Core.List.{List}
+use mathlib.Core.List.{List, [], _∷_, _++_}
+use native.Mathlib.Omega.{arith}
+use lib.Dec.{eqb}
 use lib.ListN.{length}
-use Rattle.carousel_messages.specs.Heard.{Announced, Arrived, arrived, heardOf}
-use Rattle.carousel_record.specs.Record.{moduleAt, ruledOf}
-use Rattle.carousel_step.specs.Matching.{heardFor, heardMatches, Matching}
+use borrow.Author.Tests.{ne-eqb}
+use Rattle.wire.specs.Tests.{firstMet}
+use Rattle.wire.proofs.Laws.Tests.{both}
+use Rattle.carousel_messages.specs.Heard.{Announced, Arrived, Heard, refusal, announced, arrived, heardOf}
+use Rattle.carousel_record.specs.Blocks.{blocksOf, blockLengthOf}
+use Rattle.carousel_record.specs.Record.{recordOf, moduleAt, placeOf, modulePart, missingOf, ruledOf}
+use Rattle.carousel_record.specs.Refusals.{meets13, meets15}
+use Rattle.carousel_record.proofs.Laws.Tests.{joint}
+use Rattle.carousel_record.proofs.Laws.Places.{number-at}
 use Rattle.carousel_handout.specs.Calls.{handoutNumber, handedOut}
-use Rattle.carousel_step.specs.Step.{steppedOf}
+use Rattle.carousel_step.specs.Step.{meets12, steppedOf}
+use Rattle.carousel_step.specs.Matching.{blockFor, heardFor, Matching}
 use Rattle.carousel_step.proofs.Matching.{matching-means}
-use Rattle.receiver.specs.Run.{Held, givenOf, carouselFate, walk}
-use Rattle.demands.specs.Demand.{fates, Begun, NoNew, told, modules, blocks, isFor, matches, sectionsFor, answersFor, bytesIn, missingIn}
-use Rattle.demands.specs.Demand.{isComplete, Holds, Came, firstData, joinedBlocks, RepeatsAgree, FoundIn, Call, called, tookBy, stepped}
-use Rattle.demands.proofs.Given.{begun-ruled, for-fate}
-use Rattle.demands.proofs.Alike.{alike-bytes, alike-missing}
-use Rattle.demands.proofs.Walks.{alone}
-use Rattle.demands.proofs.After.{rule, both-alone, stays, complete-came, complete-bytes, handed-came, handed-bytes, same-handout, same-module}
-use Rattle.demands.proofs.Calls.{called-walks, stepped-walks}
+use Rattle.receiver.specs.Run.{Held, given, carouselFate, walk}
+use Rattle.demands.specs.Demand.{fateOf, told, place, blocks, isFor, matches, bytesIn, missingIn, isComplete, HasRoom, Emptied, keepsOne, keepsAll, Keeps, trace, answersFor}
+use Rattle.demands.specs.Demand.{Matched, Came, OfModule, heardModule, RepeatsAgree, FoundIn, Call, called, tookBy}
+use Rattle.demands.proofs.Given.{saying, for-fate}
+use Rattle.demands.proofs.Alike.{Alike, alike-sym, alike-trans, alike-bytes, alike-missing}
+use Rattle.demands.proofs.Walks.{kept-in, alone}
+use Rattle.demands.proofs.After.{emptied-ruled, stays, complete-came, complete-bytes, handed-came, handed-bytes, same-content}
+use Rattle.demands.proofs.Calls.{called-walks}
 
-module _ (x : Held) (start : Begun x) (i : ℕ) (there : i < modules x) where
-  -- MATCHING, spelled out: it is a data section of the announced download, with the module's number and announced version, block b of the module's blocks, of that
-  -- block's length, and the image holds the sizes together.
-  pub matching : (b : ℕ) (s : List ℕ) → (matches x i b s ≡ true) ↔ ((d : Arrived) × (heardOf s ≡ arrived d) × Matching (told x) (length (x .image)) i b d)
-  matching b s = matching-means (told x) (rule x start i there .numbers) (length (x .image)) i b there (heardOf s)
+-- the front of a run that keeps the module keeps it
+keeps-front : (x : Held) (k : ℕ) (us rest : List (List ℕ)) → Keeps x k (us ++ rest) → Keeps x k us
+unfolding keepsAll
+keeps-front x k [] rest e = refl
+keeps-front x k (u ∷ us) rest e =
+    let h = both (keepsOne x k u) (keepsAll (given x u) k (us ++ rest)) e in
+    joint (keepsOne x k u) (keepsAll (given x u) k us) (h .0) (keeps-front (given x u) k us rest (h .1))
 
-  -- It means the same at every call of a run: nothing that it looks at changes.
-  pub matching-stays : (ss : List (List ℕ)) → NoNew x ss → (b : ℕ) (s : List ℕ) → matches (walk x ss) i b s ≡ matches x i b s
-  matching-stays ss n b s =
-      ap (λ (a : Announced). heardMatches a (length (walk x ss .image)) i b (heardOf s)) (stays x start i there ss n .same)
-      ∙ ap (λ (l : ℕ). heardMatches (told x) l i b (heardOf s)) (stays x start i there ss n .long)
+-- two announcements of one download: the same sections are for the modules with one number
+for-number : (a b : Announced) → 0 < length (a .modules) → 0 < length (b .modules) → a .download ≡ b .download → (i j : ℕ) → moduleAt a i .number ≡ moduleAt b j .number → (h : Heard)
+    → heardFor a i h ≡ heardFor b j h
+unfolding heardFor blockFor meets12
+for-number a b p q e i j f (refusal m) = refl
+for-number a b p q e i j f (announced c) = refl
+for-number a b p q e i j f (arrived d) = rw (ne-eqb (length (a .modules)) 0 (λ z. omega arith), ne-eqb (length (b .modules)) 0 (λ z. omega arith), e, f)
 
-  -- and so does "for"
-  pub for-stays : (ss : List (List ℕ)) → NoNew x ss → (s : List ℕ) → isFor (walk x ss) i s ≡ isFor x i s
-  for-stays ss n s = ap (λ (a : Announced). heardFor a i (heardOf s)) (stays x start i there ss n .same)
+module _ (x : Held) (k : ℕ) (start : Emptied x k) where
+  abbrev ok : ruledOf (x .state) ≡ true
+  ok = emptied-ruled x k start
 
-  -- ISOLATION. "If both hold the same data sections for one announced module, in the same order, then that module's answers, its stored bytes and its missing blocks
-  -- are the same in both, whatever else came."
-  pub isolation : (ss us : List (List ℕ)) → NoNew x ss → NoNew x us → sectionsFor x i ss ≡ sectionsFor x i us
-      → (answersFor x i ss ≡ answersFor x i us) × (bytesIn (walk x ss) i ≡ bytesIn (walk x us) i) × (missingIn (walk x ss) i ≡ missingIn (walk x us) i)
-  isolation ss us n m e =
-      let r = begun-ruled x start in
-      let al = both-alone x start i there ss us n m e in
-      (alone x r i there ss n .0 ∙ ap (λ (l : List (List ℕ)). fates x l) e ∙ sym (alone x r i there us m .0), alike-bytes i _ _ al, alike-missing i _ _ al)
+  -- MATCHING, spelled out, at any call of a run that keeps the module, by the announcement then in force and the image then lent: it is a data section of the announced
+  -- download, with the module's number and announced version, block b of the module's blocks, of that block's length, and the image holds the sizes together.
+  pub matching : (ss : List (List ℕ)) → Keeps x k ss → (b : ℕ) (s : List ℕ)
+      → (matches (walk x ss) k b s ≡ true) ↔ ((d : Arrived) × (heardOf s ≡ arrived d) × Matching (told (walk x ss)) (length (walk x ss .image)) (place (walk x ss) k) b d)
+  matching ss n b s =
+      let w = stays x k start ss n in
+      let t = w .same .now in
+      matching-means (told (walk x ss)) (kept-in (walk x ss) (w .ruled) (omega arith) .numbers) (length (walk x ss .image)) (place (walk x ss) k) b t (heardOf s)
 
-  -- and so is what is handed out, and the number of the hand-out
-  pub isolation-handed-out : (ss us : List (List ℕ)) → NoNew x ss → NoNew x us → sectionsFor x i ss ≡ sectionsFor x i us → let k = moduleAt (told x) i .number in
-      (handoutNumber (walk x ss .state) (walk x ss .image) k ≡ handoutNumber (walk x us .state) (walk x us .image) k)
-      × (handedOut (walk x ss .state) (walk x ss .image) k ≡ handedOut (walk x us .state) (walk x us .image) k)
-  isolation-handed-out ss us n m e =
-      let h = isolation ss us n m e in
-      same-handout x start i there ss us n m (h .1) (h .2)
+  -- Which sections are for the module does not change while it is kept; of what "matching" looks at, 15 alone does: whether the image holds the sizes together.
+  pub for-stays : (ss : List (List ℕ)) → Keeps x k ss → (s : List ℕ) → isFor (walk x ss) k s ≡ isFor x k s
+  for-stays ss n s =
+      let w = stays x k start ss n .same in
+      let t = w .now in
+      let u = w .before in
+      for-number (told (walk x ss)) (told x) (omega arith) (omega arith) (sym (w .download)) (place (walk x ss) k) (place x k) (sym (w .number)) (heardOf s)
 
-  -- COMPLETENESS. "It is complete exactly when every block of its announced version came in a matching section"
-  pub completeness : (ss : List (List ℕ)) → NoNew x ss → (isComplete (walk x ss) i ≡ true) ↔ ((b : ℕ) → b < blocks x i → Came x i b ss)
-  completeness ss n = complete-came x start i there ss n
+  pub matching-stays : (ss : List (List ℕ)) → Keeps x k ss → (b : ℕ) (s : List ℕ) → matches x k b s ≡ true → HasRoom (walk x ss) → matches (walk x ss) k b s ≡ true
+  matching-stays ss n b s e room =
+      let w = stays x k start ss n .same in
+      let u = w .before in
+      let m = matching-means (told x) (kept-in x ok (omega arith) .numbers) (length (x .image)) (place x k) b u (heardOf s) .0 e in
+      matching ss n b s .1 (
+        m .0,
+        m .1,
+        record {
+          sameDownload = m .2 .sameDownload ∙ w .download;
+          itsNumber = m .2 .itsNumber ∙ w .number;
+          announcedVersion = m .2 .announcedVersion ∙ w .version;
+          imageHolds = room;
+          thisBlock = m .2 .thisBlock;
+          oneOfIts = subst (λ (c : ℕ). b < c) (λ i. blocksOf (w .blockSize i) (w .size i)) (m .2 .oneOfIts);
+          itsLength = m .2 .itsLength ∙ (λ i. blockLengthOf (w .blockSize i) (w .size i) b);
+        },
+      )
 
-  -- and it is then, and only then, handed out (that the image holds the sizes together is part of matching)
-  pub handed-out : (ss : List (List ℕ)) → NoNew x ss
-      → (handoutNumber (walk x ss .state) (walk x ss .image) (moduleAt (told x) i .number) ≡ 0) ↔ ((b : ℕ) → b < blocks x i → Came x i b ss)
-  handed-out ss n = handed-came x start i there ss n
+  -- Whichever announcement was in force when a section matched: it is a section of the module as the start announced it.
+  pub of-module : (ss : List (List ℕ)) → Keeps x k ss → (b : ℕ) (s : List ℕ) → Matched x k b ss s → OfModule x k b s
+  of-module ss n b s m =
+      let f = keeps-front x k (m .before) (s ∷ m .took .rest) (subst (λ (l : List (List ℕ)). Keeps x k l) (m .took .whole) n) in
+      let w = stays x k start (m .before) f .same in
+      let q = matching (m .before) f b s .0 (m .matching) in
+      record {
+        block = q .0;
+        heard = q .1;
+        sameDownload = q .2 .sameDownload ∙ sym (w .download);
+        itsNumber = q .2 .itsNumber ∙ number-at k (told (walk x (m .before)) .modules) (w .now);
+        announcedVersion = q .2 .announcedVersion ∙ sym (w .version);
+        thisBlock = q .2 .thisBlock;
+        oneOfIts = subst (λ (c : ℕ). b < c) (sym (λ i. blocksOf (w .blockSize i) (w .size i))) (q .2 .oneOfIts);
+        itsLength = q .2 .itsLength ∙ sym (λ i. blockLengthOf (w .blockSize i) (w .size i) b);
+      }
+
+  -- both runs leave the module as the sections of their one trace, run alone, do
+  module _ (ss us : List (List ℕ)) (n : Keeps x k ss) (m : Keeps x k us) (e : trace x k ss ≡ trace x k us) where
+    both-alone : Alike (place (walk x ss) k) (saying (walk x ss)) (saying (walk x us))
+    both-alone =
+        let p = alone x k ok (start .announces) ss n .1 .alike in
+        let q = alone x k ok (start .announces) us m .1 .alike in
+        let i = place (walk x ss) k in
+        let o : walk x (trace x k us) ≡ walk x (trace x k ss) = ap (walk x) (sym e) in
+        let g : place (walk x us) k ≡ i = ap (λ (a : Announced). placeOf a k) (sym (q .told) ∙ ap (λ (z : Held). told z) o ∙ p .told) in
+        alike-trans i _ _ _ p
+        (subst (λ (z : Held). Alike i (saying z) (saying (walk x us))) o (alike-sym _ _ _ (subst (λ (j : ℕ). Alike j (saying (walk x us)) (saying (walk x (trace x k us)))) g q)))
+
+    same-place : place (walk x us) k ≡ place (walk x ss) k
+    same-place = ap (λ (a : Announced). placeOf a k) (both-alone .told)
+
+    -- ISOLATION. "If both hold the same data sections for one announced module, in the same order .. provided both runs hold the same new ones, in the same order and at the
+    -- same places among that module's sections": one trace. "then that module's answers, its stored bytes and its missing blocks are the same in both, whatever else came."
+    pub isolation : (answersFor x k ss ≡ answersFor x k us) × (bytesIn (walk x ss) k ≡ bytesIn (walk x us) k) × (missingIn (walk x ss) k ≡ missingIn (walk x us) k)
+    isolation = (
+      alone x k ok (start .announces) ss n .0 ∙ ap (λ (l : List (List ℕ)). answersFor x k l) e ∙ sym (alone x k ok (start .announces) us m .0),
+      alike-bytes (place (walk x ss) k) _ _ both-alone ∙ ap (λ (i : ℕ). modulePart (recordOf (walk x us .state)) (walk x us .image) i) (sym same-place),
+      alike-missing (place (walk x ss) k) _ _ both-alone ∙ ap (λ (i : ℕ). missingOf (recordOf (walk x us .state)) i) (sym same-place),
+    )
+
+    -- and so is what is handed out, and the number of the hand-out
+    same-number : handoutNumber (walk x ss .state) (walk x ss .image) k ≡ handoutNumber (walk x us .state) (walk x us .image) k
+    unfolding handoutNumber
+    same-number =
+        let c = both-alone in
+        let r = stays x k start ss n .ruled ∙ sym (stays x k start us m .ruled) in
+        let t = sym (c .told) in
+        λ i. firstMet ((1, not (r i)) ∷ (13, meets13 (t i) k) ∷ (15, meets15 (t i) (sym (c .long) i)) ∷ (20, not (eqb (length (isolation .2 i)) 0)) ∷ [])
+
+    pub isolation-handed-out : (handoutNumber (walk x ss .state) (walk x ss .image) k ≡ handoutNumber (walk x us .state) (walk x us .image) k)
+        × (handedOut (walk x ss .state) (walk x ss .image) k ≡ handedOut (walk x us .state) (walk x us .image) k)
+    unfolding handedOut
+    isolation-handed-out = (same-number, ap₂ (λ (m : ℕ) (l : List ℕ). cond (eqb m 0) l []) same-number (isolation .1))
+
+  -- COMPLETENESS. "It is complete exactly when every block of its announced version came in a matching section": in one that was matching when it came
+  pub completeness : (ss : List (List ℕ)) → Keeps x k ss → (isComplete (walk x ss) k ≡ true) ↔ ((b : ℕ) → b < blocks x k → Came x k b ss)
+  completeness ss n = complete-came x k start ss n
+
+  -- It is then handed out, and only then, where the image holds the sizes together that are now announced: an announcement that keeps the module may add others.
+  pub handed-out : (ss : List (List ℕ)) → Keeps x k ss → (handoutNumber (walk x ss .state) (walk x ss .image) k ≡ 0) ↔ (HasRoom (walk x ss) × ((b : ℕ) → b < blocks x k → Came x k b ss))
+  handed-out ss n = handed-came x k start ss n
 
   -- CONTENT. "and its bytes are then those blocks' data in block order, each as it first matched"
-  pub content : (ss : List (List ℕ)) → NoNew x ss → isComplete (walk x ss) i ≡ true → bytesIn (walk x ss) i ≡ joinedBlocks (blocks x i) (λ b. firstData x i ss b)
-  content ss n c = complete-bytes x start i there ss n c
+  pub content : (ss : List (List ℕ)) → Keeps x k ss → isComplete (walk x ss) k ≡ true → bytesIn (walk x ss) k ≡ heardModule x k ss
+  content ss n c = complete-bytes x k start ss n c
 
-  -- and these are the bytes that the hand-out hands out
-  pub content-handed-out : (ss : List (List ℕ)) → NoNew x ss → isComplete (walk x ss) i ≡ true
-      → handedOut (walk x ss .state) (walk x ss .image) (moduleAt (told x) i .number) ≡ joinedBlocks (blocks x i) (λ b. firstData x i ss b)
-  content-handed-out ss n c = handed-bytes x start i there ss n c
+  -- and these are the bytes that are handed out
+  pub content-handed-out : (ss : List (List ℕ)) → Keeps x k ss → handoutNumber (walk x ss .state) (walk x ss .image) k ≡ 0 → handedOut (walk x ss .state) (walk x ss .image) k ≡ heardModule x k ss
+  content-handed-out ss n e = handed-bytes x k start ss n e
 
   -- ORDER. "and if matching repeats agree, order and repeats don't alter its bytes": of two runs that have the same matching sections for the module, order, repeats and
-  -- unread bits aside, where the repeats of one agree. Complete or not; and its missing blocks are the same too.
-  pub order : (ss us : List (List ℕ)) → NoNew x ss → NoNew x us → RepeatsAgree x i ss → FoundIn x i ss us → FoundIn x i us ss
-      → (bytesIn (walk x ss) i ≡ bytesIn (walk x us) i) × (missingIn (walk x ss) i ≡ missingIn (walk x us) i)
-  order ss us n m agree to back = same-module x start i there ss us n m agree to back
+  -- unread bits aside, where the repeats of one agree. Complete or not; and its missing blocks are the same too. The new announcements need not be the same in both:
+  -- what matched is each run's own.
+  pub order : (ss us : List (List ℕ)) → Keeps x k ss → Keeps x k us → RepeatsAgree x k ss → FoundIn x k ss us → FoundIn x k us ss
+      → (bytesIn (walk x ss) k ≡ bytesIn (walk x us) k) × (missingIn (walk x ss) k ≡ missingIn (walk x us) k)
+  order ss us n m agree to back = same-content x k start ss us n m agree to back
 
-  -- in particular where both runs hold the same matching sections for the module, as sets of sections
-  pub order-of-sections : (ss us : List (List ℕ)) → NoNew x ss → NoNew x us → RepeatsAgree x i ss → ((b : ℕ) (s : List ℕ) → matches x i b s ≡ true → Holds ss s ↔ Holds us s)
-      → (bytesIn (walk x ss) i ≡ bytesIn (walk x us) i) × (missingIn (walk x ss) i ≡ missingIn (walk x us) i)
-  order-of-sections ss us n m agree same = order ss us n m agree (λ b s h e. (s, same b s e .0 h, e, refl)) (λ b s h e. (s, same b s e .1 h, e, refl))
+  -- in particular where the same sections matched in both
+  pub order-of-sections : (ss us : List (List ℕ)) → Keeps x k ss → Keeps x k us → RepeatsAgree x k ss → ((b : ℕ) (s : List ℕ) → Matched x k b ss s ↔ Matched x k b us s)
+      → (bytesIn (walk x ss) k ≡ bytesIn (walk x us) k) × (missingIn (walk x ss) k ≡ missingIn (walk x us) k)
+  order-of-sections ss us n m agree same = order ss us n m agree (λ b s h. (s, same b s .0 h, refl)) (λ b s h. (s, same b s .1 h, refl))
 
--- ONCE MORE, OVER CALLS OF `run` and of the entries in place. What such calls leave, one after another, is what one-section calls leave over the sections that they took;
--- so each theorem above holds of them.
-pub calls-walk : (x : Held) → ruledOf (x .state) ≡ true → (ks : List Call) → called x ks ≡ walk x (tookBy ks)
-calls-walk x r ks = called-walks x ks r
-
-pub steps-walk : (x : Held) (ss : List (List ℕ)) → stepped x ss ≡ walk x ss
-steps-walk x ss = stepped-walks x ss
+-- ONCE MORE, OVER CALLS OF ANY KIND, mixed in any order: `step` and `step_in`, `take`, `run` and `run_in`. What they leave, one after another, is what one-section calls
+-- leave over the sections that they took; so each theorem above holds of them.
+pub calls-walk : (x : Held) → ruledOf (x .state) ≡ true → (cs : List Call) → called x cs ≡ walk x (tookBy cs)
+calls-walk x r cs = called-walks x cs r
 
 -- a section that is for an announced module is answered by the step as by the receiver; and both answer "new" to the same sections (Two.antt, `kind-new`)
-pub steps-answer : (x : Held) (i : ℕ) (s : List ℕ) → isFor x i s ≡ true → givenOf (x .state) s (x .image) .fate ≡ carouselFate (steppedOf (x .state) s (x .image) .answer)
-steps-answer x i s e = for-fate (x .state) s (x .image) (told x) i e
+pub steps-answer : (x : Held) (k : ℕ) (s : List ℕ) → isFor x k s ≡ true → fateOf x s ≡ carouselFate (steppedOf (x .state) s (x .image) .answer)
+steps-answer x k s e = for-fate (x .state) s (x .image) (told x) (place x k) e
 
-module _ (x : Held) (start : Begun x) (i : ℕ) (there : i < modules x) where
-  pub isolation-of-calls : (ks js : List Call) → NoNew x (tookBy ks) → NoNew x (tookBy js) → sectionsFor x i (tookBy ks) ≡ sectionsFor x i (tookBy js)
-      → (bytesIn (called x ks) i ≡ bytesIn (called x js) i) × (missingIn (called x ks) i ≡ missingIn (called x js) i)
-  isolation-of-calls ks js n m e = let h = isolation x start i there (tookBy ks) (tookBy js) n m e in rw (calls-walk x (begun-ruled x start) ks, calls-walk x (begun-ruled x start) js) (h .1, h .2)
+module _ (x : Held) (k : ℕ) (start : Emptied x k) where
+  same-walk : (cs : List Call) → called x cs ≡ walk x (tookBy cs)
+  same-walk cs = calls-walk x (emptied-ruled x k start) cs
 
-  pub completeness-of-calls : (ks : List Call) → NoNew x (tookBy ks) → (isComplete (called x ks) i ≡ true) ↔ ((b : ℕ) → b < blocks x i → Came x i b (tookBy ks))
-  completeness-of-calls ks n = rw (calls-walk x (begun-ruled x start) ks) (completeness x start i there (tookBy ks) n)
+  pub isolation-of-calls : (cs ds : List Call) → Keeps x k (tookBy cs) → Keeps x k (tookBy ds) → trace x k (tookBy cs) ≡ trace x k (tookBy ds)
+      → (answersFor x k (tookBy cs) ≡ answersFor x k (tookBy ds)) × (bytesIn (called x cs) k ≡ bytesIn (called x ds) k) × (missingIn (called x cs) k ≡ missingIn (called x ds) k)
+  isolation-of-calls cs ds n m e = rw (same-walk cs, same-walk ds) (isolation x k start (tookBy cs) (tookBy ds) n m e)
 
-  pub content-of-calls : (ks : List Call) → NoNew x (tookBy ks) → isComplete (called x ks) i ≡ true → bytesIn (called x ks) i ≡ joinedBlocks (blocks x i) (λ b. firstData x i (tookBy ks) b)
-  content-of-calls ks n c = rw (calls-walk x (begun-ruled x start) ks) (content x start i there (tookBy ks) n (rw (calls-walk x (begun-ruled x start) ks) at c))
+  pub completeness-of-calls : (cs : List Call) → Keeps x k (tookBy cs) → (isComplete (called x cs) k ≡ true) ↔ ((b : ℕ) → b < blocks x k → Came x k b (tookBy cs))
+  completeness-of-calls cs n = rw (same-walk cs) (completeness x k start (tookBy cs) n)
 
-  pub order-of-calls : (ks js : List Call) → NoNew x (tookBy ks) → NoNew x (tookBy js) → RepeatsAgree x i (tookBy ks) → FoundIn x i (tookBy ks) (tookBy js) → FoundIn x i (tookBy js) (tookBy ks)
-      → (bytesIn (called x ks) i ≡ bytesIn (called x js) i) × (missingIn (called x ks) i ≡ missingIn (called x js) i)
-  order-of-calls ks js n m agree to back = rw (calls-walk x (begun-ruled x start) ks, calls-walk x (begun-ruled x start) js) (order x start i there (tookBy ks) (tookBy js) n m agree to back)
+  pub handed-out-of-calls : (cs : List Call) → Keeps x k (tookBy cs)
+      → (handoutNumber (called x cs .state) (called x cs .image) k ≡ 0) ↔ (HasRoom (called x cs) × ((b : ℕ) → b < blocks x k → Came x k b (tookBy cs)))
+  handed-out-of-calls cs n = rw (same-walk cs) (handed-out x k start (tookBy cs) n)
+
+  pub content-of-calls : (cs : List Call) → Keeps x k (tookBy cs) → isComplete (called x cs) k ≡ true → bytesIn (called x cs) k ≡ heardModule x k (tookBy cs)
+  content-of-calls cs n c = rw (same-walk cs) (content x k start (tookBy cs) n (rw (same-walk cs) at c))
+
+  pub order-of-calls : (cs ds : List Call) → Keeps x k (tookBy cs) → Keeps x k (tookBy ds)
+      → RepeatsAgree x k (tookBy cs) → FoundIn x k (tookBy cs) (tookBy ds) → FoundIn x k (tookBy ds) (tookBy cs)
+      → (bytesIn (called x cs) k ≡ bytesIn (called x ds) k) × (missingIn (called x cs) k ≡ missingIn (called x ds) k)
+  order-of-calls cs ds n m agree to back = rw (same-walk cs, same-walk ds) (order x k start (tookBy cs) (tookBy ds) n m agree to back)

@@ -1,11 +1,11 @@
 -- §2. "DEMAND 3 THEN SPEAKS OF THE SECTIONS HANDED ON": the record and the image after calls over packets are those of the sections that the
 -- packets handed on, given to the receiver one after another; so each part of demand 3 is one of these sections.
-use Prim.Native.Nat.{ℕ, suc, _+_, _≤_, _<_}
+use Prim.Native.Nat.{ℕ, _+_, _≤_, _<_}
 use mathlib.Core.Path.{_≡_, refl, sym, ap, ap₂, subst, _∙_}
 use mathlib.Core.Logic.{_↔_}
 use mathlib.Core.Bool.{Bool, true, false, cond, _||_}
 use lib.Dec.{eqb}
-use mathlib.Core.List.{List, [], _∷_, _++_, List·Memᴰ·head, List·Memᴰ·tail, List·Memᴰ}
+use mathlib.Core.List.{List, [], _∷_, _++_, List·Memᴰ·head, List·Memᴰ·tail}
 use native.Mathlib.Omega.{arith}
 use lib.ListN.{length, length-append}
 use Rattle.wire.specs.Fields.{byteAt}
@@ -13,18 +13,19 @@ use Rattle.wire.specs.Items.{Whole, Wholes, joined}
 use Rattle.section.specs.Whole.{saidLength, isShort, wholeAt}
 use Rattle.section.proofs.Laws.Whole.{whole-stuffing, whole-three}
 use Rattle.carousel_record.specs.Record.{ruledOf}
-use Rattle.receiver.specs.Run.{Held, sectionsOf, walk, ranOf, imageRan, runOf, runs}
+use Rattle.receiver.specs.Run.{Held, sectionsOf, walk, ranOf, imageRan, runOf}
 use Rattle.receiver.proofs.Runs.{runs-rule}
 use Rattle.transport.specs.Feed.{handedOn}
 use Rattle.transport.specs.State.{stateIn}
-use Rattle.transport.specs.Calls.{gatheredPackets, gatherAnswer, gatherState}
+use Rattle.transport.specs.Calls.{gatheredPackets, gatherState}
 use Rattle.transport.specs.Grouped.{allGiven, gave, leftBy}
 use Rattle.transport.proofs.Laws.Wholes.{sections-whole}
 use Rattle.transport.proofs.Laws.Calls.{gather-size}
 use Rattle.transport_run.specs.Heard.{anyNumber, heardStretch, heardAnswer, heardState, heardImage}
-use Rattle.demands.specs.Demand.{Holds, Call, called, tookBy, Begun, NoNew, sectionsFor, bytesIn, missingIn, modules, isComplete, blocks, Came}
+use Rattle.demands.specs.Demand.{called, tookBy, Emptied, Keeps, trace, answersFor, bytesIn, missingIn, isComplete, blocks, Came}
+use Rattle.demands.specs.Quiet.{Holds}
 use Rattle.demands.specs.Transport.{Lending, heardBy, gathers, runsOver, Lendable}
-use Rattle.demands.proofs.Given.{begun-ruled}
+use Rattle.demands.proofs.After.{emptied-ruled}
 use Rattle.demands.proofs.Stretches.{Cut, joined-sections}
 use Rattle.demands.proofs.Three.{calls-walk, isolation, completeness}
 
@@ -97,16 +98,17 @@ pub packets-walk : (pid : ℕ) (ks : List Lending) (x : Held) (s : List ℕ) →
 packets-walk pid ks x s r l = heard-called pid ks x s r ∙ calls-walk x r (runsOver pid s ks) ∙ ap (walk x) (took-sections pid s ks l)
 
 -- and so demand 3, word for word, of the sections handed on
-module _ (x : Held) (start : Begun x) (i : ℕ) (there : i < modules x) (pid : ℕ) (s : List ℕ) where
+module _ (x : Held) (k : ℕ) (start : Emptied x k) (pid : ℕ) (s : List ℕ) where
   abbrev heard : List Lending → List (List ℕ)
   heard ks = allGiven pid s (gathers ks)
 
   same-walk : (ks : List Lending) → Lendable ks → heardBy pid x s ks ≡ walk x (heard ks)
-  same-walk ks l = packets-walk pid ks x s (begun-ruled x start) l
+  same-walk ks l = packets-walk pid ks x s (emptied-ruled x k start) l
 
-  pub isolation-of-packets : (ks js : List Lending) → Lendable ks → Lendable js → NoNew x (heard ks) → NoNew x (heard js) → sectionsFor x i (heard ks) ≡ sectionsFor x i (heard js)
-      → (bytesIn (heardBy pid x s ks) i ≡ bytesIn (heardBy pid x s js) i) × (missingIn (heardBy pid x s ks) i ≡ missingIn (heardBy pid x s js) i)
-  isolation-of-packets ks js a b n m e = let h = isolation x start i there (heard ks) (heard js) n m e in rw (same-walk ks a, same-walk js b) (h .1, h .2)
+  pub isolation-of-packets : (ks js : List Lending) → Lendable ks → Lendable js → Keeps x k (heard ks) → Keeps x k (heard js) → trace x k (heard ks) ≡ trace x k (heard js)
+      → (answersFor x k (heard ks) ≡ answersFor x k (heard js))
+      × (bytesIn (heardBy pid x s ks) k ≡ bytesIn (heardBy pid x s js) k) × (missingIn (heardBy pid x s ks) k ≡ missingIn (heardBy pid x s js) k)
+  isolation-of-packets ks js a b n m e = rw (same-walk ks a, same-walk js b) (isolation x k start (heard ks) (heard js) n m e)
 
-  pub completeness-of-packets : (ks : List Lending) → Lendable ks → NoNew x (heard ks) → (isComplete (heardBy pid x s ks) i ≡ true) ↔ ((b : ℕ) → b < blocks x i → Came x i b (heard ks))
-  completeness-of-packets ks l n = rw (same-walk ks l) (completeness x start i there (heard ks) n)
+  pub completeness-of-packets : (ks : List Lending) → Lendable ks → Keeps x k (heard ks) → (isComplete (heardBy pid x s ks) k ≡ true) ↔ ((b : ℕ) → b < blocks x k → Came x k b (heard ks))
+  completeness-of-packets ks l n = rw (same-walk ks l) (completeness x k start (heard ks) n)

@@ -1,3 +1,4 @@
 pub mod Demand
+pub mod Quiet
 pub mod Shore
 pub mod Transport

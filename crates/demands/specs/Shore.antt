@@ -3,24 +3,30 @@ use Prim.Native.Nat.{ℕ, zero, suc, _^_, _<_}
 use mathlib.Core.Path.{_≡_}
 use mathlib.Core.Bool.{true}
 use mathlib.Core.List.{List, [], _∷_, _++_}
-use lib.ListN.{length, take}
+use lib.ListN.{length, take, drop}
 use Rattle.carousel_messages.specs.Heard.{Announced}
-use Rattle.carousel_record.specs.Record.{moduleAt}
+use Rattle.carousel_record.specs.Record.{recordOf, moduleAt, blockCount, blockLength, blockAt, received}
 use Rattle.carousel_handout.specs.Calls.{handoutNumber, handedOut}
 use Rattle.carousel_play.specs.declared.Playlist.{Playlist}
 use Rattle.carousel_play.specs.declared.Played.{Played}
 use Rattle.carousel_play.specs.declared.Played.the-variants as played
-use Rattle.carousel_play.specs.Bytes.{shorePart}
+use Rattle.carousel_play.specs.Bytes.{shorePart, blockData}
 use Rattle.carousel_play.specs.Calls.{toPlay, playAnswer, playedBytes}
 use Rattle.receiver.specs.Run.{Held}
-use Rattle.demands.specs.Demand.{bytesIn, isComplete}
+use Rattle.demands.specs.Demand.{bytesAt, isCompleteAt}
 
 -- "leaves every module complete and equal to the shore's": of the module at place i, whose part of the box's image is then the shore's, and is what is handed out
 pub record Ends (a : Announced) (image : List ℕ) (x : Held) (i : ℕ) : Type 0 where
-  pub complete : isComplete x i ≡ true
-  pub equal : bytesIn x i ≡ shorePart a image i
+  pub complete : isCompleteAt x i ≡ true
+  pub equal : bytesAt x i ≡ shorePart a image i
   pub number : handoutNumber (x .state) (x .image) (moduleAt a i .number) ≡ 0
   pub handed : handedOut (x .state) (x .image) (moduleAt a i .number) ≡ shorePart a image i
+
+-- what a box has of the module at place i, kept from before or come since, is the shore's: each block that is marked has the shore's data at its place
+abbrev pub HasShores : (a : Announced) (image : List ℕ) (x : Held) (i : ℕ) → Type 0
+HasShores a image x i =
+    let r = recordOf (x .state) in
+    (b : ℕ) → b < blockCount a i → received r i b ≡ true → take (blockLength a i b) (drop (blockAt r i b) (x .image)) ≡ blockData a i b image
 
 -- each field of a playlist has its width: in code its type says so
 pub record Widths (p : Playlist) : Type 0 where

@@ -5,7 +5,7 @@ use Rattle.receiver.specs.Run.{Held}
 use Rattle.transport.specs.Calls.{gatherState}
 use Rattle.transport.specs.Grouped.{PacketCall, many}
 use Rattle.transport_run.specs.Heard.{anyNumber, heardStretch, heardAnswer, heardState, heardImage}
-use Rattle.demands.specs.Demand.{Call}
+use Rattle.demands.specs.Demand.{Call, running}
 
 pub record Lending : Type 0 where
   pub packets : List ℕ
@@ -28,7 +28,7 @@ gathers (k ∷ ks) = many (k .packets) (k .room) ∷ gathers ks
 -- and the runs over what each handed on
 unfoldable pub runsOver : ℕ → (state : List ℕ) → List Lending → List Call
 runsOver pid s [] = []
-runsOver pid s (k ∷ ks) = record { stretch = heardStretch pid s (k .room) (k .packets); budget = anyNumber } ∷ runsOver pid (gatherState pid s (k .room) (k .packets)) ks
+runsOver pid s (k ∷ ks) = running (heardStretch pid s (k .room) (k .packets)) anyNumber ∷ runsOver pid (gatherState pid s (k .room) (k .packets)) ks
 
 -- no buffer is longer than a machine's memory
 abbrev pub Lendable : List Lending → Type 0

@@ -1,11 +1,12 @@
 -- The rule of a record with modules, taken apart and put together; who keeps it; and what the rule of the record as the code holds it adds.
 use Prim.Native.Nat.{ℕ, _/_, _%_, _≤_, _<_}
-use mathlib.Core.Path.{_≡_, refl, sym, _∙_}
+use mathlib.Core.Path.{_≡_, sym, _∙_}
 use mathlib.Core.Bool.{Bool, true, false, not, _&&_}
 use mathlib.Core.List.{List, map}
 use native.Mathlib.Omega.{arith}
+use native.Mathlib.Decide.{decLt}
 use lib.Dec.{eqb, leb, lit≤}
-use lib.ListN.{length, drop, length-map, length-set, length-replicate}
+use lib.ListN.{length, drop, length-map, length-set}
 use borrow.Author.Tests.{eq-eqb, ne-eqb, eqb-true, leb-true, not-true}
 use Rattle.wire.proofs.Laws.Copies.{same-is, same-refl}
 use Rattle.wire.proofs.Laws.Tests.{both}
@@ -16,9 +17,9 @@ use Rattle.carousel_record.specs.declared.Carousel.{Carousel}
 use Rattle.carousel_record.specs.Blocks.{blocksOf}
 use Rattle.carousel_record.specs.Marks.{moduleWords, markWords, markOf, isMarked, marksWith, marksWithin}
 use Rattle.carousel_record.specs.Record.{Record, recordOf, moduleAt, sums, blockCount, withinLimits, ruled, allUnused, ruledOf}
-use Rattle.carousel_record.specs.Changes.{afresh, marking}
+use Rattle.carousel_record.specs.Changes.{marking}
 use Rattle.carousel_record.proofs.Laws.Tests.{joint}
-use Rattle.carousel_record.proofs.Laws.Marks.{within-fresh, within-with, within-means}
+use Rattle.carousel_record.proofs.Laws.Marks.{within-with, within-means}
 use Rattle.carousel_record.proofs.Laws.Blocks.{few}
 use Rattle.carousel_record.proofs.Laws.Places.{sized, block-size-pos, some-modules, few-modules, size-most}
 
@@ -49,17 +50,27 @@ kept r some e =
     let m = both (not (beyond10 (a .blockSize) (sizesOf (a .modules)))) (not (twice11 (numbersOf (a .modules)))) (sym (within a some) ∙ l .1) in
     record { words = eqb-true _ _ (l .0); limits = not-true _ (m .0); numbers = not-true _ (m .1); running = same-is _ _ (k .1); placed = h .1 }
 
+-- of any record that keeps it, with modules or not
+pub words-all : (r : Record) → ruled r ≡ true → length (r .marks) ≡ markWords
+unfolding ruled
+words-all r e =
+    let a = r .announced in
+    let h = both (eqb (length (r .marks)) markWords && withinLimits a && sameNumbers (r .starts) (sums 0 (sizesOf (a .modules)))) (marksWithin moduleWords (countsOf a) (r .marks)) e in
+    let k = both (eqb (length (r .marks)) markWords && withinLimits a) (sameNumbers (r .starts) (sums 0 (sizesOf (a .modules)))) (h .0) in
+    eqb-true _ _ (both (eqb (length (r .marks)) markWords) (withinLimits a) (k .0) .0)
+
+pub few-all : (r : Record) → ruled r ≡ true → length (r .announced .modules) ≤ mostModules
+few-all r e = elim (decLt 0 (length (r .announced .modules))) [
+  | yes p ↦ few-modules (r .announced .blockSize) (r .announced .modules) (kept r p e .limits)
+  | no n ↦ omega arith
+]
+
 pub keeps : (r : Record) → Kept r → ruled r ≡ true
 unfolding ruled
 keeps r k =
     let a = r .announced in
     let w : withinLimits a ≡ true = within a (some-modules (a .blockSize) (a .modules) (k .limits)) ∙ rw (k .limits, k .numbers) in
     joint _ _ (joint _ _ (joint _ _ (eq-eqb _ _ (k .words)) w) (rw (k .running) (same-refl (sums 0 (sizesOf (a .modules)))))) (k .placed)
-
--- a record made afresh keeps the rule
-pub fresh-kept : (r : Record) (a : Announced) → beyond10 (a .blockSize) (sizesOf (a .modules)) ≡ false → twice11 (numbersOf (a .modules)) ≡ false → Kept (afresh r a)
-unfolding afresh
-fresh-kept r a l n = record { words = length-replicate {A = ℕ} markWords 0; limits = l; numbers = n; running = refl; placed = within-fresh moduleWords (countsOf a) markWords }
 
 module _ (r : Record) (k : Kept r) where
   abbrev a : Announced

@@ -1,4 +1,4 @@
--- The record made afresh one module at a time, as the loop makes it.
+-- The record of an announcement, one module at a time, as the loop makes it.
 use Prim.Native.Nat.{ℕ, zero, suc, _+_, _-_, _≤_, _<_}
 use mathlib.Core.Path.{_≡_, refl, sym, ap, _∙_}
 use mathlib.Core.List.{List, [], _∷_}
@@ -10,11 +10,12 @@ use Rattle.carousel_record.specs.Marks.{markWords}
 use Rattle.carousel_messages.specs.declared.Listed.{Listed}
 use Rattle.carousel_messages.specs.declared.Announcement.{Announcement}
 use Rattle.carousel_messages.specs.Limits.{mostModules, total}
-use Rattle.carousel_messages.specs.Heard.{noneListed, listOf, announcedIn, sizesOf}
+use Rattle.carousel_messages.specs.Heard.{Announced, noneListed, listOf, announcedIn, sizesOf}
 use Rattle.carousel_record.specs.declared.Module.{Module}
 use Rattle.carousel_record.specs.declared.Carousel.{Carousel}
-use Rattle.carousel_record.specs.Record.{unused}
-use Rattle.carousel_record.specs.Changes.{emptyRecord, entries, madeAfresh}
+use Rattle.carousel_record.specs.Record.{recordOf, unused}
+use Rattle.carousel_record.specs.Keeping.{marksKept}
+use Rattle.carousel_record.specs.Changes.{emptyRecord, entries, bareRecord, madeAfresh}
 
 -- the record of an announcement with its first i modules in it
 abbrev pub filled : Announcement → List Listed → ℕ → Carousel
@@ -87,10 +88,20 @@ drop-unused zero m = let e : m ≡ m - 0 = omega arith in ap (λ (k : ℕ). repl
 drop-unused (suc n) zero = let e : 0 ≡ 0 - suc n = omega arith in ap (λ (k : ℕ). replicate k unused) e
 drop-unused (suc n) (suc m) = let e : m - n ≡ suc m - suc n = omega arith in drop-unused n m ∙ ap (λ (k : ℕ). replicate k unused) e
 
-pub filled-all : (c : Carousel) (a : Announcement) (list : List ℕ) → a .count ≡ length (listOf list) → filled a (listOf list) (a .count) ≡ madeAfresh c (announcedIn a list)
-unfolding madeAfresh announcedIn
-filled-all c a list e =
+pub filled-all : (a : Announcement) (list : List ℕ) → a .count ≡ length (listOf list) → filled a (listOf list) (a .count) ≡ bareRecord (announcedIn a list)
+unfolding bareRecord announcedIn
+filled-all a list e =
     let l = entries-length 0 (listOf list) in
     let t : take (length (listOf list)) (entries 0 (listOf list)) ≡ entries 0 (listOf list) = ap (λ (n : ℕ). take n (entries 0 (listOf list))) (sym l) ∙ take-length (entries 0 (listOf list)) in
     let o : 0 + length (listOf list) ≡ length (listOf list) = omega arith in
     rw (e, t, o, drop-unused (length (listOf list)) mostModules)
+
+-- and with the marks that are kept
+pub made-so : (c : Carousel) (a : Announced) (next : Carousel) (marks : List ℕ) → next ≡ bareRecord a → marks ≡ marksKept (recordOf c) (recordOf next)
+    → record { download = next .download; «block_size» = next .«block_size»; count = next .count; modules = next .modules; marks = marks } ≡ madeAfresh c a
+unfolding madeAfresh
+made-so c a next marks e m =
+    (λ i. record { download = next .download; «block_size» = next .«block_size»; count = next .count; modules = next .modules; marks = m i })
+    ∙ ap
+    (λ (n : Carousel). record { download = n .download; «block_size» = n .«block_size»; count = n .count; modules = n .modules; marks = marksKept (recordOf c) (recordOf n) })
+    e
