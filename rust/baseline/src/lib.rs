@@ -1,6 +1,6 @@
 //! A receiver for application tables (AIT) and DSM-CC data carousels, in plain Rust.
 //!
-//! It is written from the paper `01-scope.md` ("the paper" below) and 02, §6, §8 and §9, and serves as an
+//! It is written from the paper `01-scope.md` ("the paper" below) and 02, §5, §6, §8 and §9, and serves as an
 //! independent second implementation and as a baseline for speed. Nothing is allocated except by
 //! [`read_all`], whose answer is a tree of owned values, [`drift::read`] and [`transport`].
 //!

@@ -82,7 +82,7 @@ pub struct Record {
 /// What a step did with a section.
 #[derive(Clone, Copy, PartialEq, Eq, Debug)]
 pub enum Answer {
-    /// Another announcement: the record was made afresh.
+    /// Another announcement, which the record holds now. What is as before keeps its marks (02, §5).
     New,
     /// The announcement the record holds.
     Same,
@@ -198,12 +198,31 @@ impl Record {
         if self.is_announced(&announced) {
             return Ok(Answer::Same);
         }
+        self.marks = self.kept_marks(&announced);
         self.download = announced.download;
         self.block_size = announced.block_size;
         self.count = announced.count;
         self.modules = announced.modules;
-        self.marks = [0; ALL_WORDS];
         Ok(Answer::New)
+    }
+
+    /// The marks under a new announcement (02, §5). A module of the same downloadId, blockSize, number, version, size
+    /// and start keeps its own, at its place in the new list; every other begins empty.
+    fn kept_marks(&self, announced: &Announcement) -> [u32; ALL_WORDS] {
+        let mut marks = [0; ALL_WORDS];
+        if self.download != announced.download || self.block_size != announced.block_size {
+            return marks;
+        }
+        let modules = &announced.modules[..usize::from(announced.count)];
+        for (words, module) in marks.chunks_exact_mut(WORDS).zip(modules) {
+            // The old module of this number must be equal in all: number, size, version and start are its entry.
+            if let Ok((place, old)) = self.module(module.number) {
+                if old == *module {
+                    words.copy_from_slice(self.words(place));
+                }
+            }
+        }
+        marks
     }
 
     /// Whether this is the announcement held. Starts follow from sizes in both, so whole entries compare.

@@ -133,8 +133,33 @@ impl Carousel {
         (place, random.pick(&[any, any, edge.min(blocks - 1)]))
     }
 
+    /// Gives the modules bytes after another list. What is as it was there has its old ones, as a station sends them; now and then
+    /// all are others.
+    pub fn fill_after(&mut self, old: &Carousel, random: &mut Random) {
+        self.fill(random);
+        if random.one_in(10) {
+            return;
+        }
+        for place in 0..self.modules.len() {
+            if self.is_as_in(old, place) {
+                let start = self.start(place);
+                let part = start..start + self.modules[place].size as usize;
+                self.bytes[part.clone()].copy_from_slice(&old.bytes[part]);
+            }
+        }
+    }
+
+    /// Whether the module at a place is one of the other list's, and begins where it did (02, §5).
+    fn is_as_in(&self, old: &Carousel, place: usize) -> bool {
+        let module = &self.modules[place];
+        let before = old.modules.iter().position(|other| other == module);
+        (self.download, self.block_size) == (old.download, old.block_size)
+            && before.is_some_and(|before| old.start(before) == self.start(place))
+    }
+
     /// One thing is announced otherwise, so that "same" must be told from "new" by every field.
     pub fn change(&mut self, random: &mut Random) {
+        let old = self.clone();
         let place = random.below(self.modules.len());
         let module = &mut self.modules[place];
         match random.below(9) {
@@ -155,7 +180,7 @@ impl Carousel {
             }
             _ => *self = Carousel::any(random),
         }
-        self.fill(random);
+        self.fill_after(&old, random);
     }
 
     /// The announcement, with what need not be there and is not read there by chance.

@@ -7,6 +7,7 @@ use baseline::Refusal;
 use nebosvar::{Kind, Stop};
 
 use crate::fence::Edge;
+use crate::kept::{Kept, BECAME};
 use crate::reached::{Reached, LIMITS};
 use crate::versions;
 
@@ -57,6 +58,8 @@ pub struct Counts {
     places: u64,
     /// The limits of 02, §8.
     pub reached: Reached,
+    /// What new announcements kept (02, §5).
+    pub kept: Kept,
 }
 
 impl Counts {
@@ -135,6 +138,7 @@ impl Counts {
         add(&mut self.stale, &other.stale);
         add(&mut self.fresh, &other.fresh);
         add(&mut self.reached.0, &other.reached.0);
+        add(&mut self.kept.0, &other.kept.0);
         for (counts, others) in self.refusals.iter_mut().zip(&other.refusals) {
             add(counts, others);
         }
@@ -154,6 +158,23 @@ impl Counts {
     fn limits(&self) -> Vec<(String, u64)> {
         let named = LIMITS.iter().map(|name| name.to_string());
         named.zip(self.reached.0).collect()
+    }
+
+    /// What became of marked modules in fewer announcements than this.
+    pub fn rare_kept(&self, least: u64) -> Vec<String> {
+        below(least, self.became())
+    }
+
+    /// What became of modules, by name, and in how many new announcements.
+    fn became(&self) -> Vec<(String, u64)> {
+        let named = BECAME.iter().map(|name| name.to_string());
+        named.zip(self.kept.0).collect()
+    }
+
+    /// How many announcements were new, and what became of marked modules in them.
+    pub fn told_kept(&self) -> String {
+        let new = self.kinds[Kind::New as usize];
+        format!("{new} new, {}", told(&self.became()))
     }
 
     /// The limits, as they are told.
@@ -251,5 +272,19 @@ mod tests {
         assert_eq!(twice.rare_limits(2), [""; 0]);
         assert_eq!(twice.rare_limits(3), [format!("{}: 2", LIMITS[3])]);
         assert!(twice.to_string().ends_with(&twice.told_limits()));
+    }
+
+    #[test]
+    fn what_is_kept_too_rarely_is_told() {
+        let mut counts = Counts::default();
+        counts.kept.0 = [2; BECAME.len()];
+        counts.kept.0[1] = 0;
+        let mut twice = counts.clone();
+        twice.add(&counts);
+        assert_eq!(twice.rare_kept(1), ["moved one: 0"]);
+        assert_eq!(twice.rare_kept(5).len(), BECAME.len());
+        assert!(twice
+            .told_kept()
+            .starts_with("0 new, kept a marked module 4, moved one 0,"));
     }
 }

@@ -5,11 +5,12 @@
 //! them into some ([`packets`]); there it is §2.
 //!
 //! * Making: [`random`], sections by the crate `make`, [`tables`], [`carousels`], [`damage`], [`starts`] (records and
-//!   images to start from), [`stretches`] (all of it put together), [`limits`] (by which all of it goes), [`bounds`] (what
+//!   images to start from), [`stretches`] (all of it put together), [`renewals`] (many new announcements), [`limits`] (by which all of it goes), [`bounds`] (what
 //!   is at them, and not by chance).
 //! * Comparing: [`pair`] (both receivers side by side), [`walk`] (a whole stretch), [`reading`] (a table),
 //!   [`threads`] (all stretches), [`fence`] (for some of them, memory that may not be touched beside what is lent).
 //! * Telling: [`counts`] (what was answered how often), [`columns`] (how it is printed), [`versions`] (of blocks, for the counts), [`reached`] (limits),
+//!   [`kept`] (what new announcements keep),
 //!   [`difference`].
 //!
 //! What the makers mean a section to be decides nothing: a section that was not spoilt as intended is still
@@ -24,6 +25,7 @@ pub mod counts;
 pub mod damage;
 pub mod difference;
 pub mod fence;
+pub mod kept;
 pub mod limits;
 pub mod lists;
 pub mod packets;
@@ -32,6 +34,7 @@ pub mod plays;
 pub mod random;
 pub mod reached;
 pub mod reading;
+pub mod renewals;
 pub mod starts;
 pub mod stretches;
 pub mod tables;

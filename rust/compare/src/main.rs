@@ -1,4 +1,5 @@
-//! `compare [STRETCHES [SEED]]`: both receivers at every limit and over so many made stretches, both readers and writers of drift lists
+//! `compare [STRETCHES [SEED]]`: both receivers at every limit, over so many made stretches and over stretches of many new
+//! announcements, a fourth as many and some, both readers and writers of drift lists
 //! over so many made lists besides those at the bounds, both players over a fourth as many announcements besides those at
 //! the limits, and what takes and writes transport packets over half as many streams. It ends with 1 at a
 //! difference, and when an answer came too rarely for the comparison to mean much.
@@ -16,6 +17,11 @@ const LEAST: u64 = 100;
 const LEAST_OF_LIMITS: u64 = 50;
 /// The cases at the limits, which are always the same, must have reached each so often.
 const LEAST_AT_BOUNDS: u64 = 10;
+/// What new announcements keep, move, empty and drop must have come so often in such a run, and in any run once.
+const LEAST_OF_KEPT: u64 = 100;
+/// Of so many stretches one is of many new announcements, besides so many.
+const STRETCHES_OF_RENEWALS: u64 = 4;
+const RENEWALS: u64 = 400;
 /// The same of drift lists.
 const LEAST_OF_LISTS: u64 = 300;
 /// The same of the player's answers and of its limits.
@@ -40,6 +46,8 @@ fn main() -> ExitCode {
         .and_then(|(cases, counts)| conclude_bounds(cases, &counts))
         .and_then(|()| threads::compare(seed, stretches))
         .and_then(|counts| conclude(&counts, stretches))
+        .and_then(|()| threads::compare_renewals(seed, renewals(stretches)))
+        .and_then(|counts| conclude_renewals(&counts, stretches))
         .and_then(|()| lists::compare(seed, stretches))
         .and_then(|counts| conclude_lists(&counts, stretches))
         .and_then(|()| plays::compare(seed, stretches / STRETCHES_OF_A_PLAY))
@@ -76,6 +84,25 @@ fn conclude(counts: &Counts, stretches: u64) -> Result<(), String> {
     println!("compare: all that is lent ends at a page that may not be touched in {ends} stretches, and begins after one in {begins}");
     let sections = counts.sections;
     println!("compare: {stretches} stretches, {sections} sections, 0 differences");
+    Ok(())
+}
+
+/// How many stretches are of many new announcements.
+fn renewals(stretches: u64) -> u64 {
+    RENEWALS + stretches / STRETCHES_OF_RENEWALS
+}
+
+/// Tells what new announcements kept. Also a short run must have seen all of it.
+fn conclude_renewals(counts: &Counts, stretches: u64) -> Result<(), String> {
+    println!("announcements: {}", counts.told_kept());
+    few(1, &counts.rare_kept(1))?;
+    enough(stretches, LEAST_OF_KEPT, &counts.rare_kept(LEAST_OF_KEPT))?;
+    let [ends, begins] = counts.fenced;
+    println!("compare: all that is lent ends at a page that may not be touched in {ends} stretches of new announcements, and begins after one in {begins}");
+    let (sections, renewals) = (counts.sections, renewals(stretches));
+    println!(
+        "compare: {renewals} stretches of new announcements, {sections} sections, 0 differences"
+    );
     Ok(())
 }
 

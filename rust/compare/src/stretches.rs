@@ -149,7 +149,7 @@ fn any_section(random: &mut Random, carousel: &Carousel) -> Vec<u8> {
 }
 
 /// Some blocks in any order; one may come twice.
-fn some_blocks(random: &mut Random, carousel: &Carousel, stretch: &mut Vec<u8>) {
+pub fn some_blocks(random: &mut Random, carousel: &Carousel, stretch: &mut Vec<u8>) {
     for _ in 0..random.within(1..=5) {
         let (place, number) = carousel.any_block(random);
         let section = carousel.block(random, place, number).section().bytes();
@@ -160,7 +160,7 @@ fn some_blocks(random: &mut Random, carousel: &Carousel, stretch: &mut Vec<u8>) 
 }
 
 /// All blocks of a module, from the last or from the first; of a module with many mostly a row of them, about a number that goes round.
-fn whole_module(random: &mut Random, carousel: &Carousel, stretch: &mut Vec<u8>) {
+pub fn whole_module(random: &mut Random, carousel: &Carousel, stretch: &mut Vec<u8>) {
     let (place, _) = carousel.any_block(random);
     let blocks = carousel.blocks(place);
     let edge = random.pick(&EDGES).min(blocks - 1);

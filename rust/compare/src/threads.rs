@@ -8,6 +8,7 @@ use crate::counts::Counts;
 use crate::difference::{caught, hex, Same};
 use crate::fence::Edge;
 use crate::random::Random;
+use crate::renewals;
 use crate::stretches::Case;
 use crate::walk;
 
@@ -30,6 +31,19 @@ pub fn compare(seed: u64, stretches: u64) -> Result<Counts, String> {
         Job {
             name: format!("seed {seed}, stretch {stretch}"),
             case: Case::any(&mut random),
+            edge: Edge::of(stretch),
+            random,
+        }
+    })
+}
+
+/// Compares so many stretches of many new announcements.
+pub fn compare_renewals(seed: u64, stretches: u64) -> Result<Counts, String> {
+    shared(stretches, |stretch| {
+        let mut random = Random::of(seed, stretch);
+        Job {
+            name: format!("seed {seed}, stretch of new announcements {stretch}"),
+            case: renewals::case(&mut random),
             edge: Edge::of(stretch),
             random,
         }

@@ -99,6 +99,9 @@ impl Walk<'_> {
             let records = [self.before.record(), self.pair.record()];
             let room = self.case.image.len();
             self.counts.reached.taken(section, fate, records, room);
+            if *fate == Ok(Kind::New) {
+                self.counts.kept.announced(records, room);
+            }
         }
         let kind = taken.ok().and_then(|(_, fate)| fate.ok());
         unchanged(&self.pair, &self.before, kind)?;

@@ -1,4 +1,4 @@
-//! A slow second reading of the carousel's rules, straight from the paper's table and 02, §6, §8 and §9: every
+//! A slow second reading of the carousel's rules, straight from the paper's table and 02, §5, §6, §8 and §9: every
 //! number is judged by a clause of its own over a section read into loose values, and the lowest that applies
 //! is given.
 
@@ -197,7 +197,28 @@ fn announce(record: &Record, content: &[u8], image: &[u8]) -> (Answer, Record, V
     if same {
         (Answer::Same, *record, image.to_vec())
     } else {
+        keep(record, &mut fresh);
         (Answer::New, fresh, image.to_vec())
+    }
+}
+
+/// The request's §5: each mark of the old record goes where its module is now, if it is there as it was.
+fn keep(old: &Record, fresh: &mut Record) {
+    let kept = |place: usize| {
+        let before = &old.modules[place];
+        (0..usize::from(fresh.count)).find(|&at| {
+            let now = &fresh.modules[at];
+            (old.download, old.block_size) == (fresh.download, fresh.block_size)
+                && (before.number, before.version) == (now.number, now.version)
+                && (before.size, before.start) == (now.size, now.start)
+        })
+    };
+    let moved: Vec<_> = all_marked(old)
+        .filter_map(|(place, block)| Some((kept(place)?, block)))
+        .collect();
+    for (place, block) in moved {
+        let (word, bit) = mark(place, block);
+        fresh.marks[word] |= bit;
     }
 }
 
