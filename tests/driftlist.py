@@ -616,7 +616,7 @@ def weeks():
     old = b"".join(blocks(LIST))
     yield Input("last week's blocks again", "14: they are of another version.", last + head + new[2] + old, "handout,20,3,0\n")
     yield Input("this week, old blocks in between", "They change nothing.", last + head + b"".join(n + old for n in new), THIS_PRINTED)
-    yield Input("last week announced again", "It begins afresh.", last + head + b"".join(new) + announcement(LIST), "handout,20,4,0\n")
+    yield Input("last week announced again", "It begins empty: the version before was another.", last + head + b"".join(new) + announcement(LIST), "handout,20,4,0\n")
     yield Input("last week sent again", "The announcement sent last counts.", last + head + b"".join(new) + last, SAMPLE_PRINTED)
 
 
@@ -628,10 +628,37 @@ def announcements():
     yield Input("another download, sent whole", "The same list.", last + other + b"".join(blocks(LIST, download=1)), SAMPLE_PRINTED)
     yield Input("another block size", "Seven blocks now, all missing.", last + announcement(LIST, size=24), "handout,20,7,0\n")
     yield Input("without the list", "It is no longer announced.", last + announcement(TIDES), "handout,13\n")
-    yield Input("a module more", "Also then all begins afresh.", last + announcement(LIST, TIDES), "handout,20,4,0\n")
     yield Input("the same announcement", "The list stays.", last + announcement(LIST), SAMPLE_PRINTED)
     refused = [program.spoiled(other), announcement(LIST, LIST), dii(DOWNLOAD, 0, [(300, 148, 6)]), dii(DOWNLOAD, SIZE, [])]
     yield Input("refused announcements", "5, 11 and 10: they change nothing.", last + b"".join(refused), SAMPLE_PRINTED)
+
+
+def kept():
+    """02, §5: the list as it was keeps its blocks."""
+    newer, half, rest = TIDES._replace(version=10), Module(TIDES.data[:20], 45), Module(TIDES.data[20:], 46)
+    shorter, larger = TIDES._replace(data=TIDES.data[1:]), [Module(bytes(33_000), 47), Module(bytes(33_000), 48)]
+    last, after = sent(LIST), sent(TIDES, LIST)
+    none = "handout,20,4,0\n"
+    yield Input("a module more", "Behind the list, which is kept.", last + announcement(LIST, TIDES), SAMPLE_PRINTED)
+    yield Input("a module less", "It was behind the list.", sent(LIST, TIDES) + announcement(LIST), SAMPLE_PRINTED)
+    yield Input("a module in front", "The list begins elsewhere.", last + announcement(TIDES, LIST), none)
+    yield Input("only the tides are newer", "The list is kept.", after + announcement(newer, LIST), SAMPLE_PRINTED)
+    yield Input("only the tides are shorter", "The list begins elsewhere.", after + announcement(shorter, LIST), none)
+    yield Input("the tides in two", "The list is kept at the third place.", after + announcement(half, rest, LIST), SAMPLE_PRINTED)
+    yield Input("the tides in one again", "It is kept at the second.", sent(half, rest, LIST) + announcement(TIDES, LIST), SAMPLE_PRINTED)
+    yield Input("the tides behind the list", "Both begin elsewhere.", after + announcement(LIST, TIDES), none)
+    again = last + announcement(TIDES) + announcement(LIST)
+    yield Input("without the list, and again with it", "It begins empty.", again, none)
+    yield Input("another download, and the first again", "It begins empty.", last + announcement(LIST, download=1) + announcement(LIST), none)
+    yield Input("another block size, and the first again", "It begins empty.", last + announcement(LIST, size=24) + announcement(LIST), none)
+    yield Input("more than the image", "The list is whole, and 15.", last + announcement(LIST, *larger), "handout,15\n")
+    yield Input("no more than the image again", "It was kept all the time.", last + announcement(LIST, *larger) + announcement(LIST), SAMPLE_PRINTED)
+    for gone in ((0,), (3,), (1, 2)):
+        wanted = "handout,20,%d,%d\n" % (len(gone), gone[0])
+        part = announcement(TIDES, LIST) + without(LIST, gone) + announcement(half, rest, LIST)
+        yield Input("kept without block %s" % " and ".join(map(str, gone)), "What came is kept, and no more.", part, wanted)
+        late = b"".join(blocks(LIST)[b] for b in gone)
+        yield Input("the same, and then block %s" % " and ".join(map(str, gone)), "The list is whole.", part + late, SAMPLE_PRINTED)
 
 
 def padding(n):
@@ -822,7 +849,7 @@ def of_the_paper():
 
 
 LISTS = (by_hand, corners, kinds, counts, refusals, together, wrong_lengths)
-CAROUSELS = (handouts, beyond, many_blocks, beside, orders, weeks, announcements, cuts)
+CAROUSELS = (handouts, beyond, many_blocks, beside, orders, weeks, announcements, kept, cuts)
 TOPICS = (*LISTS, *CAROUSELS, arguments, every_bit, random_lists, random_weeks, of_the_paper)
 
 

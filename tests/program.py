@@ -239,7 +239,7 @@ def announcements():
     other, others_zero = announcement(download=6), block(TIDES, 0, download=6)
     yield Input(
         "another download in the middle",
-        "The old blocks are refused, and each announcement begins afresh.",
+        "The old blocks are refused, and each announcement empties all.",
         one + zero + other + zero + others_zero + other + others_zero + one + zero,
         "new stored new 12 stored same repeated new stored end",
     )
@@ -256,6 +256,36 @@ def announcements():
         one + zero + announcement(block_size=0) + zero + announcement([TIDES, TIDES]) + zero + spoiled(other) + zero,
         "new stored 10 repeated 11 repeated 5@%d repeated end" % (len(other) - 4),
     )
+
+
+def kept():
+    """02, §5: a module as before, that begins where it did, keeps its blocks. Each input hears block 0 of all modules, then what is told."""
+    newer, fronts, third = (7, 25, 4), [(1, 10, 0), (2, 15, 0)], (3, 10, 0)
+    three, equal = [TIDES, DRIFT, third], (9, 25, 255)
+    zero, drift, first = block(TIDES, 0), block(DRIFT, 0), announcement()
+    moved = announcement([*fronts, DRIFT])
+    for name, shows, then, wanted in (
+        ("one is newer", "The other is kept.", announcement([newer, DRIFT]) + drift + block(newer, 0), "new repeated stored"),
+        ("one more", "Both are kept; block 1 was not there.", announcement(three) + zero + block(TIDES, 1) + drift, "new repeated stored repeated"),
+        ("at another place", "10 and 15 bytes lie before it now instead of 25.", moved + drift + zero, "new repeated 13"),
+        ("and moved back", "From the third place to the second.", moved + first + drift + zero, "new new repeated stored"),
+        ("not when swapped", "Both begin elsewhere.", announcement([DRIFT, TIDES]) + zero + drift, "new stored stored"),
+        ("not when dropped and announced again", "It begins empty.", announcement([TIDES]) + first + zero + drift, "new new repeated stored"),
+        ("not when the one before is shorter", "It begins elsewhere.", announcement([(7, 24, 3), DRIFT]) + zero + drift, "new stored stored"),
+        ("not with another block size", "All are emptied.", announcement(block_size=11) + first + zero + drift, "new new stored stored"),
+        ("and other bytes refused", "17, as before the announcement.", announcement([newer, DRIFT]) + block(DRIFT, 0, data=bytes(10)), "new 17"),
+    ):
+        yield Input("kept " + name, shows, first + zero + drift + then, "new stored stored %s end" % wanted)
+    of = lambda modules: b"".join(block(m, 0) for m in modules)
+    swapped = announcement([DRIFT, TIDES, third]) + of(three)
+    yield Input("kept behind two that are swapped", "It begins where it did.", announcement(three) + of(three) + swapped, "new " + "stored " * 3 + "new stored stored repeated end")
+    both = announcement([TIDES, equal]) + of([TIDES, equal])
+    again = announcement([equal, TIDES]) + of([TIDES, equal])
+    yield Input("two of one size swapped", "Neither is kept.", both + again, "new stored stored " * 2 + "end")
+    most = [(k, 10_000, 0) for k in range(7)]
+    beyond = announcement(most) + ddb(ID, 0, 0, 0, bytes(10))
+    within = announcement(most[:6]) + ddb(ID, 0, 0, 0, bytes(10))
+    yield Input("kept, and more than the image", "15, and when it fits again the block is there.", within + beyond + within, "new stored new 15 new repeated end")
 
 
 def soundings():
@@ -502,7 +532,7 @@ def at_random():
         yield Input("sections at random, %d" % seed, "A byte or two damaged, the CRC mended; more than 1,000 sections are taken.", stretch)
 
 
-TOPICS = (beginnings, endings, cuts, tables, block_by_block, announcements, soundings, bigger, stale, numbers, places, lengths, many, at_random)
+TOPICS = (beginnings, endings, cuts, tables, block_by_block, announcements, kept, soundings, bigger, stale, numbers, places, lengths, many, at_random)
 
 
 # ---- what is known of the inputs without the built program

@@ -1,5 +1,5 @@
-"""A carousel receiver in plain Python, and makers of its sections. Written from the paper (01) and 02, §6, §8 and §9, not from the Rattle
-code.
+"""A carousel receiver in plain Python, and makers of its sections. Written from the paper (01) and 02, §5, §6, §8 and §9, not from the
+Rattle code.
 
 The marks are one number of 32,768 bits, not words; a section's numbers are gathered and the lowest taken, not tested in turn.
 """
@@ -151,7 +151,21 @@ def announced(r, a):
     """The number, the kind and the record after it; so also of a block."""
     if (r.download, r.block_size) == (a.download, a.block_size) and [(m.number, m.size, m.version) for m in r.used()] == a.modules:
         return 0, "same", r
-    return 0, "new", a.record()
+    new = a.record()
+    new.marks = kept(r, new)
+    return 0, "new", new
+
+
+def kept(old, new):
+    """The marks under a new announcement (02, §5): a module that is and begins as before has its own, at its new place; no other has any."""
+    if (old.download, old.block_size) != (new.download, new.block_size):
+        return 0
+    marks = 0
+    for i, m in enumerate(new.used()):
+        was = old.place(m.number)
+        if was is not None and old.modules[was].fields() == m.fields():
+            marks |= (old.marks >> BLOCKS * was) % (1 << BLOCKS) << BLOCKS * i
+    return marks
 
 
 def received(r, image, d):

@@ -1,8 +1,8 @@
 #!/usr/bin/env python3
 """What crates/test_carousel must print, by a second program.
 
-Written from the paper (01, "The messages" to "False bearings"; 02, §6, §8 and §9), not from the Rattle code: the receiver is tests/receiver.py,
-and here are the sequences that both are led through. Where a sequence knows its answer from the paper's words, it says so (`wanted`), and
+Written from the paper (01, "The messages" to "False bearings"; 02, §5, §6, §8 and §9), not from the Rattle code: the receiver is
+tests/receiver.py, and here are the sequences that both are led through. Where a sequence knows its answer from the paper's words, it says so (`wanted`), and
 where a section broke (`place`). A step's refusal is printed with its place, where it has one: `5@12`.
 
     test_carousel.py          compare crates/test_carousel/stdin and stdout with what this program makes
@@ -418,25 +418,9 @@ def announcements(t):
     t.step(announcement(), "same")
     t.step(announcement(info=b"x", private=b"y", compatibility=b"z", adaptation=b"w", identifier=3, extension=99), "same")
     t.ask(7, 0x1234, 9, 8)
-    others = [
-        dii(ID + 1, SIZE, LIST),
-        dii(ID ^ 0x8000_0000, SIZE, LIST),
-        dii(ID, SIZE + 1, LIST),
-        dii(ID, SIZE, LIST[::-1]),
-        dii(ID, SIZE, LIST[1:] + LIST[:1]),
-        dii(ID, SIZE, LIST[:2]),
-        dii(ID, SIZE, LIST + [(0, 1, 0)]),
-        dii(ID, SIZE, LIST[:2] + [(9, 20, 254)]),
-        dii(ID, SIZE, LIST[:2] + [(10, 20, 255)]),
-        dii(ID, SIZE, LIST[:2] + [(9, 19, 255)]),
-        dii(ID, SIZE, [(0x1007, 25, 3)] + LIST[1:]),
-        dii(ID, SIZE, [(7, 25, 4)] + LIST[1:]),
-        dii(0, SIZE, LIST),
-    ]
-    for other in others:
-        t.step(other, "new")
-        t.missing(7)
-        t.step(announcement(), "new")
+    t.step(dii(ID + 1, SIZE, LIST), "new")
+    t.missing(7, [0, 1, 2])
+    t.step(announcement(), "new")
     t.step(block(0, 0), "stored")
     t.missing(7, [1, 2])
     # the same list with a number twice, or over a limit, is no announcement
@@ -453,6 +437,91 @@ def announcements(t):
     t.step(dii(0, 1, [(0, 1, 0)]), "new")
     t.step(ddb(0, 0, 0, 0, b"z"), "stored")
     t.ask(0, 7)
+
+
+FULL = [0b111, 0b1, 0b11]  # the marks of LIST, module by module
+
+
+def held(t, *marks):
+    """The marks are these, module by module, and no other is set."""
+    assert t.record.marks == sum(m << BLOCKS * i for i, m in enumerate(marks)), hex(t.record.marks)
+
+
+def keeping(t):
+    """02, §5: what is and begins as before keeps its marks, at its new place. All else begins empty, and no image byte moves."""
+    seven, middle, nine = LIST
+    others = [
+        # what is announced, the marks then, and those when LIST is announced again
+        (dii(ID ^ 0x8000_0000, SIZE, LIST), [], []),
+        (dii(ID, SIZE + 1, LIST), [], []),
+        (dii(ID, SIZE - 1, LIST), [], []),
+        # other orders: 7 and 9 turn about 0x1234; all begin elsewhere; the first two are swapped, and 9 begins where it did
+        (dii(ID, SIZE, [nine, middle, seven]), [], []),
+        (dii(ID, SIZE, [middle, nine, seven]), [], []),
+        (dii(ID, SIZE, [middle, seven, nine]), [0, 0, 3], [0, 0, 3]),
+        # dropped and announced again, at the end and in front of others; one more; one in front
+        (dii(ID, SIZE, LIST[:2]), [7, 1], [7, 1]),
+        (dii(ID, SIZE, [seven, nine]), [7], [7]),
+        (dii(ID, SIZE, LIST + [(0, 1, 0)]), FULL, FULL),
+        (dii(ID, SIZE, [(0, 1, 0)] + LIST), [], []),
+        # another version, number or size; then the size of the one before, and of two alike
+        (dii(ID, SIZE, LIST[:2] + [(9, 20, 254)]), [7, 1], [7, 1]),
+        (dii(ID, SIZE, [(7, 25, 35), middle, nine]), [0, 1, 3], [0, 1, 3]),
+        (dii(ID, SIZE, LIST[:2] + [(10, 20, 255)]), [7, 1], [7, 1]),
+        (dii(ID, SIZE, [(0x1007, 25, 3), middle, nine]), [0, 1, 3], [0, 1, 3]),
+        (dii(ID, SIZE, LIST[:2] + [(9, 19, 255)]), [7, 1], [7, 1]),
+        (dii(ID, SIZE, [seven, (0x1234, 9, 0), nine]), [7], [7]),
+        (dii(ID, SIZE, [(7, 24, 3), (0x1234, 11, 0), nine]), [0, 0, 3], [0, 0, 3]),
+        # at other places: two instead of one, and one instead of two
+        (dii(ID, SIZE, [(1, 10, 0), (2, 15, 0), middle, nine]), [0, 0, 1, 3], [0, 1, 3]),
+        (dii(ID, SIZE, [(1, 35, 0), nine]), [0, 3], [0, 0, 3]),
+    ]
+    begun(t, TOTAL, EVERY, 7)
+    for k, (other, then, again) in enumerate(others):
+        held(t, *FULL)
+        t.step(other, "new")
+        held(t, *then)
+        t.missing((7, 0x1234, 9)[k % 3])
+        t.step(announcement(), "new")
+        held(t, *again)
+        for i, m in enumerate(FULL):
+            if m not in again[i : i + 1]:
+                t.poke("marks", m, WORDS * i)
+    assert bytes(t.image) == PATTERN
+    # two of one size swapped, and the old bytes of another version
+    t.step(dii(ID, SIZE, [(3, 10, 0), (4, 10, 0)]), "new")
+    t.poke("marks", 1)
+    t.poke("marks", 1, WORDS)
+    t.step(dii(ID, SIZE, [(4, 10, 0), (3, 10, 0)]), "new")
+    held(t)
+    t.step(dii(ID, SIZE, [(4, 10, 1), (3, 10, 0)]), "new")
+    t.handout(4, 20)
+    assert bytes(t.image) == PATTERN
+    # complete, kept and handed out at once; then 15, and handed out where there is room again
+    begun(t, TOTAL, EVERY)
+    t.step(dii(ID, SIZE, [(7, 25, 4), middle, nine]), "new")
+    for number, wanted in ((7, 20), (0x1234, 0), (9, 0)):
+        t.handout(number, wanted)
+    t.step(block(2, 1), "repeated")
+    t.step(block(2, 1, bytes(10)), 17)
+    t.step(dii(ID, SIZE, [(7, 25, 4), middle, nine, (0, 1, 0)]), "new")
+    t.missing(9, [])
+    t.handout(9, 15)
+    t.step(block(2, 1), 15)
+    t.length(TOTAL + 1)
+    t.handout(9, 0)
+    # 1,024 marks from the last place to the second, and back
+    many = [(i, 1, 0) for i in range(MODULES - 1)] + [(99, BLOCKS, 0)]
+    few = [(100, MODULES - 1, 0), (99, BLOCKS, 0)]
+    t.step(dii(1, 1, many), "new")
+    for k, w in enumerate(range((MODULES - 1) * WORDS, MODULES * WORDS)):
+        if k % 8 in (0, 7):
+            t.poke("marks", ALL >> k, w)
+    last = t.record.marks >> BLOCKS * (MODULES - 1)
+    for modules, place in ((few, 1), (many, MODULES - 1)):
+        t.step(dii(1, 1, modules), "new")
+        assert t.record.marks == last << BLOCKS * place != 0
+        t.missing(99)
 
 
 def blocks(t):
@@ -586,7 +655,7 @@ def lengths(t):
         t.ask(0x1234, 7, 5)
     t.length(TOTAL - 1)
     t.step(dii(ID, SIZE, LIST[:2]), "new")
-    t.step(block(1, 0), "stored")
+    t.step(block(1, 0), "repeated")
     for length in (0, 1, 2):
         t.start(length, 9)
         t.step(dii(3, 1, [(1, 1, 0)]), "new")
@@ -744,9 +813,13 @@ def walk(t, seed, steps):
     rnd = random.Random(seed)
     numbers = [3, 4, 259, 0]
     lists = []
-    for _ in range(3):
-        modules = [(n, rnd.randrange(1, 25), rnd.choice([0, 32, 255])) for n in rnd.sample(numbers, rnd.randrange(1, 4))]
+    for _ in range(2):
+        modules = [(n, rnd.randrange(2, 25), rnd.choice([0, 32, 255])) for n in rnd.sample(numbers, rnd.randrange(1, 4))]
         lists.append((rnd.choice([1, 2]), rnd.choice([6, 8, 8]), modules))
+    # the last again: its first module newer, or one more before all, with some of the first's bytes
+    (n, z, v), *rest = modules
+    part = rnd.randrange(1, z)
+    lists.append((*lists[1][:2], rnd.choice([[(n, z, v ^ 1)], [(77, part, 0), (n, z - part, v)]]) + rest))
     t.start(80, rnd.randrange(256))
     for _ in range(steps):
         r = t.record
@@ -804,14 +877,14 @@ def records(t, seed, times):
 
 def main():
     t = Script()
-    for sequence in (soundings, most, framing, headers, stale, limits, announcements, blocks, many_blocks, lengths, pairs, broken):
+    for sequence in (soundings, most, framing, headers, stale, limits, announcements, keeping, blocks, many_blocks, lengths, pairs, broken):
         at = len(t.given)
         sequence(t)
         if "--count" in sys.argv:
             print("%s: %d bytes" % (sequence.__name__, len(t.given) - at), file=sys.stderr)
-    for seed, steps in ((1, 39), (2, 39), (3, 39), (4, 39)):
+    for seed, steps in ((1, 26), (2, 26), (3, 26), (4, 26)):
         walk(t, seed, steps)
-    records(t, 13, 21)
+    records(t, 13, 18)
     steps = ["new", "same", "stored", "repeated"] + ["step %d" % n for n in range(1, 18)]
     asked = ["handout %d" % n for n in (0, 1, 13, 15, 20)] + ["missing %d" % n for n in (0, 1, 13)] + ["missing none"]
     for name in steps + asked:
