@@ -106,6 +106,7 @@ typedef struct {
 } nebosvar_module;
 
 /* What was announced, and which blocks have come: mark 1,024 * place + block, 32 to a word, lowest bit first.
+ * Under a new announcement a kept module's marks go with it to its new place; all others are clear (see nebosvar_step).
  * It may be copied, kept and lent again; its rule is looked at in every call. It is a struct of 4.6 KB (4,616 bytes): where a stack
  * is small, keep it elsewhere, and pass it on by its address. */
 typedef struct {
@@ -154,7 +155,8 @@ typedef struct {
 /* The record that one starts with: nothing announced. It is answered by value, so all of its 4.6 KB are copied; once is enough. */
 nebosvar_record nebosvar_start(void);
 
-/* One section of the carousel (tables 0x3B, 0x3C). */
+/* One section of the carousel (tables 0x3B, 0x3C). A new announcement keeps the marks of each module whose downloadId, blockSize,
+ * number, version, size and start are as before; all others begin empty, and no image byte moves. So also in take and run. */
 nebosvar_fate nebosvar_step(nebosvar_record *record, const uint8_t *section, size_t length, uint8_t *image, size_t room);
 
 /* What stands at the head of a stretch: one section is taken, or there is a stop. Go on `length` bytes later. */

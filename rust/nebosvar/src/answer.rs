@@ -9,7 +9,8 @@ pub enum Kind {
     /// An application section. Only [`take`](crate::Record::take) and [`run`](crate::Record::run) meet
     /// one; it changes nothing.
     Table,
-    /// An announcement other than the record's: the record was made afresh.
+    /// An announcement other than the record's, which the record holds now. A module whose downloadId, blockSize,
+    /// number, version, size and start are as before keeps its marks; all others begin empty. No image byte moves.
     New,
     /// The record's announcement again: nothing changed.
     Same,

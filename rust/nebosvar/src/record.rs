@@ -39,7 +39,7 @@ pub struct Record {
     /// The modules, in announced order; all zero from `count` on.
     pub modules: [Module; MOST_MODULES],
     /// Mark 1,024 × i + b says that block b of the module at place i has come; a word's lowest bit is
-    /// its first mark.
+    /// its first mark. What a new announcement keeps of them: [`Kind::New`](crate::Kind::New).
     pub marks: [u32; MARK_WORDS],
 }
 

@@ -19,7 +19,7 @@ fn the_first_record_is_all_zero() {
 }
 
 #[test]
-fn an_announcement_makes_the_record_afresh() {
+fn an_announcement_makes_the_record() {
     let mut modules = [Module::default(); MOST_MODULES];
     modules[0] = Module {
         number: 7,
@@ -45,7 +45,7 @@ fn an_announcement_makes_the_record_afresh() {
     assert_eq!(record.step(&drift(), &mut []), Ok(Kind::New));
     assert_eq!(record, expected);
 
-    // Another one, over a record with marks: no image byte changes.
+    // Another one, without the module that has a mark: no image byte changes.
     let sections = [announcement(1, 400, &[(7, 1000, 1)]), drift(), block_9()];
     let (mut record, mut image) = heard(&sections, 1006);
     let before = image.clone();
@@ -53,6 +53,92 @@ fn an_announcement_makes_the_record_afresh() {
     assert_eq!(record.step(&next, &mut image), Ok(Kind::New));
     assert_eq!((record.count, record.marks), (1, [0; MARK_WORDS]));
     assert_eq!(image, before);
+}
+
+#[test]
+fn a_module_as_before_keeps_its_marks() {
+    let sections = [drift(), block_7(0, 400, 1), block_7(2, 200, 3), block_9()];
+    let (before, image) = heard(&sections, 1007);
+    assert_eq!((before.marks[0], before.marks[MODULE_WORDS]), (0b101, 1));
+    // What is announced, the marks of the first modules, and the hand-out of module 9.
+    let whole: Result<&[u8], _> = Ok(b"buoy 3");
+    let (incomplete, gone) = (Err(Refusal::INCOMPLETE), Err(Refusal::NO_MODULE));
+    let short = Err(Refusal::SHORT_IMAGE);
+    let cases: [(u32, u16, &[_], [u32; 3], _); 11] = [
+        // 7 is newer: 9 is kept. 9 is newer: 7 is kept.
+        (0, 400, &[(7, 1000, 2), (9, 6, 2)], [0, 1, 0], whole),
+        (
+            0,
+            400,
+            &[(7, 1000, 1), (9, 6, 3)],
+            [0b101, 0, 0],
+            incomplete,
+        ),
+        // One more, with room for it, and one too many.
+        (
+            0,
+            400,
+            &[(7, 1000, 1), (9, 6, 2), (1, 1, 0)],
+            [0b101, 1, 0],
+            whole,
+        ),
+        (
+            0,
+            400,
+            &[(7, 1000, 1), (9, 6, 2), (1, 2, 0)],
+            [0b101, 1, 0],
+            short,
+        ),
+        // At another place: two of 400 and 600 instead of 7. Swapped: both begin elsewhere.
+        (
+            0,
+            400,
+            &[(1, 400, 0), (2, 600, 0), (9, 6, 2)],
+            [0, 0, 1],
+            whole,
+        ),
+        (0, 400, &[(9, 6, 2), (7, 1000, 1)], [0, 0, 0], incomplete),
+        // Another size of 7, and then of 9.
+        (0, 400, &[(7, 999, 1), (9, 6, 2)], [0, 0, 0], incomplete),
+        (
+            0,
+            400,
+            &[(7, 1000, 1), (9, 5, 2)],
+            [0b101, 0, 0],
+            incomplete,
+        ),
+        // 9 is dropped.
+        (0, 400, &[(7, 1000, 1)], [0b101, 0, 0], gone),
+        // Another download, another block size.
+        (1, 400, &[(7, 1000, 1), (9, 6, 2)], [0, 0, 0], incomplete),
+        (0, 401, &[(7, 1000, 1), (9, 6, 2)], [0, 0, 0], incomplete),
+    ];
+    for (download, size, modules, marks, wanted) in cases {
+        let next = announcement(DOWNLOAD + download, size, modules);
+        let (mut record, mut bytes) = (before, image.clone());
+        assert_eq!(record.step(&next, &mut bytes), Ok(Kind::New));
+        let mut expected = [0; MARK_WORDS];
+        for (place, word) in marks.into_iter().enumerate() {
+            expected[place * MODULE_WORDS] = word;
+        }
+        assert_eq!(record.marks, expected, "{modules:?}");
+        assert_eq!(record.handout(&bytes, 9), wanted, "{modules:?}");
+        assert_eq!(bytes, image);
+    }
+}
+
+#[test]
+fn one_that_was_dropped_begins_empty() {
+    let without = announcement(DOWNLOAD, 400, &[(7, 1000, 1)]);
+    let sections = [drift(), block_9(), block_7(1, 400, 5), without, drift()];
+    let (record, image) = heard(&sections, 1006);
+    assert_eq!(record.handout(&image, 9), Err(Refusal::INCOMPLETE));
+    // The other was there all the time.
+    let two = Some(Missing {
+        count: 2,
+        lowest: 0,
+    });
+    assert_eq!(record.missing(7), Ok(two));
 }
 
 #[test]
