@@ -138,7 +138,8 @@ impl Counts {
         add(&mut self.stale, &other.stale);
         add(&mut self.fresh, &other.fresh);
         add(&mut self.reached.0, &other.reached.0);
-        add(&mut self.kept.0, &other.kept.0);
+        self.kept.new += other.kept.new;
+        add(&mut self.kept.became, &other.kept.became);
         for (counts, others) in self.refusals.iter_mut().zip(&other.refusals) {
             add(counts, others);
         }
@@ -168,13 +169,12 @@ impl Counts {
     /// What became of modules, by name, and in how many new announcements.
     fn became(&self) -> Vec<(String, u64)> {
         let named = BECAME.iter().map(|name| name.to_string());
-        named.zip(self.kept.0).collect()
+        named.zip(self.kept.became).collect()
     }
 
     /// How many announcements were new, and what became of marked modules in them.
     pub fn told_kept(&self) -> String {
-        let new = self.kinds[Kind::New as usize];
-        format!("{new} new, {}", told(&self.became()))
+        format!("new {}, {}", self.kept.new, told(&self.became()))
     }
 
     /// The limits, as they are told.
@@ -277,14 +277,15 @@ mod tests {
     #[test]
     fn what_is_kept_too_rarely_is_told() {
         let mut counts = Counts::default();
-        counts.kept.0 = [2; BECAME.len()];
-        counts.kept.0[1] = 0;
+        counts.kept.new = 3;
+        counts.kept.became = [2; BECAME.len()];
+        counts.kept.became[1] = 0;
         let mut twice = counts.clone();
         twice.add(&counts);
         assert_eq!(twice.rare_kept(1), ["moved one: 0"]);
         assert_eq!(twice.rare_kept(5).len(), BECAME.len());
         assert!(twice
             .told_kept()
-            .starts_with("0 new, kept a marked module 4, moved one 0,"));
+            .starts_with("new 6, kept a marked module 4, moved one 0,"));
     }
 }

@@ -3,7 +3,7 @@
 
 use baseline::{Module, Record};
 
-use crate::limits::MODULE_WORDS;
+use crate::limits::{MODULE_WORDS, MOST_MODULES};
 
 /// What an announcement did to a module that had a mark.
 #[derive(Clone, Copy, PartialEq, Eq, Debug)]
@@ -16,6 +16,10 @@ pub enum Became {
     KeptWhole,
     /// The same, but the sizes together are now more than the image.
     KeptWholeTooLong,
+    /// Kept or moved with a mark in its last word.
+    KeptLastWord,
+    /// Moved to the last of all places, or from it.
+    MovedAtLast,
     /// Emptied, and this field alone is another.
     OtherDownload,
     OtherBlockSize,
@@ -25,13 +29,15 @@ pub enum Became {
 }
 
 /// Their names, in the order of [`Became`].
-pub const BECAME: [&str; 11] = [
+pub const BECAME: [&str; 13] = [
     "kept a marked module",
     "moved one",
     "emptied one",
     "dropped one",
     "kept a whole one",
     "kept a whole one that is 15 now",
+    "kept one with a mark in its last word",
+    "moved one to the last place or from it",
     "emptied one for downloadId alone",
     "for blockSize alone",
     "for the version alone",
@@ -39,9 +45,12 @@ pub const BECAME: [&str; 11] = [
     "for the start alone",
 ];
 
-/// How many new announcements did so, each counted once.
+/// How many announcements were new, and how many of them did so.
 #[derive(Clone, Default)]
-pub struct Kept(pub [u64; BECAME.len()]);
+pub struct Kept {
+    pub new: u64,
+    pub became: [u64; BECAME.len()],
+}
 
 impl Kept {
     /// An announcement was new: the records before and after it, and the bytes of the image.
@@ -55,7 +64,8 @@ impl Kept {
                 seen[became as usize] = true;
             }
         }
-        for (count, seen) in self.0.iter_mut().zip(seen) {
+        self.new += 1;
+        for (count, seen) in self.became.iter_mut().zip(seen) {
             *count += u64::from(seen);
         }
     }
@@ -79,6 +89,12 @@ fn became([old, new]: [&Record; 2], place: usize, module: &Module, room: usize) 
     } else {
         Became::Moved
     }];
+    if words(new, now)[MODULE_WORDS - 1] != 0 {
+        all.push(Became::KeptLastWord);
+    }
+    if now != place && now.max(place) == MOST_MODULES - 1 {
+        all.push(Became::MovedAtLast);
+    }
     let marks: u32 = words(new, now).iter().map(|word| word.count_ones()).sum();
     if marks == module.size.div_ceil(u32::from(old.block_size)) {
         let together: usize = used(new).iter().map(|module| module.size as usize).sum();
@@ -135,7 +151,7 @@ mod tests {
         }
         let mut kept = Kept::default();
         kept.announced([&old, &new], room);
-        let named = BECAME.iter().zip(kept.0);
+        let named = BECAME.iter().zip(kept.became);
         let met = named.filter(|(_, count)| *count > 0);
         met.map(|(name, _)| *name).collect()
     }
@@ -157,11 +173,11 @@ mod tests {
         assert_eq!(counted(&moved, &[(2, 1)], 16), [BECAME[1]]);
         assert_eq!(counted(&list(&[(1, 8, 0)]), &[], 16), [BECAME[3]]);
         for (new, cause) in [
-            (record(8, 4, &[(1, 8, 0), (5, 8, 3)]), 6),
-            (record(7, 5, &[(1, 8, 0), (5, 8, 3)]), 7),
-            (list(&[(1, 8, 0), (5, 8, 35)]), 8),
-            (list(&[(1, 8, 0), (5, 7, 3)]), 9),
-            (list(&[(1, 7, 0), (5, 8, 3)]), 10),
+            (record(8, 4, &[(1, 8, 0), (5, 8, 3)]), 8),
+            (record(7, 5, &[(1, 8, 0), (5, 8, 3)]), 9),
+            (list(&[(1, 8, 0), (5, 8, 35)]), 10),
+            (list(&[(1, 8, 0), (5, 7, 3)]), 11),
+            (list(&[(1, 7, 0), (5, 8, 3)]), 12),
         ] {
             assert_eq!(counted(&new, &[], 16), [BECAME[2], BECAME[cause]]);
         }
@@ -170,10 +186,32 @@ mod tests {
     }
 
     #[test]
+    fn the_last_word_and_the_last_place_are_told() {
+        let mut many: Vec<_> = (0..MOST_MODULES as u16 - 1).map(|n| (n, 1, 0)).collect();
+        many.push((99, 1_024, 0));
+        let few = [(100, MOST_MODULES as u32 - 1, 0), (99, 1_024, 0)];
+        let records = [(&many[..], MOST_MODULES - 1), (&few, 1)].map(|(modules, place)| {
+            let mut record = record(7, 1, modules);
+            mark(&mut record, place, 1_023);
+            record
+        });
+        for [old, new] in [[0, 1], [1, 0]] {
+            let mut kept = Kept::default();
+            kept.announced([&records[old], &records[new]], 1_055);
+            let met = BECAME
+                .iter()
+                .zip(kept.became)
+                .filter(|(_, count)| *count > 0);
+            let met: Vec<_> = met.map(|(name, _)| *name).collect();
+            assert_eq!(met, [BECAME[1], BECAME[6], BECAME[7]]);
+        }
+    }
+
+    #[test]
     fn without_a_mark_nothing_is_counted() {
         let record = record(7, 4, &[(1, 8, 0)]);
         let mut kept = Kept::default();
         kept.announced([&record, &Record::empty()], 8);
-        assert_eq!(kept.0, [0; BECAME.len()]);
+        assert_eq!(kept.became, [0; BECAME.len()]);
     }
 }

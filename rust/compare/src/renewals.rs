@@ -39,14 +39,22 @@ pub fn case(random: &mut Random) -> Case {
     }
 }
 
-/// The carousel that is announced first: mostly a short one.
+/// The carousel that is announced first: mostly a short one, and often one with as many modules or blocks as there can be.
 fn first(random: &mut Random) -> Carousel {
+    let full = random.one_in(5);
     loop {
         let carousel = Carousel::any(random);
-        if carousel.total() <= SHORT || random.one_in(40) {
+        let short = carousel.total() <= SHORT || random.one_in(40);
+        if short && (is_full(&carousel) || !full) {
             return carousel;
         }
     }
+}
+
+/// Whether the last place is taken, or a module has the most blocks.
+fn is_full(carousel: &Carousel) -> bool {
+    let count = carousel.modules.len();
+    count == MOST_MODULES || (0..count).any(|place| carousel.blocks(place) == MOST_BLOCKS)
 }
 
 /// Room for what is announced first, and mostly for some more: later lists may be longer, and are 15 then.
@@ -114,7 +122,7 @@ fn change(random: &mut Random, carousel: &mut Carousel) {
     let place = random.within(0..=last);
     let other = random.within(0..=last);
     let size = random.within(1..=3 * usize::from(carousel.block_size) + 1) as u32;
-    match random.below(16) {
+    match random.below(20) {
         0 | 1 => {
             let version = &mut modules[place].version;
             *version = version.wrapping_add(random.pick(&[1, 32, 224, 255]));
@@ -126,17 +134,18 @@ fn change(random: &mut Random, carousel: &mut Carousel) {
         5 => drop(modules.remove(place)),
         // Another module where one was.
         6 => modules[place].number = fresh,
-        7 | 8 => join(random, modules, place, fresh),
-        9 | 10 => split(random, modules, place, fresh),
-        11 => modules.swap(place, other),
-        12 if random.one_in(2) => modules[place].size += 1,
-        12 => shorten(&mut modules[place]),
+        // Near the front, so that many lie behind.
+        7..=10 => join(random, modules, place.min(other), fresh),
+        11..=14 => split(random, modules, place.min(other), fresh),
+        15 => modules.swap(place, other),
+        16 if random.one_in(2) => modules[place].size += 1,
+        16 => shorten(&mut modules[place]),
         // A byte more of one and less of another: what lies past both begins where it did.
-        13 => {
+        17 => {
             modules[place].size += 1;
             shorten(&mut modules[other]);
         }
-        14 => carousel.download ^= 1 << random.below(32),
+        18 => carousel.download ^= 1 << random.below(32),
         _ if random.one_in(2) => carousel.block_size += 1,
         _ => carousel.block_size = carousel.block_size.saturating_sub(1),
     }
@@ -149,7 +158,8 @@ fn shorten(module: &mut Module) {
 
 /// One module instead of several from a place on, with as many bytes: those behind move towards the front.
 fn join(random: &mut Random, modules: &mut Vec<Module>, place: usize, number: u16) {
-    let end = random.within(place + 1..=modules.len());
+    let most = modules.len().min(place + 4);
+    let end = random.within(place + 1..=most);
     let size = modules.drain(place..end).map(|module| module.size).sum();
     modules.insert(place, (number, size, random.byte()).into());
 }
@@ -193,7 +203,6 @@ mod tests {
     #[derive(Default)]
     struct Seen {
         kept: Kept,
-        new: u64,
         same: u64,
         stored: u64,
         repeated: u64,
@@ -217,7 +226,6 @@ mod tests {
                 let before = record;
                 match record.step(&stretch[place], &mut image) {
                     Answer::New => {
-                        seen.new += 1;
                         seen.kept.announced([&before, &record], image.len());
                         seen.again += again(&past, &before, &record);
                         past.push(before);
@@ -254,17 +262,21 @@ mod tests {
     #[test]
     fn announcements_keep_move_empty_and_drop_what_has_marks() {
         let seen = seen(400);
-        for (name, count) in BECAME.iter().zip(seen.kept.0) {
-            assert!(count > 10, "{name}: {count}");
+        for (name, count) in BECAME.iter().zip(seen.kept.became) {
+            assert!(count > 20, "{name}: {count}, {:?}", seen.kept.became);
         }
-        assert!(seen.kept.0[0] * 3 > seen.new, "{:?}", seen.kept.0);
+        assert!(
+            seen.kept.became[0] * 3 > seen.kept.new,
+            "{:?}",
+            seen.kept.became
+        );
         assert!(seen.again > 50, "{}", seen.again);
     }
 
     #[test]
     fn among_them_blocks_of_all_kinds_come() {
         let seen = seen(400);
-        for count in [seen.new, seen.same, seen.stored, seen.repeated] {
+        for count in [seen.kept.new, seen.same, seen.stored, seen.repeated] {
             assert!(count > 400, "{count}");
         }
         for number in [12, 13, 14, 15, 16, 17] {
