@@ -16,7 +16,7 @@ use Rattle.carousel_record.specs.Changes.{afresh}
 use Rattle.carousel_record.specs.Refusals.{meets13, meets15}
 use Rattle.carousel_record.proofs.Laws.Places.{number-at, few-modules}
 use Rattle.carousel_record.proofs.Laws.Rule.{Kept, number-small, ruled-says}
-use Rattle.carousel_record.proofs.Laws.Keeping.{keeping-marks}
+use Rattle.carousel_record.proofs.Laws.Keeping.{same-means, keeping-marks}
 use Rattle.carousel_handout.specs.Calls.{handoutTests, handoutNumber, handedOut}
 use Rattle.carousel_handout.proofs.Complete.{complete-means, handout-part}
 use Rattle.carousel_step.specs.Step.{new}
@@ -24,12 +24,13 @@ use Rattle.carousel_step.proofs.Views.{Held as Said, Slot, slot, hit}
 use Rattle.carousel_step.proofs.View.{slot-marked}
 use Rattle.carousel_step.proofs.Renewed.{afresh-told}
 use Rattle.receiver.specs.Run.{Held, given, walk}
-use Rattle.demands.specs.Demand.{fateOf, isNew, told, modules, place, Announces, blocks, matches, sectionData, HasRoom, Emptied, Keeps, bytesIn, missingIn, isComplete, Took, Matched, Came}
+use Rattle.demands.specs.Demand.{fateOf, isNew, told, modules, place, Announces, blocks, matches, sectionData, HasRoom, sameIn, Emptied}
+use Rattle.demands.specs.Demand.{keepsOne, Keeps, bytesIn, missingIn, isComplete, Took, Matched, Came}
 use Rattle.demands.specs.Demand.{firstData, joinedBlocks, RepeatsAgree, FoundIn}
 use Rattle.demands.proofs.Given.{saying, new-ruled, Renewal, renewal}
 use Rattle.demands.proofs.Lists.{joined-ext}
 use Rattle.demands.proofs.Alike.{part-slots}
-use Rattle.demands.proofs.Walks.{kept-in, next-rule, Stays, walk-stays, same-blocks, cameBy, walk-view}
+use Rattle.demands.proofs.Walks.{kept-in, next-rule, kept-view, Stays, walk-stays, same-blocks, cameBy, walk-view}
 
 -- THE START: the call that emptied the module left a record that keeps its rule, and none of the module's marks
 module _ (x : Held) (k : ℕ) (em : Emptied x k) where
@@ -131,6 +132,24 @@ missing-moved x y k n p q h =
     ap (λ (m : ℕ). clearAmong (x .state .marks) (mostBlocks * place x k) 0 m) p
     ∙ clear-moved (x .state .marks) (y .state .marks) (mostBlocks * place x k) (mostBlocks * place y k) n 0 (λ b l. h b (omega arith))
     ∙ ap (λ (m : ℕ). clearAmong (y .state .marks) (mostBlocks * place y k) 0 m) (sym q)
+
+-- ONE CALL that answered "new" and kept the module leaves its missing blocks and its bytes
+pub one-leaves : (x : Held) (k : ℕ) (s : List ℕ) → isNew (fateOf x s) ≡ true → sameIn x (given x s) k ≡ true → (missingIn (given x s) k ≡ missingIn x k) × (bytesIn (given x s) k ≡ bytesIn x k)
+one-leaves x k s n e =
+    let r = new-ruled x s n in
+    let m = same-means _ _ _ _ e in
+    let u = m .before in
+    let t = m .now in
+    let o : keepsOne x k s ≡ true = rw n e in
+    let c = same-blocks x k (given x s) m in
+    let v : (b : ℕ) → b < blocks x k → slot (saying (given x s)) (place (given x s) k) b ≡ slot (saying x) (place x k) b = kept-view x k r u s o n in (
+      missing-moved (given x s) x k (blocks x k) c refl
+          (λ b l. sym (slot-marked (saying (given x s)) (place (given x s) k) b) ∙ ap (λ (w : Slot). w .marked) (v b l) ∙ slot-marked (saying x) (place x k) b),
+      part-slots (saying (given x s)) (kept-in (given x s) (next-rule x s r) (omega arith)) (place (given x s) k)
+          ∙ ap (λ (h : ℕ). joinedBlocks h (λ b. slot (saying (given x s)) (place (given x s) k) b .bytes)) c
+          ∙ joined-ext (blocks x k) _ _ (λ b l. ap (λ (w : Slot). w .bytes) (v b l))
+          ∙ sym (part-slots (saying x) (kept-in x r (omega arith)) (place x k)),
+    )
 
 -- THE HAND-OUT of a record that keeps its rule: the module is announced, the image holds the sizes together, and it is complete
 pub handed-means : (x : Held) (k : ℕ) → ruledOf (x .state) ≡ true → (handoutNumber (x .state) (x .image) k ≡ 0) ↔ (Announces x k × HasRoom x × (isComplete x k ≡ true))

@@ -2,7 +2,8 @@
 -- 02, §1: "Demands 1 to 3 read as before."
 --
 -- Here k is the number of the list's module, x the record and image that a call left which answered "new" and emptied it, ss any run that keeps it (new announcements among its
--- sections, where they keep it), and y what the run leaves. `listAnswer`, `fixAnswer` and `walkAnswer` are what drift_list's `read`, `record_at` and `walk_at` answer; `heardModule` is the module's blocks' data,
+-- sections, where they keep it), and y what the run leaves. `listAnswer`, `fixAnswer` and `walkAnswer` are what drift_list's `read`, `record_at` and
+-- `walk_at` answer; `heardModule` is the module's blocks' data,
 -- joined in order, each as it first matched in this run.
 use Prim.Native.Nat.{ℕ, _≤_, _<_}
 use mathlib.Core.Path.{_≡_, refl, sym, ap, ap₂, subst, _∙_}
@@ -86,7 +87,8 @@ module _ (x : Held) (k : ℕ) (start : Emptied x k) (ss : List (List ℕ)) (keep
 
 -- Two records that were told the same, given one section, are told the same again: who takes an announcement for new looks at nothing else.
 module _ (x z : Held) (r : ruledOf (x .state) ≡ true) (q : ruledOf (z .state) ≡ true) (s : List ℕ) where
-  new-too : told x ≡ told z → isNew (fateOf x s) ≡ true → (a : Announced) × (saying (given x s) ≡ after (saying x) (new a)) × (saying (given z s) ≡ after (saying z) (new a)) × (isNew (fateOf z s) ≡ true)
+  new-too : told x ≡ told z → isNew (fateOf x s) ≡ true → (a : Announced) × (saying (given x s) ≡ after (saying x) (new a))
+      × (saying (given z s) ≡ after (saying z) (new a)) × (isNew (fateOf z s) ≡ true)
   unfolding madeNew
   new-too e n =
       let w = renewal x s n in

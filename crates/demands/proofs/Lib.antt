@@ -21,3 +21,4 @@ pub mod Drift
 pub mod Played
 pub mod Taken
 pub mod Player
+pub mod Kept

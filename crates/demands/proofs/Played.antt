@@ -250,7 +250,8 @@ module _ (id : ℕ) (a : Announced) (ok : Playable a) (image : List ℕ) (holds 
       played-handed-out =
           let k = moduleAt a i .number in
           let p : place z k ≡ i = ap (λ (c : Announced). placeOf c k) still-told ∙ place-is (a .modules) i (not-eleven a (ok .keeps)) there in
-          let u : Announces z k = subst (λ (c : Announced). placeOf c k < length (c .modules)) (sym still-told) (subst (λ (j : ℕ). j < length (a .modules)) (sym (place-is (a .modules) i (not-eleven a (ok .keeps)) there)) there) in
+          let u : Announces z k = subst (λ (c : Announced). placeOf c k < length (c .modules)) (sym still-told)
+          (subst (λ (j : ℕ). j < length (a .modules)) (sym (place-is (a .modules) i (not-eleven a (ok .keeps)) there)) there) in
           let r : HasRoom z = subst (λ (c : Announced). bytesOf c ≤ length (z .image)) (sym still-told) (subst (λ (l : ℕ). bytesOf a ≤ l) (sym (stays .long)) long-enough) in
           let h = handed-means z k (stays .ruled) .1 (u, r, ap (isCompleteAt z) p ∙ played-complete) in
           (h, handout-part (z .state) (z .image) k h ∙ ap (bytesAt z) p ∙ played-bytes)

@@ -211,7 +211,8 @@ module _ (p : Playlist) (widths : Widths p) (n : ℕ) (told : countAnswer p ≡ 
 
   -- THEOREM 5, THE WHOLE WAY FROM SHORE TO WHEELHOUSE. A list that `write` took is the module at place i of the shore's image. What the player's calls put is taken by the box's
   -- calls, in that order, however it is grouped in stretches, by a record that keeps its rule and does not hold this announcement already, into an image long enough; what
-  -- the box has kept of the module, if anything, is the shore's. Then the box hands the module out, and reads it record for record as it was given to the writer. (In any order, with repeats and among other sections: `list-read` of what
+  -- the box has kept of the module, if anything, is the shore's. Then the box hands the module out, and reads it record for record as it was given to
+  -- the writer. (In any order, with repeats and among other sections: `list-read` of what
   -- `any-order` and `interleaved` leave.)
   module _ (d : Draft) (buffer : List ℕ) (written : writeRefusal d (length buffer) ≡ 0) (i : ℕ) (there : i < length (toPlay p .modules)) (its : shorePart (toPlay p) image i ≡ writtenList d buffer)
       (y : Held) (ruled : ruledOf (y .state) ≡ true) (other : announcedBy (y .state) ≡ toPlay p → ⊥) (room : Holding (toPlay p) (y .image))

@@ -181,11 +181,7 @@ module _ (k : ℕ) (x y : Held) (ag : Agree k x y) (there : Announces x k) (s : 
       = sym (ap (λ (z : Said). placeFor (z .says) k) (w .left) ∙ ap (λ (b : Announced). placeOf b k) (afresh-told (recordOf (x .state)) a)) in
       record { alike = moved _ _ _ _ _ _ o (w .left) g c; ruled-l = next-rule x s (ag .ruled-l); ruled-r = next-rule y s (ag .ruled-r) }
 
--- an announcement is for no module, and matches no block
-new-for : (x : Held) (k : ℕ) (s : List ℕ) (a : Announced) → heardOf s ≡ announced a → isFor x k s ≡ false
-unfolding heardFor
-new-for x k s a e = ap (λ (h : Heard). heardFor (told x) (place x k) h) e
-
+-- an announcement matches no block
 new-matches : (x : Held) (k b : ℕ) (s : List ℕ) (a : Announced) → heardOf s ≡ announced a → matches x k b s ≡ false
 unfolding heardMatches
 new-matches x k b s a e = ap (λ (h : Heard). heardMatches (told x) (length (x .image)) (place x k) b h) e
@@ -260,18 +256,21 @@ module _ (x : Held) (k : ℕ) (r : ruledOf (x .state) ≡ true) (u : Announces x
       go true n = ap (λ (z : Said). length (z .image)) (renewal x s n .left)
       go false n = old-fixed x s r (omega arith) n .long
 
+  -- where it answered "new", each view is what it was
+  pub kept-view : isNew (fateOf x s) ≡ true → (b : ℕ) → b < blocks x k → slot (saying (given x s)) (place (given x s) k) b ≡ slot (saying x) (place x k) b
+  kept-view n b l =
+      let w = keeping x k s o n in
+      ap (λ (z : Said). slot z (placeFor (z .says) k) b) (w .left)
+      ∙ ap (λ (a : Announced). slot (after (saying x) (new (w .told))) (placeOf a k) b) (afresh-told (recordOf (x .state)) (w .told))
+      ∙ kept-slot (saying x) (ruled-says (x .state) r) (w .told) k (w .same) (w .few) b l
+
   one-view : (b : ℕ) → b < blocks x k
       → slot (saying (given x s)) (place (given x s) k) b ≡ cond (matches x k b s) (hit (sectionData s) (slot (saying x) (place x k) b)) (slot (saying x) (place x k) b)
   one-view b l = go (isNew (fateOf x s)) refl
     where
       go : (t : Bool) → isNew (fateOf x s) ≡ t
           → slot (saying (given x s)) (place (given x s) k) b ≡ cond (matches x k b s) (hit (sectionData s) (slot (saying x) (place x k) b)) (slot (saying x) (place x k) b)
-      go true n =
-          let w = keeping x k s o n in
-          ap (λ (z : Said). slot z (placeFor (z .says) k) b) (w .left)
-          ∙ ap (λ (a : Announced). slot (after (saying x) (new (w .told))) (placeOf a k) b) (afresh-told (recordOf (x .state)) (w .told))
-          ∙ kept-slot (saying x) (ruled-says (x .state) r) (w .told) k (w .same) (w .few) b l
-          ∙ sym (rw (new-matches x k b s (w .told) (w .heard)))
+      go true n = let w = keeping x k s o n in kept-view n b l ∙ sym (rw (new-matches x k b s (w .told) (w .heard)))
       go false n =
           ap (λ (a : Announced). slot (saying (given x s)) (placeOf a k) b) (old-fixed x s r (omega arith) n .told)
           ∙ ap (λ (z : Said). slot z (place x k) b) (given-says x s r)
