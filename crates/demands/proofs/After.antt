@@ -24,7 +24,7 @@ use Rattle.carousel_step.proofs.Views.{Held as Said, Slot, slot, hit}
 use Rattle.carousel_step.proofs.View.{slot-marked}
 use Rattle.carousel_step.proofs.Renewed.{afresh-told}
 use Rattle.receiver.specs.Run.{Held, given, walk}
-use Rattle.demands.specs.Demand.{fateOf, isNew, told, modules, place, Announces, blocks, matches, sectionData, HasRoom, sameIn, Emptied}
+use Rattle.demands.specs.Demand.{fateOf, isNew, told, modules, placeNow, Announces, blocks, matches, sectionData, HasRoom, sameIn, Emptied}
 use Rattle.demands.specs.Demand.{keepsOne, Keeps, bytesIn, missingIn, isComplete, Took, Matched, Came}
 use Rattle.demands.specs.Demand.{firstData, joinedBlocks, RepeatsAgree, FoundIn}
 use Rattle.demands.proofs.Given.{saying, new-ruled, Renewal, renewal}
@@ -58,19 +58,19 @@ module _ (x : Held) (k : ℕ) (em : Emptied x k) where
   was-told : told x ≡ w .told
   was-told = ap (λ (r : Record). r .announced) is-afresh ∙ afresh-told (recordOf (y .state)) (w .told)
 
-  pub emptied-clear : (b : ℕ) → b < blocks x k → received (recordOf (x .state)) (place x k) b ≡ false
+  pub emptied-clear : (b : ℕ) → b < blocks x k → received (recordOf (x .state)) (placeNow x k) b ≡ false
   emptied-clear b l =
       let r = recordOf (y .state) in
       let q = afresh r (w .told) in
-      let u = number-small (recordOf (x .state)) emptied-kept (place x k) b (em .announces) l in
+      let u = number-small (recordOf (x .state)) emptied-kept (placeNow x k) b (em .announces) l in
       let f = few-modules (told x .blockSize) (told x .modules) (emptied-kept .limits) in
       let t = em .announces in
-      let n : moduleAt (q .announced) (place x k) .number ≡ k
-      = ap (λ (p : Record). moduleAt (p .announced) (place x k) .number) (sym is-afresh) ∙ number-at k (told x .modules) (em .announces) in
-      let o : sameAt r q (placeFor r k) (place x k) ≡ false = ap (λ (p : Record). sameAt r p (placeFor r k) (place x k)) (sym is-afresh) ∙ em .other in
-      ap (λ (p : Record). received p (place x k) b) is-afresh
-      ∙ keeping-marks r (ruled-says (y .state) was-ruled) (w .told) (place x k) b (omega arith) u
-      ∙ ap (λ (m : ℕ). sameAt r q (placeFor r m) (place x k) && received r (placeFor r m) b) n
+      let n : moduleAt (q .announced) (placeNow x k) .number ≡ k
+      = ap (λ (p : Record). moduleAt (p .announced) (placeNow x k) .number) (sym is-afresh) ∙ number-at k (told x .modules) (em .announces) in
+      let o : sameAt r q (placeFor r k) (placeNow x k) ≡ false = ap (λ (p : Record). sameAt r p (placeFor r k) (placeNow x k)) (sym is-afresh) ∙ em .other in
+      ap (λ (p : Record). received p (placeNow x k) b) is-afresh
+      ∙ keeping-marks r (ruled-says (y .state) was-ruled) (w .told) (placeNow x k) b (omega arith) u
+      ∙ ap (λ (m : ℕ). sameAt r q (placeFor r m) (placeNow x k) && received r (placeFor r m) b) n
       ∙ rw o
 
 -- A BLOCK CAME exactly where some section was matching when it came; and then the first that was is one
@@ -126,12 +126,12 @@ clear-moved ws vs f g zero b h = refl
 clear-moved ws vs f g (suc n) b h = rw (h b (omega arith), clear-moved ws vs f g n (suc b) (λ q l. h q (omega arith)))
 
 missing-moved : (x y : Held) (k n : ℕ) → blocks x k ≡ n → blocks y k ≡ n
-    → ((b : ℕ) → b < n → received (recordOf (x .state)) (place x k) b ≡ received (recordOf (y .state)) (place y k) b) → missingIn x k ≡ missingIn y k
+    → ((b : ℕ) → b < n → received (recordOf (x .state)) (placeNow x k) b ≡ received (recordOf (y .state)) (placeNow y k) b) → missingIn x k ≡ missingIn y k
 unfolding missingOf
 missing-moved x y k n p q h =
-    ap (λ (m : ℕ). clearAmong (x .state .marks) (mostBlocks * place x k) 0 m) p
-    ∙ clear-moved (x .state .marks) (y .state .marks) (mostBlocks * place x k) (mostBlocks * place y k) n 0 (λ b l. h b (omega arith))
-    ∙ ap (λ (m : ℕ). clearAmong (y .state .marks) (mostBlocks * place y k) 0 m) (sym q)
+    ap (λ (m : ℕ). clearAmong (x .state .marks) (mostBlocks * placeNow x k) 0 m) p
+    ∙ clear-moved (x .state .marks) (y .state .marks) (mostBlocks * placeNow x k) (mostBlocks * placeNow y k) n 0 (λ b l. h b (omega arith))
+    ∙ ap (λ (m : ℕ). clearAmong (y .state .marks) (mostBlocks * placeNow y k) 0 m) (sym q)
 
 -- ONE CALL that answered "new" and kept the module leaves its missing blocks and its bytes
 pub one-leaves : (x : Held) (k : ℕ) (s : List ℕ) → isNew (fateOf x s) ≡ true → sameIn x (given x s) k ≡ true → (missingIn (given x s) k ≡ missingIn x k) × (bytesIn (given x s) k ≡ bytesIn x k)
@@ -142,13 +142,13 @@ one-leaves x k s n e =
     let t = m .now in
     let o : keepsOne x k s ≡ true = rw n e in
     let c = same-blocks x k (given x s) m in
-    let v : (b : ℕ) → b < blocks x k → slot (saying (given x s)) (place (given x s) k) b ≡ slot (saying x) (place x k) b = kept-view x k r u s o n in (
+    let v : (b : ℕ) → b < blocks x k → slot (saying (given x s)) (placeNow (given x s) k) b ≡ slot (saying x) (placeNow x k) b = kept-view x k r u s o n in (
       missing-moved (given x s) x k (blocks x k) c refl
-          (λ b l. sym (slot-marked (saying (given x s)) (place (given x s) k) b) ∙ ap (λ (w : Slot). w .marked) (v b l) ∙ slot-marked (saying x) (place x k) b),
-      part-slots (saying (given x s)) (kept-in (given x s) (next-rule x s r) (omega arith)) (place (given x s) k)
-          ∙ ap (λ (h : ℕ). joinedBlocks h (λ b. slot (saying (given x s)) (place (given x s) k) b .bytes)) c
+          (λ b l. sym (slot-marked (saying (given x s)) (placeNow (given x s) k) b) ∙ ap (λ (w : Slot). w .marked) (v b l) ∙ slot-marked (saying x) (placeNow x k) b),
+      part-slots (saying (given x s)) (kept-in (given x s) (next-rule x s r) (omega arith)) (placeNow (given x s) k)
+          ∙ ap (λ (h : ℕ). joinedBlocks h (λ b. slot (saying (given x s)) (placeNow (given x s) k) b .bytes)) c
           ∙ joined-ext (blocks x k) _ _ (λ b l. ap (λ (w : Slot). w .bytes) (v b l))
-          ∙ sym (part-slots (saying x) (kept-in x r (omega arith)) (place x k)),
+          ∙ sym (part-slots (saying x) (kept-in x r (omega arith)) (placeNow x k)),
     )
 
 -- THE HAND-OUT of a record that keeps its rule: the module is announced, the image holds the sizes together, and it is complete
@@ -175,25 +175,25 @@ module _ (x : Held) (k : ℕ) (em : Emptied x k) where
     kept-after = let t = stays .same .now in kept-in (walk x ss) (stays .ruled) (omega arith)
 
     -- each block: its mark is whether it came; its bytes are the first matching section's, or else as they were
-    pub view-after : (b : ℕ) → b < blocks x k → slot (saying (walk x ss)) (place (walk x ss) k) b
-        ≡ record { marked = cameBy x k b ss; bytes = cond (cameBy x k b ss) (firstData x k ss b) (slot (saying x) (place x k) b .bytes) }
+    pub view-after : (b : ℕ) → b < blocks x k → slot (saying (walk x ss)) (placeNow (walk x ss) k) b
+        ≡ record { marked = cameBy x k b ss; bytes = cond (cameBy x k b ss) (firstData x k ss b) (slot (saying x) (placeNow x k) b .bytes) }
     view-after b l =
         walk-view x k b ok (em .announces) l ss n
-        ∙ settled (cameBy x k b ss) (firstData x k ss b) (slot (saying x) (place x k) b) (slot-marked (saying x) (place x k) b ∙ emptied-clear x k em b l)
+        ∙ settled (cameBy x k b ss) (firstData x k ss b) (slot (saying x) (placeNow x k) b) (slot-marked (saying x) (placeNow x k) b ∙ emptied-clear x k em b l)
 
-    mark-after : (b : ℕ) → b < blocks x k → received (recordOf (walk x ss .state)) (place (walk x ss) k) b ≡ cameBy x k b ss
-    mark-after b l = sym (slot-marked (saying (walk x ss)) (place (walk x ss) k) b) ∙ ap (λ (v : Slot). v .marked) (view-after b l)
+    mark-after : (b : ℕ) → b < blocks x k → received (recordOf (walk x ss .state)) (placeNow (walk x ss) k) b ≡ cameBy x k b ss
+    mark-after b l = sym (slot-marked (saying (walk x ss)) (placeNow (walk x ss) k) b) ∙ ap (λ (v : Slot). v .marked) (view-after b l)
 
-    bytes-after : bytesIn (walk x ss) k ≡ joinedBlocks (blocks x k) (λ b. cond (cameBy x k b ss) (firstData x k ss b) (slot (saying x) (place x k) b .bytes))
+    bytes-after : bytesIn (walk x ss) k ≡ joinedBlocks (blocks x k) (λ b. cond (cameBy x k b ss) (firstData x k ss b) (slot (saying x) (placeNow x k) b .bytes))
     bytes-after =
-        part-slots (saying (walk x ss)) kept-after (place (walk x ss) k)
-        ∙ ap (λ (m : ℕ). joinedBlocks m (λ b. slot (saying (walk x ss)) (place (walk x ss) k) b .bytes)) count-after
+        part-slots (saying (walk x ss)) kept-after (placeNow (walk x ss) k)
+        ∙ ap (λ (m : ℕ). joinedBlocks m (λ b. slot (saying (walk x ss)) (placeNow (walk x ss) k) b .bytes)) count-after
         ∙ joined-ext (blocks x k) _ _ (λ b l. ap (λ (v : Slot). v .bytes) (view-after b l))
 
     -- COMPLETE: every block came
     pub complete-came : (isComplete (walk x ss) k ≡ true) ↔ ((b : ℕ) → b < blocks x k → Came x k b ss)
     complete-came =
-        let c = complete-means (recordOf (walk x ss .state)) (place (walk x ss) k) in
+        let c = complete-means (recordOf (walk x ss .state)) (placeNow (walk x ss) k) in
         let m = count-after in (
           (λ h b l. came-means x k b ss .0 (sym (mark-after b l) ∙ c .0 h b (omega arith))),
           (λ f. c .1 (λ b l. let q : b < blocks x k = omega arith in mark-after b q ∙ came-means x k b ss .1 (f b q))),
@@ -227,10 +227,10 @@ module _ (x : Held) (k : ℕ) (em : Emptied x k) where
         let q = back b (g .0) (g .1) in
         h .2 ∙ agree b (h .0) (q .0) (h .1) (q .1) ∙ q .2 ∙ sym (g .2)
 
-    same-bytes : (b : ℕ) → cond (cameBy x k b ss) (firstData x k ss b) (slot (saying x) (place x k) b .bytes) ≡ cond (cameBy x k b us) (firstData x k us b) (slot (saying x) (place x k) b .bytes)
+    same-bytes : (b : ℕ) → cond (cameBy x k b ss) (firstData x k ss b) (slot (saying x) (placeNow x k) b .bytes) ≡ cond (cameBy x k b us) (firstData x k us b) (slot (saying x) (placeNow x k) b .bytes)
     same-bytes b = rw (← both-came b) (go (cameBy x k b ss) refl)
       where
-        go : (t : Bool) → cameBy x k b ss ≡ t → cond t (firstData x k ss b) (slot (saying x) (place x k) b .bytes) ≡ cond t (firstData x k us b) (slot (saying x) (place x k) b .bytes)
+        go : (t : Bool) → cameBy x k b ss ≡ t → cond t (firstData x k ss b) (slot (saying x) (placeNow x k) b .bytes) ≡ cond t (firstData x k us b) (slot (saying x) (placeNow x k) b .bytes)
         go true e = same-first b e
         go false e = refl
 

@@ -32,7 +32,7 @@ use Rattle.carousel_step.specs.Matching.{blockMatches, heardMatches}
 use Rattle.carousel_record.proofs.Laws.Keeping.{same-means}
 use Rattle.carousel_step.proofs.Renewed.{new-keeps, no-byte-moves}
 use Rattle.receiver.specs.Run.{Held, given}
-use Rattle.demands.specs.Demand.{fateOf, isNew, told, place, blocks, bytesIn, missingIn, isComplete, sameIn, Emptied}
+use Rattle.demands.specs.Demand.{fateOf, isNew, told, placeNow, blocks, bytesIn, missingIn, isComplete, sameIn, Emptied}
 use Rattle.demands.proofs.Given.{new-ruled}
 use Rattle.demands.proofs.Walks.{next-rule}
 use Rattle.demands.proofs.After.{emptied-clear, one-leaves}
@@ -82,7 +82,7 @@ module _ (x : Held) (k : ℕ) (s : List ℕ) (new : isNew (fateOf x s) ≡ true)
       rw (r, t, d)
 
 -- and one that is emptied has none of its blocks, whatever it had
-pub emptied-empty : (x : Held) (k : ℕ) → Emptied x k → (b : ℕ) → b < blocks x k → received (recordOf (x .state)) (place x k) b ≡ false
+pub emptied-empty : (x : Held) (k : ℕ) → Emptied x k → (b : ℕ) → b < blocks x k → received (recordOf (x .state)) (placeNow x k) b ≡ false
 emptied-empty x k em = emptied-clear x k em
 
 -- THE SOUNDINGS, computed: what an announcement leaves of a record. Blocks of 100 bytes; a module is told by its number, size and version.

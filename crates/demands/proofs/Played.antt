@@ -28,7 +28,7 @@ use Rattle.receiver.specs.declared.Fate.the-variants as fate
 use Rattle.receiver.specs.Run.{Held, givenOf, given, walk}
 use Rattle.carousel_handout.specs.Calls.{handoutNumber, handedOut}
 use Rattle.carousel_handout.proofs.Complete.{complete-means, handout-part}
-use Rattle.demands.specs.Demand.{fates, isNew, told, modules, place, Announces, blocks, blocksAt, matchesAt, sectionData, HasRoom, sameIn, Emptied, bytesAt, isCompleteAt, joinedBlocks}
+use Rattle.demands.specs.Demand.{fates, isNew, told, modules, placeNow, Announces, blocks, blocksAt, matchesAt, sectionData, HasRoom, sameIn, Emptied, bytesAt, isCompleteAt, joinedBlocks}
 use Rattle.demands.specs.Quiet.{noneNew, NoNew, Holds, firstIn}
 use Rattle.demands.specs.Shore.{HasShores}
 use Rattle.demands.proofs.Given.{saying, given-steps}
@@ -181,7 +181,7 @@ module _ (id : ℕ) (a : Announced) (ok : Playable a) (image : List ℕ) (holds 
         → (b : ℕ) → b < blockCount a i → received (recordOf (begun-with .state)) i b ≡ false
     emptied-none i u e b l =
         let k = moduleAt a i .number in
-        let p : place begun-with k ≡ i = ap (λ (c : Announced). placeOf c k) told-it ∙ place-is (a .modules) i (not-eleven a (ok .keeps)) u in
+        let p : placeNow begun-with k ≡ i = ap (λ (c : Announced). placeOf c k) told-it ∙ place-is (a .modules) i (not-eleven a (ok .keeps)) u in
         let t : Announces begun-with k = subst (λ (j : ℕ). j < modules begun-with) (sym p) (subst (λ (c : Announced). i < length (c .modules)) (sym told-it) u) in
         let m : b < blocks begun-with k = subst (λ (j : ℕ). b < blocksAt begun-with j) (sym p) (subst (λ (c : Announced). b < blockCount c i) (sym told-it) l) in
         let em : Emptied begun-with k = record { before = y; section = announcementBytes id a; new = announcement-new; left = refl; announces = t; other = e } in
@@ -249,7 +249,7 @@ module _ (id : ℕ) (a : Announced) (ok : Playable a) (image : List ℕ) (holds 
           (handoutNumber (z .state) (z .image) k ≡ 0) × (handedOut (z .state) (z .image) k ≡ shorePart a image i)
       played-handed-out =
           let k = moduleAt a i .number in
-          let p : place z k ≡ i = ap (λ (c : Announced). placeOf c k) still-told ∙ place-is (a .modules) i (not-eleven a (ok .keeps)) there in
+          let p : placeNow z k ≡ i = ap (λ (c : Announced). placeOf c k) still-told ∙ place-is (a .modules) i (not-eleven a (ok .keeps)) there in
           let u : Announces z k = subst (λ (c : Announced). placeOf c k < length (c .modules)) (sym still-told)
           (subst (λ (j : ℕ). j < length (a .modules)) (sym (place-is (a .modules) i (not-eleven a (ok .keeps)) there)) there) in
           let r : HasRoom z = subst (λ (c : Announced). bytesOf c ≤ length (z .image)) (sym still-told) (subst (λ (l : ℕ). bytesOf a ≤ l) (sym (stays .long)) long-enough) in

@@ -19,7 +19,7 @@ use Rattle.carousel_step.proofs.Views.{slot, hit}
 use Rattle.carousel_step.proofs.Matching.{matching-means}
 use Rattle.receiver.specs.declared.Fate.{Fate}
 use Rattle.receiver.specs.Run.{Held, given, walk}
-use Rattle.demands.specs.Demand.{fateOf, fates, isNew, told, modules, blocksAt, isForAt, matchesAt, bytesAt, missingAt, isCompleteAt, place, isFor, matches, sectionData, HasRoom}
+use Rattle.demands.specs.Demand.{fateOf, fates, isNew, told, modules, blocksAt, isForAt, matchesAt, bytesAt, missingAt, isCompleteAt, placeNow, isFor, matches, sectionData, HasRoom}
 use Rattle.demands.specs.Demand.{keepsAll, Keeps, trace, answersFor, Took, Matched, Came, firstData, joinedBlocks, RepeatsAgree, FoundIn}
 use Rattle.demands.specs.Quiet.{noneNew, NoNew, numberAt, Begun, those, besides, sectionsFor, answersTo, Holds, CameIn, firstMatching, firstIn, AgreeIn, FoundAmong}
 use Rattle.demands.proofs.Given.{saying}
@@ -141,10 +141,10 @@ module _ (x : Held) (k : ℕ) (r : ruledOf (x .state) ≡ true) (m : 0 < modules
 -- EACH BLOCK'S VIEW after such a run, from any record that keeps its rule: the first matching section's, if any matches
 module _ (x : Held) (ok : ruledOf (x .state) ≡ true) (i : ℕ) (there : i < modules x) (ss : List (List ℕ)) (n : NoNew x ss) where
   -- the module's number is found at its place
-  number-found : place x (numberAt x i) ≡ i
+  number-found : placeNow x (numberAt x i) ≡ i
   number-found = place-is (told x .modules) i (kept-in x ok (omega arith) .numbers) there
 
-  pub still-found : place (walk x ss) (numberAt x i) ≡ i
+  pub still-found : placeNow (walk x ss) (numberAt x i) ≡ i
   still-found = ap (λ (a : Announced). placeOf a (numberAt x i)) (quiet-stays x ss ok (omega arith) n .same) ∙ number-found
 
   pub quiet-view : (b : ℕ) → b < blocksAt x i → slot (saying (walk x ss)) i b
@@ -156,7 +156,7 @@ module _ (x : Held) (ok : ruledOf (x .state) ≡ true) (i : ℕ) (there : i < mo
       let v = walk-view x k b ok u (subst (λ (j : ℕ). b < blocksAt x j) (sym number-found) l) ss (quiet-keeps x k ss n) in
       ap (λ (j : ℕ). slot (saying (walk x ss)) j b) (sym still-found)
       ∙ v
-      ∙ ap₂ (λ (t : Bool) (ds : List ℕ). cond t (hit ds (slot (saying x) (place x k) b)) (slot (saying x) (place x k) b)) (f .1) (f .0)
+      ∙ ap₂ (λ (t : Bool) (ds : List ℕ). cond t (hit ds (slot (saying x) (placeNow x k) b)) (slot (saying x) (placeNow x k) b)) (f .1) (f .0)
       ∙ ap (λ (j : ℕ). cond (some (λ s. matchesAt x j b s) ss) (hit (firstIn x j ss b) (slot (saying x) j b)) (slot (saying x) j b)) number-found
 
 -- THE THEOREMS
@@ -171,7 +171,7 @@ module _ (x : Held) (i : ℕ) (there : i < modules x) (start : Begun x i) where
   rule = emptied-kept x k start
 
   -- the module's place
-  found : place x k ≡ i
+  found : placeNow x k ≡ i
   found = place-is (told x .modules) i (rule .numbers) there
 
   module _ (ss : List (List ℕ)) (n : NoNew x ss) where
@@ -181,7 +181,7 @@ module _ (x : Held) (i : ℕ) (there : i < modules x) (start : Begun x i) where
     keeps : Keeps x k ss
     keeps = quiet-keeps x k ss n
 
-    found-after : place (walk x ss) k ≡ i
+    found-after : placeNow (walk x ss) k ≡ i
     found-after = still-found x ok i there ss n
 
     -- block b came
@@ -194,15 +194,15 @@ module _ (x : Held) (i : ℕ) (there : i < modules x) (start : Begun x i) where
           (λ h. c .0 (e ∙ holds-some (λ s. matches x k b s) ss (h .0) (h .1) (h .2))),
         )
 
-    all-came : ((b : ℕ) → b < blocksAt x (place x k) → Came x k b ss) ↔ ((b : ℕ) → b < blocksAt x i → CameIn x i b ss)
+    all-came : ((b : ℕ) → b < blocksAt x (placeNow x k) → Came x k b ss) ↔ ((b : ℕ) → b < blocksAt x i → CameIn x i b ss)
     all-came = (
       (λ f b l. came-quiet b .0 (f b (subst (λ (j : ℕ). b < blocksAt x j) (sym found) l))),
       (λ f b l. came-quiet b .1 (f b (subst (λ (j : ℕ). b < blocksAt x j) found l))),
     )
 
-    heard-quiet : joinedBlocks (blocksAt x (place x k)) (λ b. firstData x k ss b) ≡ joinedBlocks (blocksAt x i) (λ b. firstIn x i ss b)
+    heard-quiet : joinedBlocks (blocksAt x (placeNow x k)) (λ b. firstData x k ss b) ≡ joinedBlocks (blocksAt x i) (λ b. firstIn x i ss b)
     heard-quiet =
-        joined-ext (blocksAt x (place x k)) _ _ (λ b l. first-quiet k x b ss ok (omega arith) n .0)
+        joined-ext (blocksAt x (placeNow x k)) _ _ (λ b l. first-quiet k x b ss ok (omega arith) n .0)
         ∙ ap (λ (j : ℕ). joinedBlocks (blocksAt x j) (λ b. firstIn x j ss b)) found
 
   -- MATCHING, spelled out: it is a data section of the announced download, with the module's number and announced version, block b of the module's blocks, of that

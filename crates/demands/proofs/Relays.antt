@@ -28,7 +28,7 @@ use Rattle.carousel_step.proofs.Simulation.{outcome-ruled}
 use Rattle.receiver.specs.declared.Fate.the-variants as fate
 use Rattle.receiver.specs.Run.{Held, carouselFate, givenOf}
 use Rattle.receiver.proofs.Laws.Fates.{fate-other}
-use Rattle.demands.specs.Demand.{told, place, isFor, Emptied, Keeps, Matched}
+use Rattle.demands.specs.Demand.{told, placeNow, isFor, Emptied, Keeps, Matched}
 use Rattle.demands.proofs.Three.{of-module}
 
 module _ (x : Held) (ruled : ruledOf (x .state) ≡ true) (s : List ℕ) (formed : BlockSection s)
@@ -54,11 +54,11 @@ module _ (x : Held) (ruled : ruledOf (x .state) ≡ true) (s : List ℕ) (formed
   -- IT IS FOR NO MODULE: demand 3 passes over it
   pub stale-for-none : (k : ℕ) → isFor x k s ≡ false
   unfolding heardFor
-  stale-for-none k = ap (heardFor (told x) (place x k)) says-nine
+  stale-for-none k = ap (heardFor (told x) (placeNow x k)) says-nine
 
 -- MATCHING NARROWS WITH IT: the section version of what matches, whenever it comes, is the announced version mod 32
 pub matching-version : (x : Held) (k : ℕ) → Emptied x k → (ss : List (List ℕ)) → Keeps x k ss → (b : ℕ) (s : List ℕ) → Matched x k b ss s
-    → versionOf s ≡ moduleAt (told x) (place x k) .version % 32
+    → versionOf s ≡ moduleAt (told x) (placeNow x k) .version % 32
 matching-version x k start ss n b s m =
     let w = of-module x k start ss n b s m in
     let h = block-heard s (w .block) .0 (w .heard) in

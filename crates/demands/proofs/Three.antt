@@ -39,7 +39,7 @@ use Rattle.carousel_step.specs.Step.{meets12, steppedOf}
 use Rattle.carousel_step.specs.Matching.{blockFor, heardFor, Matching}
 use Rattle.carousel_step.proofs.Matching.{matching-means}
 use Rattle.receiver.specs.Run.{Held, given, carouselFate, walk}
-use Rattle.demands.specs.Demand.{fateOf, told, place, blocks, isFor, matches, bytesIn, missingIn, isComplete, HasRoom, Emptied, keepsOne, keepsAll, Keeps, trace, answersFor}
+use Rattle.demands.specs.Demand.{fateOf, told, placeNow, blocks, isFor, matches, bytesIn, missingIn, isComplete, HasRoom, Emptied, keepsOne, keepsAll, Keeps, trace, answersFor}
 use Rattle.demands.specs.Demand.{Matched, Came, OfModule, heardModule, RepeatsAgree, FoundIn, Call, called, tookBy}
 use Rattle.demands.proofs.Given.{saying, for-fate}
 use Rattle.demands.proofs.Alike.{Alike, alike-sym, alike-trans, alike-bytes, alike-missing}
@@ -70,11 +70,11 @@ module _ (x : Held) (k : ℕ) (start : Emptied x k) where
   -- MATCHING, spelled out, at any call of a run that keeps the module, by the announcement then in force and the image then lent: it is a data section of the announced
   -- download, with the module's number and announced version, block b of the module's blocks, of that block's length, and the image holds the sizes together.
   pub matching : (ss : List (List ℕ)) → Keeps x k ss → (b : ℕ) (s : List ℕ)
-      → (matches (walk x ss) k b s ≡ true) ↔ ((d : Arrived) × (heardOf s ≡ arrived d) × Matching (told (walk x ss)) (length (walk x ss .image)) (place (walk x ss) k) b d)
+      → (matches (walk x ss) k b s ≡ true) ↔ ((d : Arrived) × (heardOf s ≡ arrived d) × Matching (told (walk x ss)) (length (walk x ss .image)) (placeNow (walk x ss) k) b d)
   matching ss n b s =
       let w = stays x k start ss n in
       let t = w .same .now in
-      matching-means (told (walk x ss)) (kept-in (walk x ss) (w .ruled) (omega arith) .numbers) (length (walk x ss .image)) (place (walk x ss) k) b t (heardOf s)
+      matching-means (told (walk x ss)) (kept-in (walk x ss) (w .ruled) (omega arith) .numbers) (length (walk x ss .image)) (placeNow (walk x ss) k) b t (heardOf s)
 
   -- Which sections are for the module does not change while it is kept; of what "matching" looks at, 15 alone does: whether the image holds the sizes together.
   pub for-stays : (ss : List (List ℕ)) → Keeps x k ss → (s : List ℕ) → isFor (walk x ss) k s ≡ isFor x k s
@@ -82,13 +82,13 @@ module _ (x : Held) (k : ℕ) (start : Emptied x k) where
       let w = stays x k start ss n .same in
       let t = w .now in
       let u = w .before in
-      for-number (told (walk x ss)) (told x) (omega arith) (omega arith) (sym (w .download)) (place (walk x ss) k) (place x k) (sym (w .number)) (heardOf s)
+      for-number (told (walk x ss)) (told x) (omega arith) (omega arith) (sym (w .download)) (placeNow (walk x ss) k) (placeNow x k) (sym (w .number)) (heardOf s)
 
   pub matching-stays : (ss : List (List ℕ)) → Keeps x k ss → (b : ℕ) (s : List ℕ) → matches x k b s ≡ true → HasRoom (walk x ss) → matches (walk x ss) k b s ≡ true
   matching-stays ss n b s e room =
       let w = stays x k start ss n .same in
       let u = w .before in
-      let m = matching-means (told x) (kept-in x ok (omega arith) .numbers) (length (x .image)) (place x k) b u (heardOf s) .0 e in
+      let m = matching-means (told x) (kept-in x ok (omega arith) .numbers) (length (x .image)) (placeNow x k) b u (heardOf s) .0 e in
       matching ss n b s .1 (
         m .0,
         m .1,
@@ -122,17 +122,17 @@ module _ (x : Held) (k : ℕ) (start : Emptied x k) where
 
   -- both runs leave the module as the sections of their one trace, run alone, do
   module _ (ss us : List (List ℕ)) (n : Keeps x k ss) (m : Keeps x k us) (e : trace x k ss ≡ trace x k us) where
-    both-alone : Alike (place (walk x ss) k) (saying (walk x ss)) (saying (walk x us))
+    both-alone : Alike (placeNow (walk x ss) k) (saying (walk x ss)) (saying (walk x us))
     both-alone =
         let p = alone x k ok (start .announces) ss n .1 .alike in
         let q = alone x k ok (start .announces) us m .1 .alike in
-        let i = place (walk x ss) k in
+        let i = placeNow (walk x ss) k in
         let o : walk x (trace x k us) ≡ walk x (trace x k ss) = ap (walk x) (sym e) in
-        let g : place (walk x us) k ≡ i = ap (λ (a : Announced). placeOf a k) (sym (q .told) ∙ ap (λ (z : Held). told z) o ∙ p .told) in
+        let g : placeNow (walk x us) k ≡ i = ap (λ (a : Announced). placeOf a k) (sym (q .told) ∙ ap (λ (z : Held). told z) o ∙ p .told) in
         alike-trans i _ _ _ p
         (subst (λ (z : Held). Alike i (saying z) (saying (walk x us))) o (alike-sym _ _ _ (subst (λ (j : ℕ). Alike j (saying (walk x us)) (saying (walk x (trace x k us)))) g q)))
 
-    same-place : place (walk x us) k ≡ place (walk x ss) k
+    same-place : placeNow (walk x us) k ≡ placeNow (walk x ss) k
     same-place = ap (λ (a : Announced). placeOf a k) (both-alone .told)
 
     -- ISOLATION. "If both hold the same data sections for one announced module, in the same order .. provided both runs hold the same new ones, in the same order and at the
@@ -140,8 +140,8 @@ module _ (x : Held) (k : ℕ) (start : Emptied x k) where
     pub isolation : (answersFor x k ss ≡ answersFor x k us) × (bytesIn (walk x ss) k ≡ bytesIn (walk x us) k) × (missingIn (walk x ss) k ≡ missingIn (walk x us) k)
     isolation = (
       alone x k ok (start .announces) ss n .0 ∙ ap (λ (l : List (List ℕ)). answersFor x k l) e ∙ sym (alone x k ok (start .announces) us m .0),
-      alike-bytes (place (walk x ss) k) _ _ both-alone ∙ ap (λ (i : ℕ). modulePart (recordOf (walk x us .state)) (walk x us .image) i) (sym same-place),
-      alike-missing (place (walk x ss) k) _ _ both-alone ∙ ap (λ (i : ℕ). missingOf (recordOf (walk x us .state)) i) (sym same-place),
+      alike-bytes (placeNow (walk x ss) k) _ _ both-alone ∙ ap (λ (i : ℕ). modulePart (recordOf (walk x us .state)) (walk x us .image) i) (sym same-place),
+      alike-missing (placeNow (walk x ss) k) _ _ both-alone ∙ ap (λ (i : ℕ). missingOf (recordOf (walk x us .state)) i) (sym same-place),
     )
 
     -- and so is what is handed out, and the number of the hand-out
@@ -193,7 +193,7 @@ calls-walk x r cs = called-walks x cs r
 
 -- a section that is for an announced module is answered by the step as by the receiver; and both answer "new" to the same sections (Two.antt, `kind-new`)
 pub steps-answer : (x : Held) (k : ℕ) (s : List ℕ) → isFor x k s ≡ true → fateOf x s ≡ carouselFate (steppedOf (x .state) s (x .image) .answer)
-steps-answer x k s e = for-fate (x .state) s (x .image) (told x) (place x k) e
+steps-answer x k s e = for-fate (x .state) s (x .image) (told x) (placeNow x k) e
 
 module _ (x : Held) (k : ℕ) (start : Emptied x k) where
   same-walk : (cs : List Call) → called x cs ≡ walk x (tookBy cs)

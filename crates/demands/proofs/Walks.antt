@@ -25,7 +25,7 @@ use Rattle.carousel_step.proofs.Renewed.{afresh-told, same-by, kept-blocks, kep
 use Rattle.receiver.specs.declared.Fate.{Fate}
 use Rattle.receiver.specs.Run.{carouselFate, Held, given, walk}
 use Rattle.receiver.proofs.Runs.{given-rule}
-use Rattle.demands.specs.Demand.{fateOf, isNew, told, modules, place, Announces, blocks, isFor, matches, sectionData, sameIn, keepsOne, keepsAll, Keeps, trace, answersFor, firstData}
+use Rattle.demands.specs.Demand.{fateOf, isNew, told, modules, placeNow, Announces, blocks, isFor, matches, sectionData, sameIn, keepsOne, keepsAll, Keeps, trace, answersFor, firstData}
 use Rattle.demands.proofs.Given.{saying, came, given-says, for-came, new-says, renewal}
 use Rattle.demands.proofs.Alike.{Alike, for-old, for-answer, both-alike, left-alike}
 
@@ -84,7 +84,7 @@ stays-there x k s r u e = go (isNew (fateOf x s)) refl
 
 -- AS IF NOTHING ELSE HAD COME. Two records and images that agree on all that concerns module k:
 pub record Agree (k : ℕ) (x y : Held) : Type 0 where
-  pub alike : Alike (place x k) (saying x) (saying y)
+  pub alike : Alike (placeNow x k) (saying x) (saying y)
   pub ruled-l : ruledOf (x .state) ≡ true
   pub ruled-r : ruledOf (y .state) ≡ true
 
@@ -106,7 +106,7 @@ unfolding onHeard onAnnounced
 also-new y s a e f = ap (λ (h : Heard). onHeard (recordOf (y .state)) (y .image) h) e ∙ rw f
 
 module _ (k : ℕ) (x y : Held) (ag : Agree k x y) (there : Announces x k) (s : List ℕ) where
-  abbrev al : Alike (place x k) (saying x) (saying y)
+  abbrev al : Alike (placeNow x k) (saying x) (saying y)
   al = ag .alike
 
   same-for : isFor y k s ≡ isFor x k s
@@ -114,10 +114,10 @@ module _ (k : ℕ) (x y : Held) (ag : Agree k x y) (there : Announces x k) (s : 
 
   -- what is for the module is not new, in neither
   own-old : (z : Held) → ruledOf (z .state) ≡ true → isFor x k s ≡ true → isNew (fateOf z s) ≡ false
-  own-old z r e = new-says z s r ∙ for-old (told x) (place x k) (recordOf (z .state)) (z .image) (heardOf s) e
+  own-old z r e = new-says z s r ∙ for-old (told x) (placeNow x k) (recordOf (z .state)) (z .image) (heardOf s) e
 
   -- where the call is not new, the module's place stays
-  stays-at : isNew (fateOf x s) ≡ false → place x k ≡ place (given x s) k
+  stays-at : isNew (fateOf x s) ≡ false → placeNow x k ≡ placeNow (given x s) k
   stays-at n = ap (λ (a : Announced). placeOf a k) (sym (old-fixed x s (ag .ruled-l) (omega arith) n .told))
 
   -- a section for the module, given to both
@@ -125,10 +125,10 @@ module _ (k : ℕ) (x y : Held) (ag : Agree k x y) (there : Announces x k) (s : 
   own-both e =
       let n = own-old x (ag .ruled-l) e in
       let m = own-old y (ag .ruled-r) e in
-      let c = both-alike (place x k) (saying x) (saying y) al there (heardOf s) (old-came x s (ag .ruled-l) n) (old-came y s (ag .ruled-r) m) in (
-        for-came x s (ag .ruled-l) (told x) (place x k) e
-            ∙ ap (λ (r : Answer). carouselFate r) (for-answer (place x k) (saying x) (saying y) al there (heardOf s) e)
-            ∙ sym (for-came y s (ag .ruled-r) (told x) (place x k) e),
+      let c = both-alike (placeNow x k) (saying x) (saying y) al there (heardOf s) (old-came x s (ag .ruled-l) n) (old-came y s (ag .ruled-r) m) in (
+        for-came x s (ag .ruled-l) (told x) (placeNow x k) e
+            ∙ ap (λ (r : Answer). carouselFate r) (for-answer (placeNow x k) (saying x) (saying y) al there (heardOf s) e)
+            ∙ sym (for-came y s (ag .ruled-r) (told x) (placeNow x k) e),
         record {
           alike = moved _ _ _ _ _ _ (stays-at n) (given-says x s (ag .ruled-l)) (given-says y s (ag .ruled-r)) c;
           ruled-l = next-rule x s (ag .ruled-l);
@@ -139,7 +139,7 @@ module _ (k : ℕ) (x y : Held) (ag : Agree k x y) (there : Announces x k) (s : 
   -- any other that is not new, given to one
   other-one : isFor x k s ≡ false → isNew (fateOf x s) ≡ false → Agree k (given x s) y
   other-one e n =
-      let c = left-alike (place x k) (saying x) (saying y) al there (heardOf s) (old-came x s (ag .ruled-l) n) e in
+      let c = left-alike (placeNow x k) (saying x) (saying y) al there (heardOf s) (old-came x s (ag .ruled-l) n) e in
       record { alike = moved _ _ _ _ _ _ (stays-at n) (given-says x s (ag .ruled-l)) refl c; ruled-l = next-rule x s (ag .ruled-l); ruled-r = ag .ruled-r }
 
   -- a new announcement that keeps the module is new to both, and keeps it in both: the starts are running sums
@@ -177,14 +177,14 @@ module _ (k : ℕ) (x y : Held) (ag : Agree k x y) (there : Announces x k) (s : 
             ∙ ap (λ (z : ℕ). slot (saying y) z b) (ap (λ (d : Announced). placeOf d k) (sym (al .told)))
             ∙ sym (kept-slot (saying y) q a k (same-other a (w .same)) (w .few) b (subst (λ (d : Announced). b < blockCount d (placeOf d k)) (sym (al .told)) j));
       } in
-      let o : placeOf a k ≡ place (given x s) k
+      let o : placeOf a k ≡ placeNow (given x s) k
       = sym (ap (λ (z : Said). placeFor (z .says) k) (w .left) ∙ ap (λ (b : Announced). placeOf b k) (afresh-told (recordOf (x .state)) a)) in
       record { alike = moved _ _ _ _ _ _ o (w .left) g c; ruled-l = next-rule x s (ag .ruled-l); ruled-r = next-rule y s (ag .ruled-r) }
 
 -- an announcement matches no block
 new-matches : (x : Held) (k b : ℕ) (s : List ℕ) (a : Announced) → heardOf s ≡ announced a → matches x k b s ≡ false
 unfolding heardMatches
-new-matches x k b s a e = ap (λ (h : Heard). heardMatches (told x) (length (x .image)) (place x k) b h) e
+new-matches x k b s a e = ap (λ (h : Heard). heardMatches (told x) (length (x .image)) (placeNow x k) b h) e
 
 -- THE SECTIONS OF THE TRACE, RUN ALONE, get the same answers and leave the module the same
 alone-beside : (k : ℕ) (x y : Held) (ss : List (List ℕ)) → Agree k x y → Announces x k → Keeps x k ss
@@ -223,7 +223,7 @@ same-self : (x y : Held) (k : ℕ) → Announces x k → told y ≡ told x → r
 same-self x y k u e f =
     let o : SameModule (recordOf (x .state)) (recordOf (x .state)) k
     = record { before = u; now = u; download = refl; blockSize = refl; number = refl; version = refl; size = refl; start = refl } in
-    let p : place y k ≡ place x k = ap (λ (a : Announced). placeOf a k) e in
+    let p : placeNow y k ≡ placeNow x k = ap (λ (a : Announced). placeOf a k) e in
     same-means _ _ _ _ (same-by (recordOf (x .state)) (recordOf (y .state)) (recordOf (x .state)) (recordOf (x .state)) _ _ refl refl e f ∙ rw p (same-back _ _ _ _ o))
 
 same-trans : (r p q : Record) (k : ℕ) → SameModule r p k → SameModule p q k → SameModule r q k
@@ -257,7 +257,7 @@ module _ (x : Held) (k : ℕ) (r : ruledOf (x .state) ≡ true) (u : Announces x
       go false n = old-fixed x s r (omega arith) n .long
 
   -- where it answered "new", each view is what it was
-  pub kept-view : isNew (fateOf x s) ≡ true → (b : ℕ) → b < blocks x k → slot (saying (given x s)) (place (given x s) k) b ≡ slot (saying x) (place x k) b
+  pub kept-view : isNew (fateOf x s) ≡ true → (b : ℕ) → b < blocks x k → slot (saying (given x s)) (placeNow (given x s) k) b ≡ slot (saying x) (placeNow x k) b
   kept-view n b l =
       let w = keeping x k s o n in
       ap (λ (z : Said). slot z (placeFor (z .says) k) b) (w .left)
@@ -265,16 +265,16 @@ module _ (x : Held) (k : ℕ) (r : ruledOf (x .state) ≡ true) (u : Announces x
       ∙ kept-slot (saying x) (ruled-says (x .state) r) (w .told) k (w .same) (w .few) b l
 
   one-view : (b : ℕ) → b < blocks x k
-      → slot (saying (given x s)) (place (given x s) k) b ≡ cond (matches x k b s) (hit (sectionData s) (slot (saying x) (place x k) b)) (slot (saying x) (place x k) b)
+      → slot (saying (given x s)) (placeNow (given x s) k) b ≡ cond (matches x k b s) (hit (sectionData s) (slot (saying x) (placeNow x k) b)) (slot (saying x) (placeNow x k) b)
   one-view b l = go (isNew (fateOf x s)) refl
     where
       go : (t : Bool) → isNew (fateOf x s) ≡ t
-          → slot (saying (given x s)) (place (given x s) k) b ≡ cond (matches x k b s) (hit (sectionData s) (slot (saying x) (place x k) b)) (slot (saying x) (place x k) b)
+          → slot (saying (given x s)) (placeNow (given x s) k) b ≡ cond (matches x k b s) (hit (sectionData s) (slot (saying x) (placeNow x k) b)) (slot (saying x) (placeNow x k) b)
       go true n = let w = keeping x k s o n in kept-view n b l ∙ sym (rw (new-matches x k b s (w .told) (w .heard)))
       go false n =
           ap (λ (a : Announced). slot (saying (given x s)) (placeOf a k) b) (old-fixed x s r (omega arith) n .told)
-          ∙ ap (λ (z : Said). slot z (place x k) b) (given-says x s r)
-          ∙ view-law (saying x) (kept-in x r (omega arith)) (place x k) b u l (heardOf s) (old-came x s r n)
+          ∙ ap (λ (z : Said). slot z (placeNow x k) b) (given-says x s r)
+          ∙ view-law (saying x) (kept-in x r (omega arith)) (placeNow x k) b u l (heardOf s) (old-came x s r n)
 
 -- A RUN: the rule, the image's length and what is said of the module stay
 pub record Stays (x : Held) (k : ℕ) (y : Held) : Type 0 where
@@ -306,7 +306,7 @@ hit-stays false es ds v = refl
 
 -- EACH BLOCK'S VIEW AFTER A RUN is that of the first section that was matching when it came, if any was
 pub walk-view : (x : Held) (k b : ℕ) → ruledOf (x .state) ≡ true → Announces x k → b < blocks x k → (ss : List (List ℕ)) → Keeps x k ss
-    → slot (saying (walk x ss)) (place (walk x ss) k) b ≡ cond (cameBy x k b ss) (hit (firstData x k ss b) (slot (saying x) (place x k) b)) (slot (saying x) (place x k) b)
+    → slot (saying (walk x ss)) (placeNow (walk x ss) k) b ≡ cond (cameBy x k b ss) (hit (firstData x k ss b) (slot (saying x) (placeNow x k) b)) (slot (saying x) (placeNow x k) b)
 unfolding walk cameBy firstData
 walk-view x k b r u l [] e = refl
 walk-view x k b r u l (s ∷ ss) e =
@@ -315,17 +315,17 @@ walk-view x k b r u l (s ∷ ss) e =
     go (matches x k b s) (one-view x k r u s (p .0) b l) (walk-view (given x s) k b (next-rule x s r) (stays-there x k s r u (p .0)) (omega arith) ss (p .1))
   where
     old-slot : Slot
-    old-slot = slot (saying x) (place x k) b
+    old-slot = slot (saying x) (placeNow x k) b
 
     next-slot : Slot
-    next-slot = slot (saying (given x s)) (place (given x s) k) b
+    next-slot = slot (saying (given x s)) (placeNow (given x s) k) b
 
     then : Slot → Slot
     then v = cond (cameBy (given x s) k b ss) (hit (firstData (given x s) k ss b) v) v
 
     go : (t : Bool) → next-slot ≡ cond t (hit (sectionData s) old-slot) old-slot
-        → slot (saying (walk (given x s) ss)) (place (walk (given x s) ss) k) b ≡ then next-slot
-        → slot (saying (walk (given x s) ss)) (place (walk (given x s) ss) k) b
+        → slot (saying (walk (given x s) ss)) (placeNow (walk (given x s) ss) k) b ≡ then next-slot
+        → slot (saying (walk (given x s) ss)) (placeNow (walk (given x s) ss) k) b
         ≡ cond (cond t true (cameBy (given x s) k b ss)) (hit (cond t (sectionData s) (firstData (given x s) k ss b)) old-slot) old-slot
     go true p q = q ∙ ap then p ∙ hit-stays (cameBy (given x s) k b ss) (firstData (given x s) k ss b) (sectionData s) old-slot
     go false p q = q ∙ ap then p

@@ -65,29 +65,29 @@ abbrev pub isCompleteAt : Held → (i : ℕ) → Bool
 isCompleteAt x i = completeOf (recordOf (x .state)) i
 
 -- OF THE MODULE WITH NUMBER k, wherever it is: its place, and that there is one; and the same words
-abbrev pub place : Held → (k : ℕ) → ℕ
-place x k = placeOf (told x) k
+abbrev pub placeNow : Held → (k : ℕ) → ℕ
+placeNow x k = placeOf (told x) k
 
 abbrev pub Announces : Held → (k : ℕ) → Type 0
-Announces x k = place x k < modules x
+Announces x k = placeNow x k < modules x
 
 abbrev pub blocks : Held → (k : ℕ) → ℕ
-blocks x k = blocksAt x (place x k)
+blocks x k = blocksAt x (placeNow x k)
 
 abbrev pub isFor : Held → (k : ℕ) → List ℕ → Bool
-isFor x k s = isForAt x (place x k) s
+isFor x k s = isForAt x (placeNow x k) s
 
 abbrev pub matches : Held → (k b : ℕ) → List ℕ → Bool
-matches x k b s = matchesAt x (place x k) b s
+matches x k b s = matchesAt x (placeNow x k) b s
 
 abbrev pub bytesIn : Held → (k : ℕ) → List ℕ
-bytesIn x k = bytesAt x (place x k)
+bytesIn x k = bytesAt x (placeNow x k)
 
 abbrev pub missingIn : Held → (k : ℕ) → List ℕ
-missingIn x k = missingAt x (place x k)
+missingIn x k = missingAt x (placeNow x k)
 
 abbrev pub isComplete : Held → (k : ℕ) → Bool
-isComplete x k = isCompleteAt x (place x k)
+isComplete x k = isCompleteAt x (placeNow x k)
 
 -- a section's data
 abbrev pub sectionData : List ℕ → List ℕ
@@ -151,10 +151,10 @@ pub record OfModule (x : Held) (k b : ℕ) (s : List ℕ) : Type 0 where
   pub heard : heardOf s ≡ arrived block
   pub sameDownload : block .download ≡ told x .download
   pub itsNumber : block .number ≡ k
-  pub announcedVersion : block .version ≡ moduleAt (told x) (place x k) .version
+  pub announcedVersion : block .version ≡ moduleAt (told x) (placeNow x k) .version
   pub thisBlock : block .block ≡ b
   pub oneOfIts : b < blocks x k
-  pub itsLength : length (block .bytes) ≡ blockLength (told x) (place x k) b
+  pub itsLength : length (block .bytes) ≡ blockLength (told x) (placeNow x k) b
 
 -- a block's data "as it first matched": those of the first section of the run that was matching when it came
 unfoldable pub firstData : Held → (k : ℕ) → List (List ℕ) → (b : ℕ) → List ℕ
