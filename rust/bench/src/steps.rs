@@ -1,4 +1,5 @@
-//! One step at a time: what a block costs that is stored, repeated or refused, in records of few modules and of many.
+//! One step at a time: what a block costs that is stored, repeated or refused, and what an announcement costs that keeps modules, empties
+//! them or is the same, in records of few modules and of many.
 
 use std::hint::black_box;
 use std::time::{Duration, Instant};
@@ -13,6 +14,9 @@ const ROUNDS: usize = 500;
 /// The download, and the version of all modules.
 const DOWNLOAD: u32 = 1;
 const VERSION: u8 = 1;
+
+/// The announcements of a round.
+const RENEWALS: u8 = 32;
 
 /// The modules of the records.
 const MODULES: [usize; 3] = [1, 16, MOST_MODULES];
@@ -68,11 +72,11 @@ struct Started<R> {
 pub fn measure() -> Result<(), String> {
     println!(
         "Steps: nanoseconds of one call, best of {ROUNDS} rounds each, in turn. Blocks of the last module, {} of {} bytes or {} of {}, from a\n\
-         copy of the record that is not measured; an image of {ROOM}.",
+         copy of the record that is not measured; an image of {ROOM}. Announcements come to a record in which the last module is whole.",
         SMALL.sent, SMALL.block, LARGE.sent, LARGE.block
     );
     println!(
-        "{:<16}{:>10}{:>8}{:>12}{:>16}{:>8}",
+        "{:<18}{:>8}{:>8}{:>12}{:>16}{:>8}",
         "step", "modules", "bytes", "ours ns", "baseline ns", "times"
     );
     for modules in MODULES {
@@ -85,6 +89,11 @@ pub fn measure() -> Result<(), String> {
 
 impl Carousel {
     fn announcement(self) -> Vec<u8> {
+        self.announced(DOWNLOAD, VERSION)
+    }
+
+    /// With this download, and this version of the first module.
+    fn announced(self, download: u32, first: u8) -> Vec<u8> {
         let size = self.size;
         let module = |place: usize| {
             let last = place + 1 == self.modules;
@@ -92,11 +101,21 @@ impl Carousel {
             Module {
                 number: place as u16,
                 size: (blocks * size.block) as u32,
-                version: VERSION,
+                version: if place == 0 { first } else { VERSION },
             }
         };
         let modules: Vec<_> = (0..self.modules).map(module).collect();
-        Announcement::new(DOWNLOAD, size.block as u16, &modules).bytes()
+        Announcement::new(download, size.block as u16, &modules).bytes()
+    }
+
+    /// Announcements that are new one after the other: of other versions of the first module, so that all others are kept; or of other
+    /// downloads, so that none is.
+    fn renewals(self, kept: bool) -> Vec<Vec<u8>> {
+        let renewal = |round: u8| match kept {
+            true => self.announced(DOWNLOAD, VERSION + 1 + round % 2),
+            false => self.announced(DOWNLOAD + 1 + u32::from(round % 2), VERSION),
+        };
+        (0..RENEWALS).map(renewal).collect()
     }
 
     /// The blocks of the last module, in this version.
@@ -110,8 +129,8 @@ impl Carousel {
     }
 }
 
-/// Small blocks of every fate; large ones accepted.
-fn kinds(modules: usize) -> [Kind; 6] {
+/// Small blocks of every fate; large ones accepted; announcements.
+fn kinds(modules: usize) -> Vec<Kind> {
     let [small, large] = [SMALL, LARGE].map(|size| Carousel { modules, size });
     let (good, old) = (small.blocks(VERSION), small.blocks(VERSION + 1));
     let mut damaged = good.clone();
@@ -125,14 +144,26 @@ fn kinds(modules: usize) -> [Kind; 6] {
         fate,
         sections,
     };
-    [
+    let same = vec![small.announcement(); usize::from(RENEWALS)];
+    let mut all = vec![
         kind("stored", small, Fate::Stored, good.clone()),
         kind("repeated", small, Fate::Repeated, good),
         kind("refused with 14", small, Fate::Refused(14), old),
         kind("refused with 5", small, Fate::Refused(5), damaged),
         kind("stored", large, Fate::Stored, large.blocks(VERSION)),
         kind("repeated", large, Fate::Repeated, large.blocks(VERSION)),
-    ]
+        kind("same", small, Fate::Same, same),
+        kind("new, none kept", small, Fate::New, small.renewals(false)),
+    ];
+    if modules > 1 {
+        all.push(kind(
+            "new, one emptied",
+            small,
+            Fate::New,
+            small.renewals(true),
+        ));
+    }
+    all
 }
 
 impl<R: Receiver> Started<R> {
@@ -189,7 +220,7 @@ fn line(kind: &Kind) -> Result<(), String> {
     }
     let (best, their_best) = (ours.nanoseconds(steps), theirs.nanoseconds(steps));
     println!(
-        "{name:<16}{modules:>10}{length:>8}{best:>12.0}{their_best:>16.0}{:>8.2}",
+        "{name:<18}{modules:>8}{length:>8}{best:>12.0}{their_best:>16.0}{:>8.2}",
         best / their_best
     );
     Ok(())
@@ -208,6 +239,19 @@ mod tests {
                 let steps = kind.sections.len();
                 assert_eq!(ours.round(&kind).0, steps, "{}", kind.name);
                 assert_eq!(theirs.round(&kind).0, steps, "{}", kind.name);
+            }
+        }
+    }
+
+    #[test]
+    fn announcements_keep_the_last_module_or_empty_it() {
+        for modules in MODULES {
+            for kind in kinds(modules).iter().filter(|kind| kind.fate == Fate::New) {
+                let left = Started::<nebosvar::Record>::new(kind.carousel)
+                    .round(kind)
+                    .1;
+                let marked = left.marks.iter().any(|word| *word != 0);
+                assert_eq!(marked, kind.name == "new, one emptied", "{modules} modules");
             }
         }
     }
