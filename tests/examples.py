@@ -28,10 +28,10 @@ SECOND = {
     "packets": transport.packets_printed,
 }
 
-# ---- the carousel of both captures: a drift list of 100 bytes and a chart of 60, in blocks of 40
+# ---- the carousel of the captures: a drift list of 100 bytes and a chart of 60, in blocks of 40
 
 DOWNLOAD, BLOCK = 2026, 40
-DRIFT, CHART = (1, 100, 3), (2, 60, 0)  # number, size, version
+DRIFT, CHART, NEWER = (1, 100, 3), (2, 60, 0), (2, 60, 1)  # number, size, version
 # issue 46: buoy, state (0 none, 1 fix, 2 last known), longitude, latitude, minute of the week
 LOOSE = [
     (17, 1, 9_723_456, 26_101_234, 1_445),
@@ -48,8 +48,8 @@ LOOSE = [
 def contents(module):
     if module == DRIFT:
         return driftlist.spell(46, len(LOOSE), LOOSE)
-    number, size, _ = module
-    return bytes((37 * number + 11 * k) % 256 for k in range(size))
+    number, size, version = module
+    return bytes((37 * number + 11 * k + version) % 256 for k in range(size))
 
 
 def block(module, b, **given):
@@ -58,8 +58,8 @@ def block(module, b, **given):
     return ddb(**{**right, **given})
 
 
-def announcement():
-    return dii(DOWNLOAD, BLOCK, [DRIFT, CHART])
+def announcement(chart=CHART):
+    return dii(DOWNLOAD, BLOCK, [DRIFT, chart])
 
 
 # An application's name in English, the carousel's component 0x40 that carries it (label 7), and its first page
@@ -103,10 +103,20 @@ def damaged():
     yield block(DRIFT, 1)[:50]
 
 
+def renewed():
+    """All is heard, and then a newer chart is announced, of which one block comes. The drift list is as before, and stays."""
+    yield announcement()
+    for module, b in ((DRIFT, 0), (DRIFT, 1), (DRIFT, 2), (CHART, 0), (CHART, 1)):
+        yield block(module, b)
+    yield announcement(NEWER)
+    yield block(NEWER, 0)
+
+
 # What must come out by the paper's words: each section's kind, or its number if refused, and where it broke (02, §9); then the stop.
 CAPTURES = {
     "whole.sections": (whole(), "table new stored stored stored repeated same stored stored end"),
     "damaged.sections": (damaged(), "18 new stored 5@66 9 14 12 17 stored stored stored short"),
+    "renewed.sections": (renewed(), "new stored stored stored stored stored new stored end"),
 }
 
 
