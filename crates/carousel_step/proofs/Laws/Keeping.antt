@@ -1,66 +1,91 @@
 -- The marks that a new announcement keeps, one place at a time, as the loop brings them. r is the record before, q the one after, without a mark.
-use Prim.Native.Nat.{ℕ, zero, suc, _+_, _-_, _*_, _≤_, _<_}
+use Prim.Native.Nat.{ℕ, zero, suc, _+_, _-_, _*_, _%_, _≤_, _<_}
 use mathlib.Core.Path.{_≡_, refl, sym, ap, _∙_}
 use mathlib.Core.Bool.{Bool, true, false, _&&_}
-use mathlib.Core.List.{List, _++_, append-assoc, append-nil}
+use mathlib.Core.List.{List, map, _++_, append-assoc, append-nil}
 use native.Mathlib.Nat.{add-sub-cancel-left}
 use native.Mathlib.Omega.{arith}
-use lib.Dec.{eqb}
-use lib.ListN.{length, getD, take, drop, replicate, length-append, length-map, length-take, length-replicate, replicate-append-replicate}
+use lib.Dec.{eqb, ltb}
+use lib.ListN.{length, getD, take, drop, replicate, length-append, length-replicate, replicate-append-replicate}
 use lib.Seq.{take-at, drop-at, drop-drop}
-use borrow.Author.Tests.{lt-ltb, le-ltb}
+use borrow.Author.Tests.{ltb-true, lt-ltb, eq-eqb}
 use Rattle.wire.specs.Copies.{overwrite}
 use Rattle.carousel_messages.specs.Limits.{mostModules}
 use Rattle.carousel_record.specs.declared.Carousel.{Carousel}
 use Rattle.carousel_record.specs.Marks.{moduleWords, markWords}
-use Rattle.carousel_record.specs.Record.{Record, announcedBy, recordOf, placeOf, listedIn, unused}
-use Rattle.carousel_record.specs.Keeping.{modulesIn, placeFor, sameAt, placeBefore, isKept, wordsKept, wordsFrom, marksKept}
+use Rattle.carousel_record.specs.Record.{Record, announcedBy, recordOf, numberIn, placeAmong, unused}
+use Rattle.carousel_record.specs.Keeping.{modulesIn, placeFor, sameAt, SameAt, placeBefore, isKept, wordsKept, wordsFrom, marksKept}
+use Rattle.carousel_record.proofs.Laws.Entries.{among-entries}
 use Rattle.carousel_record.proofs.Laws.Says.{says-module, says-start, says-count, said-within}
 use Rattle.carousel_record.proofs.Laws.Keeping.{same-means, words-length, from-length, none-from}
 
--- the test of two modules that there are, by the entries
-abbrev pub sameEntries : (c d : Carousel) (i j : ℕ) → Bool
-sameEntries c d i j =
-    eqb (c .download) (d .download)
-    && eqb (c .«block_size») (d .«block_size»)
-    && eqb (getD (c .modules) i unused .number) (getD (d .modules) j unused .number)
-    && eqb (getD (c .modules) i unused .version) (getD (d .modules) j unused .version)
-    && eqb (getD (c .modules) i unused .size) (getD (d .modules) j unused .size)
-    && eqb (getD (c .modules) i unused .start) (getD (d .modules) j unused .start)
+-- the test that is left where downloadId and blockSize are the same: place i is counted, and the two entries are the same
+abbrev pub sameStill : (c d : Carousel) (i j : ℕ) → Bool
+sameStill c d i j =
+    ltb i (c .count)
+    && eqb (getD (c .modules) (i % mostModules) unused .number) (getD (d .modules) j unused .number)
+    && eqb (getD (c .modules) (i % mostModules) unused .version) (getD (d .modules) j unused .version)
+    && eqb (getD (c .modules) (i % mostModules) unused .size) (getD (d .modules) j unused .size)
+    && eqb (getD (c .modules) (i % mostModules) unused .start) (getD (d .modules) j unused .start)
 
 module _ (c d : Carousel) (i j : ℕ) where
-  -- past the modules of the record before there is none
-  pub same-past : c .count ≤ i → sameAt (recordOf c) (recordOf d) i j ≡ false
+  pub same-still : length (c .modules) ≡ mostModules → length (d .modules) ≡ mostModules → c .count ≤ mostModules → d .count ≤ mostModules
+      → c .download ≡ d .download → c .«block_size» ≡ d .«block_size» → j < d .count
+      → sameAt (recordOf c) (recordOf d) i j ≡ sameStill c d i j
   unfolding sameAt announcedBy
-  same-past h =
-      let l = length-map (take (c .count) (c .modules)) listedIn in
-      let m = length-take (c .count) (c .modules) in
-      rw (le-ltb i (modulesIn (recordOf c)) (omega arith))
-
-  -- of two modules that there are
-  pub same-there : length (c .modules) ≡ mostModules → length (d .modules) ≡ mostModules → c .count ≤ mostModules → d .count ≤ mostModules
-      → i < c .count → j < d .count
-      → sameAt (recordOf c) (recordOf d) i j ≡ sameEntries c d i j
-  unfolding sameAt announcedBy
-  same-there lc ld fc fd h k =
-      let u = says-count c lc fc in
-      let v = says-count d ld fd in
-      rw (
-        lt-ltb i (modulesIn (recordOf c)) (omega arith),
-        lt-ltb j (modulesIn (recordOf d)) (omega arith),
-        says-module c i h,
-        says-module d j k,
-        says-start c i h,
-        says-start d j k,
-      )
+  same-still lc ld fc fd e f k = go (ltb i (c .count)) refl
+    where
+      go : (t : Bool) → ltb i (c .count) ≡ t → sameAt (recordOf c) (recordOf d) i j ≡ sameStill c d i j
+      go true h =
+          let l = ltb-true i (c .count) h in
+          let m : i % mostModules ≡ i = omega arith in
+          rw (
+            says-count c lc fc,
+            says-count d ld fd,
+            lt-ltb j (d .count) k,
+            eq-eqb _ _ e,
+            eq-eqb _ _ f,
+            m,
+            says-module c i l,
+            says-module d j k,
+            says-start c i l,
+            says-start d j k,
+            h,
+          ) refl
+      go false h = rw (says-count c lc fc, h) refl
 
   -- one that is the same is there
   pub same-within : sameAt (recordOf c) (recordOf d) i j ≡ true → i < c .count
   same-within e = said-within c i (same-means (recordOf c) (recordOf d) i j e .before)
 
-  -- where the module at place j was
-  pub was-at : j < d .count → i ≡ placeOf (announcedBy c) (getD (d .modules) j unused .number) → i ≡ placeBefore (recordOf c) (recordOf d) j
-  was-at h e = e ∙ sym (ap (λ m. placeFor (recordOf c) (m .number)) (says-module d j h))
+  -- where the module at place j was: the place of its number among those of the record before
+  pub was-at : j < d .count → (ns : List ℕ) → ns ≡ map numberIn (c .modules) → i ≡ placeAmong (getD (d .modules) j unused .number) (take (c .count) ns)
+      → i ≡ placeBefore (recordOf c) (recordOf d) j
+  unfolding announcedBy
+  was-at h ns n e =
+      let k = getD (d .modules) j unused .number in
+      e ∙ ap (λ (l : List ℕ). placeAmong k (take (c .count) l)) n ∙ among-entries k (c .count) (c .modules)
+      ∙ sym (ap (λ m. placeFor (recordOf c) (m .number)) (says-module d j h))
+
+-- where no module is the same, none keeps its marks
+module _ (r q : Record) (other : (i j : ℕ) → SameAt r q i j → ⊥) where
+  not-same : (i j : ℕ) → sameAt r q i j ≡ false
+  not-same i j = go (sameAt r q i j) refl
+    where
+      go : (t : Bool) → sameAt r q i j ≡ t → t ≡ false
+      go true h = absurd (other i j (same-means r q i j h))
+      go false h = refl
+
+  emptied-from : (j n : ℕ) → wordsFrom r q j n ≡ replicate (moduleWords * n) 0
+  unfolding wordsFrom wordsKept
+  emptied-from j zero = refl
+  emptied-from j (suc n) =
+      let p : moduleWords * suc n ≡ moduleWords + moduleWords * n = omega arith in
+      rw (not-same (placeBefore r q j) j, emptied-from (suc j) n, p) (replicate-append-replicate {A = ℕ} moduleWords (moduleWords * n) 0)
+
+  pub all-emptied : replicate markWords 0 ≡ marksKept r q
+  unfolding marksKept
+  all-emptied = sym (emptied-from 0 mostModules)
 
 -- the words of n places and of m more
 from-both : (r q : Record) (j n m : ℕ) → wordsFrom r q j (n + m) ≡ wordsFrom r q j n ++ wordsFrom r q (j + n) m
