@@ -26,7 +26,7 @@ use Rattle.carousel_record.specs.Changes.{withMark}
 use Rattle.carousel_record.proofs.Laws.Rule.{kept, ruled-says, ruled-count}
 use Rattle.carousel_record.proofs.Laws.Says.{says-count, says-module, says-start}
 use Rattle.carousel_step.specs.declared.Answer.{Answer}
-use Rattle.carousel_step.specs.Step.{StepOutcome, refusing, new, same, repeated, stored, meets12, meets14, meets16, blockRefusal, bytesDiffer}
+use Rattle.carousel_step.specs.Step.{StepOutcome, refusing, repeated, stored, meets12, meets14, meets16, blockRefusal, bytesDiffer}
 use Rattle.carousel_step.specs.Step.{matched, onArrived, answerOf, carouselAfter, imageAfter}
 use Rattle.carousel_step.specs.Held.{heldRefusal, putOutcome, heldOutcome, marksAfter}
 use Rattle.carousel_step.proofs.Laws.Outcomes.{arrived-bad, arrived-good, held-bad, held-good}

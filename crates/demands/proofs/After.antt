@@ -22,7 +22,6 @@ use Rattle.carousel_handout.proofs.Complete.{complete-means, handout-part}
 use Rattle.carousel_step.specs.Step.{new}
 use Rattle.carousel_step.proofs.Views.{Held as Said, Slot, slot, hit}
 use Rattle.carousel_step.proofs.View.{slot-marked}
-use Rattle.carousel_step.proofs.Renewed.{afresh-told}
 use Rattle.receiver.specs.Run.{Held, given, walk}
 use Rattle.demands.specs.Demand.{fateOf, isNew, told, modules, placeNow, Announces, blocks, matches, sectionData, HasRoom, sameIn, Emptied}
 use Rattle.demands.specs.Demand.{keepsOne, Keeps, bytesIn, missingIn, isComplete, Took, Matched, Came}
@@ -54,9 +53,6 @@ module _ (x : Held) (k : ℕ) (em : Emptied x k) where
 
   is-afresh : recordOf (x .state) ≡ afresh (recordOf (y .state)) (w .told)
   is-afresh = ap (λ (z : Held). recordOf (z .state)) (sym (em .left)) ∙ ap (λ (z : Said). z .says) (w .left)
-
-  was-told : told x ≡ w .told
-  was-told = ap (λ (r : Record). r .announced) is-afresh ∙ afresh-told (recordOf (y .state)) (w .told)
 
   pub emptied-clear : (b : ℕ) → b < blocks x k → received (recordOf (x .state)) (placeNow x k) b ≡ false
   emptied-clear b l =

@@ -20,11 +20,10 @@ use Rattle.carousel_record.specs.declared.Module.{Module}
 use Rattle.carousel_record.specs.declared.Head.{Head}
 use Rattle.carousel_record.specs.Blocks.{blocksOf, blockLengthOf}
 use Rattle.carousel_record.specs.Marks.{markOf, isMarked}
-use Rattle.carousel_record.specs.Record.{Record, recordOf, moduleAt, placeOf, bytesOf, blockCount, blockLength, received, blockAt, ruledOf}
-use Rattle.carousel_step.specs.Step.{StepOutcome, refusing, new, same, repeated, stored, meets12, meets14, meets16, blockRefusal, bytesDiffer}
+use Rattle.carousel_record.specs.Record.{Record, recordOf, placeOf, received, blockAt, ruledOf}
+use Rattle.carousel_step.specs.Step.{StepOutcome, refusing, new, same, repeated, stored, blockRefusal, bytesDiffer}
 use Rattle.carousel_step.specs.Step.{matched, sameAnnounced, onAnnounced, onArrived, onHeard, outcomeOf, imageAfter, returning, steppedOf}
 use Rattle.carousel_step.specs.Step.{imageOf}
-use Rattle.carousel_record.specs.Refusals.{meets13}
 use Rattle.carousel_step.specs.Held.{heldRefusal, putOutcome, heldOutcome}
 
 -- 12 to 16, one after another, by the head of a record and the entry that was found
