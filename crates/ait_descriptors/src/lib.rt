@@ -26,7 +26,7 @@ pub use tag02::{Base, Bases, Local, Remote, Selector, extension_of, extensions_i
 pub use tag05::Identifier;
 
 // The kinds of item that repeat.
-#[derive(Drop)]
+#[derive(Clone, Copy)]
 pub enum Kind {
     Application,
     Descriptor,
@@ -40,7 +40,7 @@ pub enum Kind {
 
 // What a descriptor may be asked: whether known contents are malformed; whether it has a tag;
 // whether it is a 0x02 with a label.
-#[derive(Drop)]
+#[derive(Clone, Copy)]
 pub enum Test {
     Malformed,
     Tagged(u8),
@@ -49,14 +49,14 @@ pub enum Test {
 
 // What one walk over the descriptors of a loop finds: they do not end with it, or one is malformed; or
 // each is well made, and so many have the tag 0x00.
-#[derive(Drop)]
+#[derive(Clone, Copy)]
 pub enum Walked {
     Malformed,
     WellMade(usize),
 }
 
 // What is repeated within a descriptor.
-#[derive(Drop)]
+#[derive(Clone, Copy)]
 pub enum Repeated {
     Profiles,
     Labels,
@@ -66,14 +66,14 @@ pub enum Repeated {
 }
 
 // A part of the section that a descriptor lies in.
-#[derive(Drop)]
+#[derive(Clone, Copy)]
 pub struct Span {
     pub start: usize,
     pub size: usize,
 }
 
 // A descriptor whose tag is not known.
-#[derive(Drop)]
+#[derive(Clone, Copy)]
 pub struct Raw {
     pub tag: u8,
     pub contents: Span,
@@ -81,7 +81,7 @@ pub struct Raw {
 
 // A descriptor, by its tag: its fields; where it has none but its items, how many of them; where it has
 // but bytes, those. A 0x02 is Local or Remote (protocol 1), Bases (protocol 3) or Selector (any other).
-#[derive(Drop)]
+#[derive(Clone, Copy)]
 pub enum Described {
     Application(ApplicationDescriptor),
     Names(usize),
@@ -95,7 +95,7 @@ pub enum Described {
 }
 
 // What repeats within a descriptor: one case for each of `Repeated`.
-#[derive(Drop)]
+#[derive(Clone, Copy)]
 pub enum Item {
     Profile(Profile),
     Label(u8),

@@ -6,7 +6,7 @@ use crate::parts::{count_within, tagged_rest};
 use crate::{Described, Kind};
 use wire::{Place, byte_at, eight_at, sixteen_at};
 
-#[derive(Drop)]
+#[derive(Clone, Copy)]
 pub struct Profile {
     pub number: u16,
     pub major: u8,
@@ -15,7 +15,7 @@ pub struct Profile {
 }
 
 // How many profiles and labels it has, and what stands between them.
-#[derive(Drop)]
+#[derive(Clone, Copy)]
 pub struct ApplicationDescriptor {
     pub profiles: usize,
     pub bound: u8,

@@ -8,7 +8,7 @@ use crate::{Described, Kind, Span};
 use wire::{Place, byte_at};
 
 // A name, and the three bytes of its language.
-#[derive(Drop)]
+#[derive(Clone, Copy)]
 pub struct Name {
     pub first: u8,
     pub second: u8,

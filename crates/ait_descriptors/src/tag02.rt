@@ -8,13 +8,13 @@ use crate::{Described, Kind, Span};
 use wire::{Place, byte_at, eight_at, sixteen_at};
 
 // Protocol 1, a carousel, without a remote connection and with one.
-#[derive(Drop)]
+#[derive(Clone, Copy)]
 pub struct Local {
     pub label: u8,
     pub component: u8,
 }
 
-#[derive(Drop)]
+#[derive(Clone, Copy)]
 pub struct Remote {
     pub label: u8,
     pub network: u16,
@@ -24,20 +24,20 @@ pub struct Remote {
 }
 
 // Protocol 3, how many bases there are.
-#[derive(Drop)]
+#[derive(Clone, Copy)]
 pub struct Bases {
     pub label: u8,
     pub bases: usize,
 }
 
-#[derive(Drop)]
+#[derive(Clone, Copy)]
 pub struct Base {
     pub text: Span,
     pub extensions: usize,
 }
 
 // Any other protocol, its selector as it is.
-#[derive(Drop)]
+#[derive(Clone, Copy)]
 pub struct Selector {
     pub protocol: u16,
     pub label: u8,

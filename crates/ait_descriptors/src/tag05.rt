@@ -7,7 +7,7 @@ use crate::parts::{count_within, tagged_rest};
 use crate::{Described, Kind};
 use wire::{Place, byte_at, sixteen_at, thirty_two_at};
 
-#[derive(Drop)]
+#[derive(Clone, Copy)]
 pub struct Identifier {
     pub organisation: u32,
     pub number: u16,

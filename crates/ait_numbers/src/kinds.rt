@@ -12,7 +12,7 @@ use crate::{DescriptorOut, ItemOut};
 use ait_descriptors::{Described, Item, Raw, Repeated};
 
 // What a number asks for: items of a sort, or none that there are.
-#[derive(Drop)]
+#[derive(Clone, Copy)]
 pub enum Asked {
     Items(Repeated),
     Nothing,

@@ -32,7 +32,7 @@ const COMMON: usize = 0xFFFF_FFFF_FFFF_FFFF;
 pub const NOWHERE: usize = 0xFFFF_FFFF_FFFF_FFFF;
 
 #[repr(C)]
-#[derive(Drop)]
+#[derive(Clone, Copy)]
 pub struct TableOut {
     pub common: usize,
     pub applications: usize,
@@ -46,7 +46,7 @@ pub struct TableOut {
 }
 
 #[repr(C)]
-#[derive(Drop)]
+#[derive(Clone, Copy)]
 pub struct ApplicationOut {
     pub descriptors: usize,
     pub refused_at: usize,
@@ -60,7 +60,7 @@ pub struct ApplicationOut {
 
 // A descriptor: its tag and, under 0x02, its protocol; what its kind does not have is 0.
 #[repr(C)]
-#[derive(Drop)]
+#[derive(Clone, Copy)]
 pub struct DescriptorOut {
     pub count: usize,
     pub labels: usize,
@@ -83,7 +83,7 @@ pub struct DescriptorOut {
 
 // What repeats within a descriptor. What its kind does not have is 0.
 #[repr(C)]
-#[derive(Drop)]
+#[derive(Clone, Copy)]
 pub struct ItemOut {
     pub at: usize,
     pub length: usize,
@@ -106,7 +106,7 @@ pub struct ItemOut {
 
 // Where a part lies in the bytes that were lent; at and length are 0 on a refusal.
 #[repr(C)]
-#[derive(Drop)]
+#[derive(Clone, Copy)]
 pub struct PartOut {
     pub at: usize,
     pub length: usize,
@@ -115,7 +115,7 @@ pub struct PartOut {
 }
 
 #[repr(C)]
-#[derive(Drop)]
+#[derive(Clone, Copy)]
 pub struct LabelOut {
     pub common: usize,
     pub place: usize,

@@ -32,7 +32,7 @@ use records::application_of;
 use section::{Checked, Refusal};
 
 // The class of an application number.
-#[derive(Drop)]
+#[derive(Clone, Copy)]
 pub enum Class {
     Unsigned,
     Signed,
@@ -41,7 +41,7 @@ pub enum Class {
 }
 
 // The class of a control code.
-#[derive(Drop)]
+#[derive(Clone, Copy)]
 pub enum Control {
     Autostart,
     Present,
@@ -52,14 +52,14 @@ pub enum Control {
 }
 
 // Whose descriptors: the section's common ones, or those of the application at a place.
-#[derive(Drop)]
+#[derive(Clone, Copy)]
 pub enum Scope {
     Common,
     Own(usize),
 }
 
 // The section's header, and how much it has.
-#[derive(Drop)]
+#[derive(Clone, Copy)]
 pub struct Table {
     pub test: u16,
     pub application_type: u16,
@@ -70,7 +70,7 @@ pub struct Table {
     pub applications: usize,
 }
 
-#[derive(Drop)]
+#[derive(Clone, Copy)]
 pub struct Application {
     pub organisation: u32,
     pub number: u16,
@@ -80,31 +80,31 @@ pub struct Application {
     pub descriptors: usize,
 }
 
-#[derive(Drop)]
+#[derive(Clone, Copy)]
 pub enum ReadAnswer {
     Refused(Refusal),
     Accepted(Table),
 }
 
-#[derive(Drop)]
+#[derive(Clone, Copy)]
 pub enum ApplicationAnswer {
     Refused(Refusal),
     Found(Application),
 }
 
-#[derive(Drop)]
+#[derive(Clone, Copy)]
 pub enum DescriptorAnswer {
     Refused(Refusal),
     Found(Described),
 }
 
-#[derive(Drop)]
+#[derive(Clone, Copy)]
 pub enum ItemAnswer {
     Refused(Refusal),
     Found(Item),
 }
 
-#[derive(Drop)]
+#[derive(Clone, Copy)]
 pub enum ExtensionAnswer {
     Refused(Refusal),
     Found(Span),
@@ -112,7 +112,7 @@ pub enum ExtensionAnswer {
 
 // Where a label's 0x02 descriptor stands: its place among the application's own descriptors, or
 // among those of a common loop, by the loop's number (0: the section's own).
-#[derive(Drop)]
+#[derive(Clone, Copy)]
 pub enum Resolved {
     Refused(Refusal),
     Own(usize),
@@ -121,7 +121,7 @@ pub enum Resolved {
 }
 
 // Where a thing lies in the section, if the section is accepted and has it.
-#[derive(Drop)]
+#[derive(Clone, Copy)]
 pub enum Located {
     Refused(Refusal),
     At { start: usize, size: usize },

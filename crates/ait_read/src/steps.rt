@@ -6,7 +6,7 @@ ghost use Rattle.ait_read.specs.Places.{common_in, step_in};
 use ait_descriptors::{Kind, Repeated};
 use wire::{Place, rest};
 
-#[derive(Drop)]
+#[derive(Clone, Copy)]
 pub enum Step {
     // from a body to its common descriptors, or to its applications
     CommonLoop,

@@ -13,7 +13,7 @@ use lacks::lack_of;
 use section::{Refusal, Spot};
 
 // The hand-out's number, and where in the image the module lies.
-#[derive(Drop)]
+#[derive(Clone, Copy)]
 pub struct Handed {
     pub number: u8,
     pub start: usize,
@@ -21,13 +21,13 @@ pub struct Handed {
 }
 
 // How many blocks are missing, and the lowest of them.
-#[derive(Drop)]
+#[derive(Clone, Copy)]
 pub struct Lack {
     pub count: usize,
     pub lowest: usize,
 }
 
-#[derive(Drop)]
+#[derive(Clone, Copy)]
 pub enum Report {
     Refused(Refusal),
     Whole,

@@ -21,14 +21,14 @@ pub use modules::module_at;
 use section::{Checked, Refusal, Rules};
 
 // Which of the carousel's two tables.
-#[derive(Drop)]
+#[derive(Clone, Copy)]
 pub enum CarouselTable {
     Announcements,
     Blocks,
 }
 
 // An announcement, and where its modules lie in the section.
-#[derive(Drop)]
+#[derive(Clone, Copy)]
 pub struct Announcement {
     pub download: u32,
     pub block_size: u16,
@@ -38,7 +38,7 @@ pub struct Announcement {
 }
 
 // A block, and where its data lie in the section.
-#[derive(Drop)]
+#[derive(Clone, Copy)]
 pub struct Block {
     pub download: u32,
     pub number: u16,
@@ -50,14 +50,14 @@ pub struct Block {
 
 // A module as it is announced. It has C's layout: programs in C hold it.
 #[repr(C)]
-#[derive(Drop)]
+#[derive(Clone, Copy)]
 pub struct Listed {
     pub number: u16,
     pub size: u32,
     pub version: u8,
 }
 
-#[derive(Drop)]
+#[derive(Clone, Copy)]
 pub enum Judged {
     Refused(Refusal),
     Announced(Announcement),

@@ -6,7 +6,7 @@ ghost use Rattle.carousel_play.specs.Pieces.{framed_by};
 use crate::spell::{put_crc, put_head, put_message};
 
 // What stands in the two headers.
-#[derive(Drop)]
+#[derive(Clone, Copy)]
 pub struct Head {
     pub table: u8,
     pub extension: u16,

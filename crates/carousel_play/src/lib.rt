@@ -21,7 +21,7 @@ use spots::sections_in;
 
 // What is to be played: an announcement. Entries from the count on are not looked at. It has C's layout: programs in C fill it.
 #[repr(C)]
-#[derive(Drop)]
+#[derive(Clone, Copy)]
 pub struct Playlist {
     pub download: u32,
     pub block_size: u16,
@@ -30,14 +30,14 @@ pub struct Playlist {
 }
 
 // How many sections a rotation has; or the refusal's number.
-#[derive(Drop)]
+#[derive(Clone, Copy)]
 pub enum Counted {
     Refused(u8),
     Sections(usize),
 }
 
 // The size of the section that was written; or the refusal's number, and nothing is written.
-#[derive(Drop)]
+#[derive(Clone, Copy)]
 pub enum Played {
     Refused(u8),
     Size(usize),

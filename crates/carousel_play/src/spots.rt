@@ -10,7 +10,7 @@ use crate::Playlist;
 use carousel_record::blocks_of;
 
 // A block of the rotation: its module's place, its number, and where its module starts in the image.
-#[derive(Drop)]
+#[derive(Clone, Copy)]
 pub struct Spot {
     pub which: usize,
     pub block: usize,

@@ -22,7 +22,7 @@ pub use rule::is_ruled;
 
 // An announced module, and where it starts in the image. This and the record have C's layout: programs in C hold them.
 #[repr(C)]
-#[derive(Drop)]
+#[derive(Clone, Copy)]
 pub struct Module {
     pub number: u16,
     pub size: u32,
@@ -31,7 +31,7 @@ pub struct Module {
 }
 
 #[repr(C)]
-#[derive(Drop)]
+#[derive(Clone, Copy)]
 pub struct Carousel {
     pub download: u32,
     pub block_size: u16,
@@ -42,7 +42,7 @@ pub struct Carousel {
 
 // What stands at a record's head, and the sizes of its modules together: few numbers, which go from call to call where the entries and
 // the marks do not.
-#[derive(Drop)]
+#[derive(Clone, Copy)]
 pub struct Head {
     pub download: u32,
     pub block_size: u16,

@@ -18,7 +18,7 @@ use section::Refusal;
 use store::refuse;
 pub use store::take_block;
 
-#[derive(Drop)]
+#[derive(Clone, Copy)]
 pub enum Answer {
     New,
     Same,
@@ -28,7 +28,7 @@ pub enum Answer {
 }
 
 // A step's answer, beside the record after it: an enum may hold no array.
-#[derive(Drop)]
+#[derive(Clone, Copy)]
 pub struct Stepped {
     pub answer: Answer,
     pub state: Carousel,

@@ -20,7 +20,7 @@ use pack::{put_fix, put_four};
 use unpack::fields_of;
 
 // What is known of a buoy: nothing, where it is, or where it last was.
-#[derive(Drop)]
+#[derive(Clone, Copy)]
 pub enum State {
     None,
     Fix,
@@ -29,7 +29,7 @@ pub enum State {
 
 // A record of the list. Coordinates are in 1/10,000 minute, east and north positive; the minute is
 // of the week.
-#[derive(Drop)]
+#[derive(Clone, Copy)]
 pub struct Fix {
     pub buoy: u32,
     pub state: State,
@@ -39,7 +39,7 @@ pub struct Fix {
 }
 
 // The same as it stands in a record's bits, the state a number.
-#[derive(Drop)]
+#[derive(Clone, Copy)]
 pub struct Fields {
     pub buoy: u32,
     pub state: u8,
@@ -49,21 +49,21 @@ pub struct Fields {
 }
 
 // What reading a list answers: the refusal's number, or its issue and how many records it has.
-#[derive(Drop)]
+#[derive(Clone, Copy)]
 pub enum Reading {
     Refused(u8),
     Issue { issue: u16, count: u16 },
 }
 
 // A record asked for by its place, from 0.
-#[derive(Drop)]
+#[derive(Clone, Copy)]
 pub enum FixAnswer {
     Refused(u8),
     Found(Fix),
 }
 
 // What writing a list answers: the refusal's number, and nothing is written; or the list's size.
-#[derive(Drop)]
+#[derive(Clone, Copy)]
 pub enum Written {
     Refused(u8),
     Size(usize),

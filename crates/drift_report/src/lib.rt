@@ -22,7 +22,7 @@ const BUDGET: usize = 65_536;
 pub const ROOM: usize = 409_700;
 
 // What an argument asks for: a module by its number, or nothing that could be one.
-#[derive(Drop)]
+#[derive(Clone, Copy)]
 pub enum Asked {
     Module(u16),
     Nothing,

@@ -4,7 +4,7 @@ use ait_descriptors::Repeated;
 use ait_read::Scope;
 
 // A descriptor's loop, and its place there.
-#[derive(Drop)]
+#[derive(Clone, Copy)]
 pub struct Holder {
     pub scope: Scope,
     pub place: usize,
@@ -34,7 +34,7 @@ pub fn held_line(name: usize, holder: Holder, f: Fields) -> Line {
 
 // A descriptor's fields, its tag and its kind the first, and the items below its line: those of a sort
 // and, below a 0x00 alone, its labels after them.
-#[derive(Drop)]
+#[derive(Clone, Copy)]
 pub struct Shown {
     pub fields: Fields,
     pub what: Repeated,
@@ -59,7 +59,7 @@ pub fn plain(fields: Fields) -> Shown {
 
 // An item's name, its fields, its place in the descriptor the first, and how many extensions are below its
 // line.
-#[derive(Drop)]
+#[derive(Clone, Copy)]
 pub struct ItemShown {
     pub name: usize,
     pub fields: Fields,

@@ -39,7 +39,7 @@ use receiver::{Fate, What};
 
 // What became of a section: its refusal, 0 for none, where it broke, and its kind.
 #[repr(C)]
-#[derive(Drop)]
+#[derive(Clone, Copy)]
 pub struct FateOut {
     pub refused_at: usize,
     pub refusal: u8,
@@ -48,7 +48,7 @@ pub struct FateOut {
 
 // What stood at a place: a stop, or (stop 0) a section of that length and what became of it.
 #[repr(C)]
-#[derive(Drop)]
+#[derive(Clone, Copy)]
 pub struct TakenOut {
     pub length: usize,
     pub refused_at: usize,
@@ -59,7 +59,7 @@ pub struct TakenOut {
 
 // How far a run came.
 #[repr(C)]
-#[derive(Drop)]
+#[derive(Clone, Copy)]
 pub struct PassageOut {
     pub taken: usize,
     pub passed: usize,
@@ -68,7 +68,7 @@ pub struct PassageOut {
 
 // How many blocks are missing, and the lowest of them; both 0 for none, and on a refusal.
 #[repr(C)]
-#[derive(Drop)]
+#[derive(Clone, Copy)]
 pub struct LackOut {
     pub count: usize,
     pub lowest: usize,
@@ -77,7 +77,7 @@ pub struct LackOut {
 
 // A drift list that was judged: its issue and how many records it has; both 0 on a refusal.
 #[repr(C)]
-#[derive(Drop)]
+#[derive(Clone, Copy)]
 pub struct ListOut {
     pub issue: u16,
     pub count: u16,
@@ -86,7 +86,7 @@ pub struct ListOut {
 
 // A record of it; all 0 on a refusal.
 #[repr(C)]
-#[derive(Drop)]
+#[derive(Clone, Copy)]
 pub struct FixOut {
     pub buoy: u32,
     pub longitude: i32,
@@ -98,7 +98,7 @@ pub struct FixOut {
 
 // The size of what was written, a drift list or a section; 0 on a refusal.
 #[repr(C)]
-#[derive(Drop)]
+#[derive(Clone, Copy)]
 pub struct WrittenOut {
     pub size: usize,
     pub refusal: u8,
@@ -106,7 +106,7 @@ pub struct WrittenOut {
 
 // How many sections a rotation has; 0 on a refusal.
 #[repr(C)]
-#[derive(Drop)]
+#[derive(Clone, Copy)]
 pub struct CountedOut {
     pub sections: usize,
     pub refusal: u8,
@@ -114,7 +114,7 @@ pub struct CountedOut {
 
 // What became of a packet: the bytes of whole sections that it handed on, its refusal, 0 for none, and its kind.
 #[repr(C)]
-#[derive(Drop)]
+#[derive(Clone, Copy)]
 pub struct FedOut {
     pub size: usize,
     pub refusal: u8,
@@ -123,7 +123,7 @@ pub struct FedOut {
 
 // What came of a stretch of packets: the bytes passed and handed on, and how many packets had which answer; all 0 on a refusal.
 #[repr(C)]
-#[derive(Drop)]
+#[derive(Clone, Copy)]
 pub struct GatheredOut {
     pub passed: usize,
     pub size: usize,
@@ -139,26 +139,26 @@ pub struct GatheredOut {
 
 // How many packets were written; 0 on a refusal.
 #[repr(C)]
-#[derive(Drop)]
+#[derive(Clone, Copy)]
 pub struct PackedOut {
     pub packets: usize,
     pub refusal: u8,
 }
 
 // An answer, beside the record after it: what the entries in place are thin over.
-#[derive(Drop)]
+#[derive(Clone, Copy)]
 pub struct SteppedOut {
     pub answer: FateOut,
     pub state: Carousel,
 }
 
-#[derive(Drop)]
+#[derive(Clone, Copy)]
 pub struct TookOut {
     pub answer: TakenOut,
     pub state: Carousel,
 }
 
-#[derive(Drop)]
+#[derive(Clone, Copy)]
 pub struct RanOut {
     pub answer: PassageOut,
     pub state: Carousel,

@@ -16,7 +16,7 @@ const LARGEST_SECTION: usize = 4098;
 
 // What came of a stretch: the bytes whose packets were written, the next packet's counter, and whether the
 // output took them.
-#[derive(Drop)]
+#[derive(Clone, Copy)]
 struct Packaged {
     heard: bool,
     passed: usize,

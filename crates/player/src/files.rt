@@ -6,14 +6,14 @@ use carousel_messages::{Listed, MOST_MODULES};
 use wire::lesser;
 
 // The modules, those past the most left out; and the argument that names a file which can not be read, 0 for none.
-#[derive(Drop)]
+#[derive(Clone, Copy)]
 pub struct Loaded {
     pub missing: usize,
     pub modules: [Listed; MOST_MODULES],
 }
 
 // What came of reading: a failure, or so many bytes.
-#[derive(Drop)]
+#[derive(Clone, Copy)]
 pub struct Came {
     failed: bool,
     size: usize,

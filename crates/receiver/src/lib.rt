@@ -18,7 +18,7 @@ use carousel_step::{Answer, take_block};
 use section::{Checked, Refusal, Spot, whole_at};
 
 // Why a run stops.
-#[derive(Drop)]
+#[derive(Clone, Copy)]
 pub enum Stop {
     End,
     Stuffing,
@@ -28,7 +28,7 @@ pub enum Stop {
 }
 
 // What became of a section: a table, one of the carousel's answers, or a refusal.
-#[derive(Drop)]
+#[derive(Clone, Copy)]
 pub enum Fate {
     Table,
     New,
@@ -39,34 +39,34 @@ pub enum Fate {
 }
 
 // A section that was taken.
-#[derive(Drop)]
+#[derive(Clone, Copy)]
 pub struct Section {
     pub length: usize,
     pub fate: Fate,
 }
 
-#[derive(Drop)]
+#[derive(Clone, Copy)]
 pub enum What {
     Stopped(Stop),
     Taken(Section),
 }
 
 // What stood at a place, beside the record after it: an enum may hold no array.
-#[derive(Drop)]
+#[derive(Clone, Copy)]
 pub struct Took {
     pub what: What,
     pub state: Carousel,
 }
 
 // What became of one whole section, beside the record after it.
-#[derive(Drop)]
+#[derive(Clone, Copy)]
 pub struct Given {
     pub fate: Fate,
     pub state: Carousel,
 }
 
 // How far a run came: the sections taken, the bytes passed, and why it stopped.
-#[derive(Drop)]
+#[derive(Clone, Copy)]
 pub struct Passage {
     pub taken: usize,
     pub passed: usize,
@@ -74,7 +74,7 @@ pub struct Passage {
 }
 
 // A run by value: its passage, beside the record after it.
-#[derive(Drop)]
+#[derive(Clone, Copy)]
 pub struct Ran {
     pub passage: Passage,
     pub state: Carousel,

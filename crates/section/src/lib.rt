@@ -40,28 +40,28 @@ const NUMBERS_AT: usize = 6;
 const CRC_SIZE: usize = 4;
 
 // By whose rules a section is judged: the application's, or the carousel's.
-#[derive(Drop)]
+#[derive(Clone, Copy)]
 pub enum Rules {
     Application,
     Carousel,
 }
 
 // Where a section broke: a byte, counted from its first.
-#[derive(Drop)]
+#[derive(Clone, Copy)]
 pub enum Spot {
     Nowhere,
     Byte(usize),
 }
 
 // A refusal: its number in the paper and, for 2 to 6, its place. Callers hand it on as it is.
-#[derive(Drop)]
+#[derive(Clone, Copy)]
 pub struct Refusal {
     pub number: u8,
     pub place: Spot,
 }
 
 // The fields of an accepted section's header.
-#[derive(Drop)]
+#[derive(Clone, Copy)]
 pub struct Header {
     pub table: u8,
     pub extension: u16,
@@ -70,7 +70,7 @@ pub struct Header {
     pub last: u8,
 }
 
-#[derive(Drop)]
+#[derive(Clone, Copy)]
 pub enum Checked {
     Refused(Refusal),
     Accepted(Header),

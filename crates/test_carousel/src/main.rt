@@ -22,7 +22,7 @@ use section::{Refusal, Spot};
 const MEMORY: usize = MOST_BYTES + 64;
 
 // What is kept from command to command: the record, and how much of the memory is the image.
-#[derive(Drop)]
+#[derive(Clone, Copy)]
 struct Kept {
     record: Carousel,
     length: usize,

@@ -9,7 +9,7 @@ ghost use Rattle.text.specs.Text.{reached, word_at, decimal};
 ghost use Rattle.text.specs.Digits.{said_by};
 
 // What digits say: a number, or nothing that could be one.
-#[derive(Drop)]
+#[derive(Clone, Copy)]
 pub enum Said {
     Number(u32),
     Nothing,

@@ -33,7 +33,7 @@ pub const STATE_LENGTH: usize = 4287;
 pub const LEAST_ROOM: usize = 4281;
 
 // What became of a packet. A broken one was taken too: its counter was out of step.
-#[derive(Drop)]
+#[derive(Clone, Copy)]
 pub enum Answer {
     Taken,
     Broken,
@@ -42,14 +42,14 @@ pub enum Answer {
 }
 
 // An answer, beside the bytes of whole sections at the buffer's start.
-#[derive(Drop)]
+#[derive(Clone, Copy)]
 pub struct Handed {
     pub answer: Answer,
     pub size: usize,
 }
 
 // How many packets had which answer; broken ones are counted among the taken, too.
-#[derive(Drop)]
+#[derive(Clone, Copy)]
 pub struct Counts {
     pub taken: usize,
     pub repeated: usize,
@@ -62,7 +62,7 @@ pub struct Counts {
 
 // What came of a stretch of packets: 1 or 21, and nothing was passed, or 0; the bytes that were passed, the bytes of whole sections at the
 // buffer's start, and how many packets had which answer.
-#[derive(Drop)]
+#[derive(Clone, Copy)]
 pub struct Gathered {
     pub refusal: u8,
     pub passed: usize,

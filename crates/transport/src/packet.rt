@@ -6,7 +6,7 @@ ghost use Rattle.transport.specs.Packet.{packet_length, has_field, has_payload, 
 use crate::PACKET_LENGTH;
 
 // Where a packet's bytes lie: those from `from` to `mid` go on with the section in hand, those from `mid` on begin sections.
-#[derive(Drop)]
+#[derive(Clone, Copy)]
 pub struct Parts {
     pub payload: bool,
     pub start: bool,

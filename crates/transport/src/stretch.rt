@@ -11,7 +11,7 @@ use crate::{Answer, Counts, Gathered, LEAST_ROOM, PACKET_LENGTH};
 
 // How far it went, what it handed on, where the packet lies that is now the last (past the stretch: still in the state), and how many bytes
 // are in hand.
-#[derive(Drop)]
+#[derive(Clone, Copy)]
 struct Walked {
     passed: usize,
     size: usize,

@@ -17,7 +17,7 @@ use crate::plain::goes_on;
 use crate::state::HAND_AT;
 
 // What a packet came to: its answer, how many bytes it handed on, and how many are in hand after it.
-#[derive(Drop)]
+#[derive(Clone, Copy)]
 pub struct Step {
     pub answer: Answer,
     pub size: usize,
@@ -25,7 +25,7 @@ pub struct Step {
 }
 
 // What a payload came to.
-#[derive(Drop)]
+#[derive(Clone, Copy)]
 pub struct Brought {
     pub size: usize,
     pub held: usize,

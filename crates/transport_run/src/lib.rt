@@ -10,7 +10,7 @@ use carousel_record::Carousel;
 use transport::{Counts, Gathered};
 
 // What came of the packets, beside the record after the sections that they handed on.
-#[derive(Drop)]
+#[derive(Clone, Copy)]
 pub struct Heard {
     pub gathered: Gathered,
     pub state: Carousel,

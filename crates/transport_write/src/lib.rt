@@ -19,7 +19,7 @@ pub const PAYLOAD_LENGTH: usize = 184;
 pub const MOST_PACKETS: usize = 23;
 
 // How many packets were written; or the refusal's number, and nothing is written.
-#[derive(Drop)]
+#[derive(Clone, Copy)]
 pub enum Packed {
     Refused(u8),
     Packets(usize),

@@ -14,14 +14,14 @@ ghost use Rattle.wire.specs.Fields.{byte_at, twelve_at, sixteen_at, thirty_two_a
 pub use copies::{copy_at, is_equal};
 
 // A part of a slice: where it starts and how many bytes it has; or nothing.
-#[derive(Drop)]
+#[derive(Clone, Copy)]
 pub enum Place {
     At { start: usize, size: usize },
     Nothing,
 }
 
 // The number of an item among others, from 0; or none.
-#[derive(Drop)]
+#[derive(Clone, Copy)]
 pub enum Hit {
     Item(usize),
     Missing,
