@@ -4,6 +4,8 @@
 // place, and asks nothing of its caller. What a field is, is said in specs/Fields.antt; what a list
 // of items is, and what lies where, in specs/Items.antt and specs/Places.antt; what the first of
 // some numbered tests is, in specs/Tests.antt; what bytes laid over others are, in specs/Copies.antt.
+#![tactic(auto)]
+
 mod copies;
 
 ghost use Rattle.std.specs.Prelude.{◌≡◌, ◌<◌, min, take, drop};

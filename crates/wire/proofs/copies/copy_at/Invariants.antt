@@ -1,0 +1,18 @@
+-- `wire::copies::copy_at` meets its contract. The invariant: there is room, the first j bytes are in their place, and nothing else has changed.
+use Prim.Native.Nat.{ℕ, ◌+◌, ◌-◌, ◌≤◌}
+use mathlib.Core.Path.{◌≡◌, refl, sym, ap, ◌∙◌}
+use mathlib.Core.List.{List}
+use native.Mathlib.Nat.{add-sub_cancel_left}
+use native.Mathlib.Omega.{arith}
+use lib.ListN.{length, take, drop}
+use lib.Seq.{paste, paste-zero}
+use Rattle.wire.specs.Copies.{overwrite}
+use Rattle.wire.proofs.Laws.Copies.{laid-fits, laid-short, pasted-all, piece_length, piece_laid, first_laid}
+use Rattle.wire.proofs.copies.copy_at.Given as goal
+
+abbrev pub invariant-loop-j : goal.invariant-loop-j
+invariant-loop-j l =
+    (l.j ≤ length l.bytes) × (l.at + length l.bytes ≤ length l.initial.out) × (length l.out ≡ length l.initial.out) × (4096 ≡ length l.between) × (l.out ≡ paste l.initial.out l.at l.bytes l.j)
+
+abbrev pub decreases-loop-j : goal.decreases-loop-j
+decreases-loop-j l = length l.bytes - l.j
