@@ -2,6 +2,8 @@
 //
 // What each field, the CRC and each refusal is, is said in specs/; the answer of `check` is an
 // equation with `checked_of` of specs/Answer.antt for every slice, the empty one included.
+#![tactic(auto)]
+
 mod register;
 
 ghost use Rattle.std.specs.Prelude.{◌≡◌, not, cond, ◌≤◌, length};

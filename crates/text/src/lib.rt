@@ -3,6 +3,8 @@
 // DVB.
 //
 // The bytes are defined in specs/Text.antt, what digits say in specs/Digits.antt.
+#![tactic(auto)]
+
 ghost use Rattle.std.specs.Prelude.{◌≡◌, ◌∷◌, [], ◌≤◌, length, set, drop};
 ghost use Rattle.std.proofs.lemmas.List.Edits.{sets};
 ghost use Rattle.text.specs.Text.{reached, word_at, decimal};

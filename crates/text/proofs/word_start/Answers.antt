@@ -1,0 +1,41 @@
+-- `word_start` meets its contract. The invariant: the word is that of what is left.
+use Prim.Native.Nat.{ℕ, ◌+◌, ◌-◌, ◌≤◌}
+use mathlib.Core.Path.{◌≡◌, refl, sym, ap, ◌∙◌}
+use mathlib.Core.List.{List}
+use mathlib.Core.Logic.{⊎_elim}
+use native.Mathlib.Omega.{arith}
+use lib.ListN.{length, drop}
+use borrow.Author.Rules.{rules}
+use Rattle.text.specs.Text.{word_at}
+use Rattle.text.proofs.Laws.Words.{word_none, word-passed, word-within}
+use Rattle.text.proofs.word_start.Goals as goal
+
+pub loop-i-init : goal.loop-i-init
+loop-i-init c = (omega arith, refl)
+
+pub returns-then-left-eq0 : goal.returns-then-left-eq0
+returns-then-left-eq0 c =
+    let s = c.args.words.now in
+    let l = c.loop-i in
+    (l.invariant.0, ap (λ (k : ℕ). word_at k (drop l.i s)) (sym c.if-left-eq0.true) ∙ l.invariant.1)
+
+pub loop-i-preserved : goal.loop-i-preserved
+loop-i-preserved c =
+    
+    let s = c.args.words.now in
+    let l = c.loop-i in
+    let some = c.if-left-eq0.false in
+    let from : ℕ → List ℕ = λ k. word_at k (drop (l.i + 1) s) in (
+      omega arith,
+      ⊎_elim
+          (λ w. ap from w.1 ∙ word-passed s l.i (omega arith) l.left some w.0.taken)
+          (λ w. ap from w.1 ∙ word-within s l.i (omega arith) l.left some w.0.left)
+          c.if-words-i-eq32.branch
+          ∙ l.invariant.1,
+    )
+
+pub returns : goal.returns
+returns c =
+    let s = c.args.words.now in
+    let l = c.loop-i in
+    (l.invariant.0, word_none 0 s l.i (omega arith) ∙ sym (word_none l.left s l.i (omega arith)) ∙ l.invariant.1)
