@@ -15,7 +15,7 @@ use Rattle.carousel_messages.proofs.judge_by.Goals.{In-Accepted}
 
 -- what the check answered
 told : (c : In-Accepted) → checked_by c.args.register Carousel
-    c.args.s.now ≡ Accepted c.checked-in-Accepted-1.given.0.0
+    c.args.s.now ≡ Accepted c.in-Accepted.h
 told c = sym c.check_by-checked.ensures.0 ∙ c.in-Accepted.is
 
 long : (c : In-Accepted) → 12 ≤ length c.args.s.now
