@@ -3,6 +3,8 @@
 // It reads as `receive` does and prints comma-separated lines. They are listed in
 // tests/test_inspect.py, an independent second program, which makes an input and says what must come
 // out.
+#![tactic(auto)]
+
 mod items;
 mod kinds;
 mod lines;
@@ -24,22 +26,22 @@ use carousel_record::Carousel;
 use receiver::{Fate, Stop, What};
 use section::Spot;
 
-// What `io::large_buffer` gives.
+// What `streams::large_buffer` gives.
 pub type Buffer = [u8; 65_536];
 
 // The sections that are taken at most.
 const BUDGET: usize = 65_536;
 
-fn main() {
-    let mut stretch = io::large_buffer();
-    let n = io::read_full(0, &mut stretch);
-    let mut image = io::large_buffer();
-    let mut out = io::large_buffer();
-    inspect(&stretch[..n], &mut image, &mut out);
+fn main(rt: HostRuntime) {
+    let mut stretch = streams::large_buffer();
+    let n = streams::read_full(&mut rt.stdin(), &mut stretch);
+    let mut image = streams::large_buffer();
+    let mut out = streams::large_buffer();
+    inspect(&rt, &stretch[..n], &mut image, &mut out);
 }
 
 // Runs an empty record over a stretch; what is printed goes by way of `out`.
-fn inspect(stretch: &[u8], image: &mut Buffer, out: &mut Buffer) {
+fn inspect(rt: &impl Print, stretch: &[u8], image: &mut Buffer, out: &mut Buffer) {
     let mut c = carousel_record::empty();
     let mut at: usize = 0;
     let mut index: usize = 0;
@@ -50,14 +52,14 @@ fn inspect(stretch: &[u8], image: &mut Buffer, out: &mut Buffer) {
         let what = took.what;
         match what {
             What::Stopped(stop) => {
-                finish(out, at, stop, c, image);
+                finish(rt, out, at, stop, c, image);
                 return;
             }
             What::Taken(section) => {
                 let n = section.length;
                 let fate = section.fate;
                 let next = passed + n;
-                at = put_section(out, at, index, passed, &stretch[passed..next], fate);
+                at = put_section(rt, out, at, index, passed, &stretch[passed..next], fate);
                 passed = next;
             }
         }
@@ -70,16 +72,17 @@ fn inspect(stretch: &[u8], image: &mut Buffer, out: &mut Buffer) {
 }
 
 // The lines below the last section, and what is left of `out`.
-fn finish(out: &mut Buffer, at: usize, stop: Stop, c: Carousel, image: &Buffer) {
+fn finish(rt: &impl Print, out: &mut Buffer, at: usize, stop: Stop, c: Carousel, image: &Buffer) {
     let word = STOPS + receiver::stop_number(stop) as usize;
     let line = [STOP, word, NIL, NIL, NIL, NIL, NIL, NIL, NIL, NIL, NIL];
-    let mut end = put_line(out, at, line);
-    end = put_record(out, end, c, image);
-    write_out(out, end);
+    let mut end = put_line(rt, out, at, line);
+    end = put_record(rt, out, end, c, image);
+    write_out(rt, out, end);
 }
 
 // A section's line and, below an accepted table's, all that is read of it.
 fn put_section(
+    rt: &impl Print,
     out: &mut Buffer,
     at: usize,
     index: usize,
@@ -100,9 +103,9 @@ fn put_section(
         NIL,
         NIL,
     ];
-    let end = put_line(out, at, line);
+    let end = put_line(rt, out, at, line);
     if let Fate::Table = fate {
-        return put_table(out, end, s);
+        return put_table(rt, out, end, s);
     }
     end
 }

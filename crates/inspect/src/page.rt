@@ -14,24 +14,24 @@ const LAST_START: usize = 65_536 - LONGEST_LINE;
 pub const CLOSED: usize = 65_537;
 
 // Puts a line, if it has a name, where there is room for it.
-pub fn put_line(out: &mut Buffer, at: usize, line: Line) -> usize {
+pub fn put_line(rt: &impl Print, out: &mut Buffer, at: usize, line: Line) -> usize {
     if line[0] == NIL {
         return at;
     }
     let mut end = at;
     if LAST_START < at {
-        end = write_out(out, at);
+        end = write_out(rt, out, at);
     }
     end = put_fields(out, end, line);
     text::put(out, end, b"\n")
 }
 
 // Writes out what was put, and answers where the next line goes.
-pub fn write_out(out: &[u8], at: usize) -> usize {
+pub fn write_out(rt: &impl Print, out: &[u8], at: usize) -> usize {
     if out.len() < at {
         return CLOSED;
     }
-    if io::write_all(1, &out[0..at]) {
+    if rt.write_all(&out[0..at]).is_ok() {
         return 0;
     }
     CLOSED

@@ -6,9 +6,15 @@ use carousel_handout::{Lack, Report};
 use carousel_record::{Carousel, Module};
 
 // The record's line, and its modules'.
-pub fn put_record(out: &mut Buffer, at: usize, c: Carousel, image: &Buffer) -> usize {
-    let end = put_line(out, at, record_line(c));
-    put_modules(out, end, c, image)
+pub fn put_record(
+    rt: &impl Print,
+    out: &mut Buffer,
+    at: usize,
+    c: Carousel,
+    image: &Buffer,
+) -> usize {
+    let end = put_line(rt, out, at, record_line(c));
+    put_modules(rt, out, end, c, image)
 }
 
 // No line where there is no announcement.
@@ -31,12 +37,12 @@ fn record_line(c: Carousel) -> Line {
     ]
 }
 
-fn put_modules(out: &mut Buffer, at: usize, c: Carousel, image: &Buffer) -> usize {
+fn put_modules(rt: &impl Print, out: &mut Buffer, at: usize, c: Carousel, image: &Buffer) -> usize {
     let mut end = at;
     let mut i: usize = 0;
     while i < carousel_messages::MOST_MODULES {
         let m = c.modules[i];
-        end = put_line(out, end, module_line(c, image, i, m));
+        end = put_line(rt, out, end, module_line(c, image, i, m));
         i += 1;
     }
     end

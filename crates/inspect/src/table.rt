@@ -10,13 +10,13 @@ use ait_read::{
     Application, ApplicationAnswer, Class, Control, DescriptorAnswer, ReadAnswer, Scope, Table,
 };
 
-pub fn put_table(out: &mut Buffer, at: usize, s: &[u8]) -> usize {
+pub fn put_table(rt: &impl Print, out: &mut Buffer, at: usize, s: &[u8]) -> usize {
     match ait_read::read(s) {
         ReadAnswer::Refused(_) => at,
         ReadAnswer::Accepted(t) => {
-            let mut end = put_line(out, at, table_line(t));
-            end = put_descriptors(out, end, s, Scope::Common, t.common);
-            put_applications(out, end, s, t.applications)
+            let mut end = put_line(rt, out, at, table_line(t));
+            end = put_descriptors(rt, out, end, s, Scope::Common, t.common);
+            put_applications(rt, out, end, s, t.applications)
         }
     }
 }
@@ -37,23 +37,23 @@ fn table_line(t: Table) -> Line {
     ]
 }
 
-fn put_applications(out: &mut Buffer, at: usize, s: &[u8], count: usize) -> usize {
+fn put_applications(rt: &impl Print, out: &mut Buffer, at: usize, s: &[u8], count: usize) -> usize {
     let mut end = at;
     let mut i: usize = 0;
     while i < count {
-        end = put_application(out, end, s, i);
+        end = put_application(rt, out, end, s, i);
         i += 1;
     }
     end
 }
 
 // The application at place i, and its descriptors.
-fn put_application(out: &mut Buffer, at: usize, s: &[u8], i: usize) -> usize {
+fn put_application(rt: &impl Print, out: &mut Buffer, at: usize, s: &[u8], i: usize) -> usize {
     match ait_read::application_at(s, i) {
         ApplicationAnswer::Refused(_) => at,
         ApplicationAnswer::Found(a) => {
-            let end = put_line(out, at, application_line(i, a));
-            put_descriptors(out, end, s, Scope::Own(i), a.descriptors)
+            let end = put_line(rt, out, at, application_line(i, a));
+            put_descriptors(rt, out, end, s, Scope::Own(i), a.descriptors)
         }
     }
 }
@@ -97,19 +97,26 @@ fn control_word(control: Control) -> usize {
 }
 
 // The descriptors of a loop, the common one or an application's, each with its items below it.
-fn put_descriptors(out: &mut Buffer, at: usize, s: &[u8], scope: Scope, count: usize) -> usize {
+fn put_descriptors(
+    rt: &impl Print,
+    out: &mut Buffer,
+    at: usize,
+    s: &[u8],
+    scope: Scope,
+    count: usize,
+) -> usize {
     let mut end = at;
     let mut j: usize = 0;
     while j < count {
         let holder = Holder { scope, place: j };
-        end = put_descriptor(out, end, s, holder);
+        end = put_descriptor(rt, out, end, s, holder);
         j += 1;
     }
     end
 }
 
 // A descriptor's line, and its items.
-fn put_descriptor(out: &mut Buffer, at: usize, s: &[u8], holder: Holder) -> usize {
+fn put_descriptor(rt: &impl Print, out: &mut Buffer, at: usize, s: &[u8], holder: Holder) -> usize {
     let scope = holder.scope;
     match ait_read::descriptor_at(s, scope, holder.place) {
         DescriptorAnswer::Refused(_) => at,
@@ -117,9 +124,9 @@ fn put_descriptor(out: &mut Buffer, at: usize, s: &[u8], holder: Holder) -> usiz
             let shown = described_shown(d);
             let fields = shown.fields;
             let what = shown.what;
-            let mut end = put_line(out, at, held_line(DESCRIPTOR, holder, fields));
-            end = put_items(out, end, s, holder, what, shown.count);
-            put_items(out, end, s, holder, Repeated::Labels, shown.labels)
+            let mut end = put_line(rt, out, at, held_line(DESCRIPTOR, holder, fields));
+            end = put_items(rt, out, end, s, holder, what, shown.count);
+            put_items(rt, out, end, s, holder, Repeated::Labels, shown.labels)
         }
     }
 }

@@ -63,6 +63,7 @@ pub fn base_shown(k: usize, b: Base) -> ItemShown {
 
 // The extensions of the base at place k.
 pub fn put_extensions(
+    rt: &impl Print,
     out: &mut Buffer,
     at: usize,
     s: &[u8],
@@ -73,7 +74,7 @@ pub fn put_extensions(
     let mut end = at;
     let mut m: usize = 0;
     while m < count {
-        end = put_line(out, end, extension_line(s, holder, k, m));
+        end = put_line(rt, out, end, extension_line(s, holder, k, m));
         m += 1;
     }
     end

@@ -3,8 +3,13 @@
 // Standard input is sections, end to end, and is read until it ends, or has fewer bytes than a section
 // says, or byte 0xFF stands where a section should begin. Each section begins a packet. A read that fails
 // ends the input; an output that is closed ends the program.
+#![tactic(auto)]
+
 ghost use Rattle.std.specs.Prelude.{◌*◌, ◌≤◌, length};
 
+use std::env::Env;
+use std::io;
+use std::io::Read;
 use text::Said;
 use transport_write::{MOST_PACKETS, PACKET_LENGTH, Packed};
 
@@ -24,40 +29,45 @@ struct Packaged {
 }
 
 // No greater number is said than the most: the remainder only spares the proof of that.
-fn main() {
-    match asked() {
-        Said::Nothing => usage(),
-        Said::Number(n) => pack((n % (MOST_PID + 1)) as u16),
+fn main(rt: HostRuntime) -> io::Result<()> {
+    match asked(&rt) {
+        Said::Nothing => usage(&rt.stderr()),
+        Said::Number(n) => {
+            pack(&mut rt.stdin(), &rt, (n % (MOST_PID + 1)) as u16);
+            Ok(())
+        }
     }
 }
 
 // The PID that the program's one argument says.
-fn asked() -> Said {
-    if os::arg_count() != 2 {
+fn asked(env: &impl Env) -> Said {
+    if streams::argument_count(env) != 2 {
         return Said::Nothing;
     }
-    let mut argument = io::buffer();
-    let n = os::arg(1, &mut argument);
-    text::read_decimal(&argument[..n], MOST_PID)
+    let mut argument = streams::buffer();
+    match streams::argument(env, 1, &mut argument) {
+        Some(n) => text::read_decimal(&argument[..n], MOST_PID),
+        None => Said::Nothing,
+    }
 }
 
-fn usage() {
-    io::write_all(2, b"usage: packets PID\n");
+fn usage(log: &impl Print) -> io::Result<()> {
+    log.write_all(b"usage: packets PID\n")
 }
 
 // Fills a buffer, writes the whole sections at its front, and keeps the rest for the next turn. A proved
 // loop has to end, and nothing says that the input does: it counts its turns down from a number that no
 // run uses up.
-fn pack(pid: u16) {
-    let mut space = io::large_buffer();
+fn pack<R: Read, P: Print>(input: &mut R, output: &P, pid: u16) {
+    let mut space = streams::large_buffer();
     let buffer: &mut [u8] = &mut space;
-    let mut out = io::large_buffer();
+    let mut out = streams::large_buffer();
     let mut held: usize = 0;
     let mut counter: u8 = 0;
     let mut turns = u64::MAX;
     while turns > 0 {
-        let end = held + read_some(&mut buffer[held..]);
-        let packaged = write_sections(pid, counter, &buffer[..end], &mut out);
+        let end = held + read_some(input, &mut buffer[held..]);
+        let packaged = write_sections(output, pid, counter, &buffer[..end], &mut out);
         if !packaged.heard {
             return;
         }
@@ -74,14 +84,20 @@ fn pack(pid: u16) {
 }
 
 // Reads until the part is full, or the input ends.
-fn read_some(part: &mut [u8]) -> usize
+fn read_some<R: Read>(input: &mut R, part: &mut [u8]) -> usize
     ensures { result ≤ length part.old }
 {
-    wire::lesser(io::read_full(0, part), part.len())
+    streams::read_full(input, part)
 }
 
 // Writes the packets of the whole sections that a stretch begins with, as many at once as `out` has room for.
-fn write_sections(pid: u16, counter: u8, s: &[u8], out: &mut [u8]) -> Packaged {
+fn write_sections(
+    output: &impl Print,
+    pid: u16,
+    counter: u8,
+    s: &[u8],
+    out: &mut [u8],
+) -> Packaged {
     let mut at: usize = 0;
     let mut c = counter;
     let mut size: usize = 0;
@@ -96,13 +112,13 @@ fn write_sections(pid: u16, counter: u8, s: &[u8], out: &mut [u8]) -> Packaged {
         c = counter_after(c, written);
         size += PACKET_LENGTH * written;
         if out.len() - size < MOST_PACKETS * PACKET_LENGTH {
-            if !io::write_all(1, &out[..size]) {
+            if output.write_all(&out[..size]).is_err() {
                 return came_to(false, at, c);
             }
             size = 0;
         }
     }
-    let heard = io::write_all(1, &out[..size]);
+    let heard = output.write_all(&out[..size]).is_ok();
     came_to(heard, at, c)
 }
 

@@ -3,6 +3,8 @@
 // Each module is a file's whole content. Nothing is written where something is wrong: then a line on
 // standard error says what, the arguments first, then a file that can not be read, then the refusal's
 // number. An output that is closed ends the program.
+#![tactic(auto)]
+
 mod arguments;
 mod files;
 
@@ -11,26 +13,31 @@ ghost use Rattle.std.specs.Prelude.{◌≡◌, ◌≤◌, length};
 use arguments::{are_good, module_count, value};
 use carousel_play::{Counted, LARGEST_SECTION, Played, Playlist};
 use files::{Loaded, load};
+use std::env::Env;
+use std::io;
 use wire::lesser;
 
-fn main() {
-    let count = os::arg_count();
-    if !are_good(count) {
-        io::write_all(
-            2,
+fn main(rt: HostRuntime) -> io::Result<()> {
+    let count = streams::argument_count(&rt);
+    if !are_good(&rt, count) {
+        return rt.stderr().write_all(
             b"usage: player DOWNLOAD BLOCKSIZE IDENTIFIER NUMBER VERSION FILE [NUMBER VERSION FILE ...]\n",
         );
-        return;
     }
     let n = module_count(count);
     let mut image = room();
-    let loaded = load(n, &mut image);
+    let loaded = load(&rt, n, &mut image);
     let missing = loaded.missing;
     if missing != 0 {
-        tell_missing(missing);
-        return;
+        return tell_missing(&rt, &rt.stderr(), missing);
     }
-    play(playlist(loaded, n), &image);
+    play(
+        &rt,
+        &rt.stdout(),
+        &rt.stderr(),
+        playlist(&rt, loaded, n),
+        &image,
+    )
 }
 
 // Zeros for the modules. The `ensures` gives only the length, which lending the array needs.
@@ -41,43 +48,57 @@ fn room() -> [u8; carousel_messages::MOST_BYTES]
 }
 
 // What is announced. More modules than there may be are one too many.
-fn playlist(loaded: Loaded, n: usize) -> Playlist {
+fn playlist(env: &impl Env, loaded: Loaded, n: usize) -> Playlist {
     let ms = loaded.modules;
     Playlist {
-        download: value(1, arguments::MOST_THIRTY_TWO),
-        block_size: value(2, arguments::MOST_SIXTEEN) as u16,
+        download: value(env, 1, arguments::MOST_THIRTY_TWO),
+        block_size: value(env, 2, arguments::MOST_SIXTEEN) as u16,
         count: lesser(n, carousel_messages::MOST_MODULES + 1) as u16,
         modules: ms,
     }
 }
 
 // The rotation, or its refusal.
-fn play(p: Playlist, image: &[u8]) {
+fn play(
+    env: &impl Env,
+    output: &impl Print,
+    log: &impl Print,
+    p: Playlist,
+    image: &[u8],
+) -> io::Result<()> {
     match carousel_play::section_count(p) {
-        Counted::Refused(n) => tell_refused(n),
+        Counted::Refused(n) => tell_refused(log, n),
         Counted::Sections(n) => {
-            let mut out = io::large_buffer();
-            write_rotation(p, image, n, &mut out);
+            let mut out = streams::large_buffer();
+            write_rotation(env, output, p, image, n, &mut out);
+            Ok(())
         }
     }
 }
 
 // Writes each section, as many at once as `out` has room for.
-fn write_rotation(p: Playlist, image: &[u8], sections: usize, out: &mut [u8]) {
-    let identifier = value(3, arguments::MOST_THIRTY_TWO);
+fn write_rotation(
+    env: &impl Env,
+    output: &impl Print,
+    p: Playlist,
+    image: &[u8],
+    sections: usize,
+    out: &mut [u8],
+) {
+    let identifier = value(env, 3, arguments::MOST_THIRTY_TWO);
     let mut end: usize = 0;
     let mut place: usize = 0;
     while place < sections {
         end += put_section(p, image, identifier, place, &mut out[end..]);
         if out.len() - end < LARGEST_SECTION {
-            if !io::write_all(1, &out[..end]) {
+            if output.write_all(&out[..end]).is_err() {
                 return;
             }
             end = 0;
         }
         place += 1;
     }
-    io::write_all(1, &out[..end]);
+    let _ = output.write_all(&out[..end]);
 }
 
 // Puts the section at a place at the start of `out`, and answers its size.
@@ -90,16 +111,14 @@ fn put_section(p: Playlist, image: &[u8], identifier: u32, place: usize, out: &m
     }
 }
 
-fn tell_missing(k: usize) {
-    let mut name = io::buffer();
-    let n = os::arg(k, &mut name);
-    io::write_all(2, b"no file ");
-    io::write_all(2, &name[..n]);
-    io::write_all(2, b"\n");
+fn tell_missing(env: &impl Env, log: &impl Print, k: usize) -> io::Result<()> {
+    let mut name = streams::buffer();
+    let n = streams::argument(env, k, &mut name).unwrap_or(0);
+    log.write_all(b"no file ")?;
+    log.write_all(&name[..n])?;
+    log.write_all(b"\n")
 }
 
-fn tell_refused(n: u8) {
-    io::write_all(2, b"refused,");
-    io::print_decimal(2, n as u64);
-    io::write_all(2, b"\n");
+fn tell_refused(log: &impl Print, n: u8) -> io::Result<()> {
+    println!(log; "refused,{n}")
 }

@@ -2,15 +2,19 @@
 //
 // It reads the first 65,536 bytes of standard input and nothing beyond, and runs an empty record over
 // them. A read that fails ends the input; an output that is closed ends the program.
+#![tactic(auto)]
+
 ghost use Rattle.std.specs.Prelude.{◌≡◌, length};
 
-fn main() {
-    let mut stretch = io::large_buffer();
-    let n = io::read_full(0, &mut stretch);
-    let mut image = io::large_buffer();
+use std::io;
+
+fn main(rt: HostRuntime) -> io::Result<()> {
+    let mut stretch = streams::large_buffer();
+    let n = streams::read_full(&mut rt.stdin(), &mut stretch);
+    let mut image = streams::large_buffer();
     let mut out = room();
     let size = report::write_report(&stretch[..n], &mut image, &mut out);
-    io::write_all(1, &out[..size]);
+    rt.write_all(&out[..size])
 }
 
 // Zeros for the text. The `ensures` gives only the length, which lending the array needs.

@@ -3,10 +3,15 @@
 // Standard input is packets of 188 bytes, end to end, and is read to its end. There a line on standard
 // error says what became of them. A read that fails ends the input; an output that is closed ends the
 // program, and then there is no line.
+#![tactic(auto)]
+
 mod totals;
 
 ghost use Rattle.std.specs.Prelude.{◌≡◌, ◌≤◌, length};
 
+use std::env::Env;
+use std::io;
+use std::io::Read;
 use text::Said;
 use totals::{KINDS, add, tell};
 use transport::STATE_LENGTH;
@@ -21,54 +26,78 @@ const STRETCH: usize = 65_612;
 const ROOM: usize = 131_072;
 
 // No greater number is said than the most: the remainder only spares the proof of that.
-fn main() {
-    match asked() {
-        Said::Nothing => usage(),
-        Said::Number(n) => take_apart((n % (MOST_PID + 1)) as u16),
+fn main(rt: HostRuntime) -> io::Result<()> {
+    match asked(&rt) {
+        Said::Nothing => usage(&rt.stderr()),
+        Said::Number(n) => {
+            let pid = (n % (MOST_PID + 1)) as u16;
+            take_apart(&mut rt.stdin(), &rt.stdout(), &rt.stderr(), pid)
+        }
     }
 }
 
 // The PID that the program's one argument says.
-fn asked() -> Said {
-    if os::arg_count() != 2 {
+fn asked(env: &impl Env) -> Said {
+    if streams::argument_count(env) != 2 {
         return Said::Nothing;
     }
-    let mut argument = io::buffer();
-    let n = os::arg(1, &mut argument);
-    text::read_decimal(&argument[..n], MOST_PID)
+    let mut argument = streams::buffer();
+    match streams::argument(env, 1, &mut argument) {
+        Some(n) => text::read_decimal(&argument[..n], MOST_PID),
+        None => Said::Nothing,
+    }
 }
 
-fn usage() {
-    io::write_all(2, b"usage: sections PID\n");
+fn usage(log: &impl Print) -> io::Result<()> {
+    log.write_all(b"usage: sections PID\n")
 }
 
 // A proved loop has to end, and nothing says that the input does: it counts its turns down from a number
 // that no run uses up.
-fn take_apart(pid: u16) {
+fn take_apart<R: Read, P: Print, L: Print>(
+    input: &mut R,
+    output: &P,
+    log: &L,
+    pid: u16,
+) -> io::Result<()> {
     let mut stretch = stretch_room();
     let mut state = first_state();
     let mut out = out_room();
     let mut counts = [0usize; KINDS];
     let mut turns = u64::MAX;
     while turns > 0 {
-        let n = io::read_full(0, &mut stretch);
-        if !pass(pid, &stretch[..n], &mut state, &mut out, &mut counts) {
-            return;
+        let n = streams::read_full(input, &mut stretch);
+        if !pass(
+            output,
+            pid,
+            &stretch[..n],
+            &mut state,
+            &mut out,
+            &mut counts,
+        ) {
+            return Ok(());
         }
         if n < STRETCH {
-            tell(&counts);
-            return;
+            return tell(log, &counts);
         }
         turns -= 1;
     }
+    Ok(())
 }
 
 // Passes a whole stretch, and answers whether it could. By `gather`'s contract each turn passes some of it;
 // to stop where it does not spares the proof of that.
-fn pass(pid: u16, stretch: &[u8], state: &mut [u8], out: &mut [u8], counts: &mut [usize]) -> bool {
+fn pass(
+    output: &impl Print,
+    pid: u16,
+    stretch: &[u8],
+    state: &mut [u8],
+    out: &mut [u8],
+    counts: &mut [usize],
+) -> bool {
     let mut at: usize = 0;
     while at < stretch.len() {
-        let n = pass_some(pid, &stretch[at..], state, out, counts);
+        let n = pass_some(output, pid, &stretch[at..], state, out, counts);
         if n == 0 {
             return false;
         }
@@ -80,6 +109,7 @@ fn pass(pid: u16, stretch: &[u8], state: &mut [u8], out: &mut [u8], counts: &mut
 // As many packets as `out` has room for what becomes whole, which is written. Answers their bytes; 0 where
 // the output is closed.
 fn pass_some(
+    output: &impl Print,
     pid: u16,
     stretch: &[u8],
     state: &mut [u8],
@@ -91,7 +121,7 @@ fn pass_some(
     let gathered = transport::gather(pid, stretch, state, out);
     add(counts, gathered.counts);
     let size = wire::lesser(gathered.size, out.len());
-    if !io::write_all(1, &out[..size]) {
+    if output.write_all(&out[..size]).is_err() {
         return 0;
     }
     wire::lesser(gathered.passed, stretch.len())

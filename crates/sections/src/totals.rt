@@ -1,4 +1,5 @@
 // How many packets had which answer, over the whole input; and the line that tells it.
+use std::io;
 use transport::Counts;
 
 pub const KINDS: usize = 7;
@@ -33,7 +34,7 @@ fn sum(m: usize, n: usize) -> usize {
 }
 
 // One line, in one write, on standard error.
-pub fn tell(counts: &[usize]) {
+pub fn tell(log: &impl Print, counts: &[usize]) -> io::Result<()> {
     let mut line = [0u8; LINE];
     let mut end: usize = 0;
     let mut i: usize = 0;
@@ -43,7 +44,7 @@ pub fn tell(counts: &[usize]) {
     }
     end = text::put(&mut line, end, b"\n");
     let size = wire::lesser(end, LINE);
-    io::write_all(2, &line[..size]);
+    log.write_all(&line[..size])
 }
 
 fn put_count(line: &mut [u8], at: usize, i: usize, count: usize) -> usize {

@@ -6,37 +6,38 @@ use crate::tag02::*;
 use crate::tag05::*;
 use crate::tag15::print_path;
 use ait_descriptors::{Described, Item, Raw};
+use std::io;
 
-pub fn print_described(s: &[u8], d: Described) {
-    io::write_all(1, b"descriptor");
+pub fn print_described(rt: &impl Print, s: &[u8], d: Described) -> io::Result<()> {
+    rt.write_all(b"descriptor")?;
     match d {
-        Described::Application(x) => print_00(x),
-        Described::Names(n) => print_names(n),
-        Described::Local(x) => print_local(x),
-        Described::Remote(x) => print_remote(x),
-        Described::Bases(x) => print_bases(x),
-        Described::Selector(x) => print_selector(s, x),
-        Described::Identifiers(n) => print_identifiers(n),
-        Described::Path(p) => print_path(s, p),
-        Described::Raw(x) => print_raw(s, x),
+        Described::Application(x) => print_00(rt, x)?,
+        Described::Names(n) => print_names(rt, n)?,
+        Described::Local(x) => print_local(rt, x)?,
+        Described::Remote(x) => print_remote(rt, x)?,
+        Described::Bases(x) => print_bases(rt, x)?,
+        Described::Selector(x) => print_selector(rt, s, x)?,
+        Described::Identifiers(n) => print_identifiers(rt, n)?,
+        Described::Path(p) => print_path(rt, s, p)?,
+        Described::Raw(x) => print_raw(rt, s, x)?,
     }
-    io::write_all(1, b"\n");
+    rt.write_all(b"\n")
 }
 
-fn print_raw(s: &[u8], x: Raw) {
-    io::write_all(1, b" raw");
-    print_number(x.tag as u64);
+fn print_raw(rt: &impl Print, s: &[u8], x: Raw) -> io::Result<()> {
+    rt.write_all(b" raw")?;
+    print_number(rt, x.tag as u64)?;
     let contents = x.contents;
-    print_span(s, contents);
+    print_span(rt, s, contents)
 }
 
-pub fn print_item(s: &[u8], x: Item) {
+pub fn print_item(rt: &impl Print, s: &[u8], x: Item) -> io::Result<()> {
     match x {
-        Item::Profile(p) => print_profile(p),
-        Item::Label(l) => print_label(l),
-        Item::Name(n) => print_name(s, n),
-        Item::Base(b) => print_base(s, b),
-        Item::Identifier(i) => print_identifier(i),
+        Item::Profile(p) => print_profile(rt, p)?,
+        Item::Label(l) => print_label(rt, l)?,
+        Item::Name(n) => print_name(rt, s, n)?,
+        Item::Base(b) => print_base(rt, s, b)?,
+        Item::Identifier(i) => print_identifier(rt, i)?,
     }
-    io::write_all(1, b"\n");
+    rt.write_all(b"\n")
 }

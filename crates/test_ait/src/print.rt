@@ -1,40 +1,40 @@
 // Words of a line.
 use ait_descriptors::Span;
 use section::{Refusal, Spot};
+use std::io;
 
-pub fn print_number(n: u64) {
-    io::write_all(1, b" ");
-    io::print_decimal(1, n);
+pub fn print_number(rt: &impl Print, n: u64) -> io::Result<()> {
+    print!(rt; " {n}")
 }
 
-pub fn print_end(r: Refusal) {
-    io::write_all(1, b"end");
-    print_refusal(r);
+pub fn print_end(rt: &impl Print, r: Refusal) -> io::Result<()> {
+    rt.write_all(b"end")?;
+    print_refusal(rt, r)
 }
 
 // The line's end: the number and, where it has one, its place: 5@12.
-pub fn print_refusal(r: Refusal) {
-    print_number(r.number as u64);
+pub fn print_refusal(rt: &impl Print, r: Refusal) -> io::Result<()> {
+    print_number(rt, r.number as u64)?;
     let place = r.place;
     if let Spot::Byte(p) = place {
-        io::write_all(1, b"@");
-        io::print_decimal(1, p as u64);
+        print!(rt; "@{p}")?;
     }
-    io::write_all(1, b"\n");
+    rt.write_all(b"\n")
 }
 
 // The bytes of a span, in hexadecimal.
-pub fn print_span(s: &[u8], x: Span) {
-    io::write_all(1, b" ");
-    print_bytes(ait_read::part(s, x.start, x.size));
+pub fn print_span(rt: &impl Print, s: &[u8], x: Span) -> io::Result<()> {
+    rt.write_all(b" ")?;
+    print_bytes(rt, ait_read::part(s, x.start, x.size))
 }
 
-fn print_bytes(b: &[u8]) {
-    io::write_all(1, b"<");
+fn print_bytes(rt: &impl Print, b: &[u8]) -> io::Result<()> {
+    rt.write_all(b"<")?;
     let mut i = 0;
     while i < b.len() {
-        io::print_hex(1, b[i] as u64, 2);
+        let byte = b[i];
+        print!(rt; "{byte:02x}")?;
         i += 1;
     }
-    io::write_all(1, b">");
+    rt.write_all(b">")
 }

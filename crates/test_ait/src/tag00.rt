@@ -1,25 +1,26 @@
 // What is printed of a 0x00, a profile and a label.
 use crate::print::print_number;
 use ait_descriptors::{ApplicationDescriptor, Profile};
+use std::io;
 
-pub fn print_00(x: ApplicationDescriptor) {
-    io::write_all(1, b" application");
-    print_number(x.profiles as u64);
-    print_number(x.bound as u64);
-    print_number(x.visibility as u64);
-    print_number(x.priority as u64);
-    print_number(x.labels as u64);
+pub fn print_00(rt: &impl Print, x: ApplicationDescriptor) -> io::Result<()> {
+    rt.write_all(b" application")?;
+    print_number(rt, x.profiles as u64)?;
+    print_number(rt, x.bound as u64)?;
+    print_number(rt, x.visibility as u64)?;
+    print_number(rt, x.priority as u64)?;
+    print_number(rt, x.labels as u64)
 }
 
-pub fn print_profile(p: Profile) {
-    io::write_all(1, b"profile");
-    print_number(p.number as u64);
-    print_number(p.major as u64);
-    print_number(p.minor as u64);
-    print_number(p.micro as u64);
+pub fn print_profile(rt: &impl Print, p: Profile) -> io::Result<()> {
+    rt.write_all(b"profile")?;
+    print_number(rt, p.number as u64)?;
+    print_number(rt, p.major as u64)?;
+    print_number(rt, p.minor as u64)?;
+    print_number(rt, p.micro as u64)
 }
 
-pub fn print_label(label: u8) {
-    io::write_all(1, b"label");
-    print_number(label as u64);
+pub fn print_label(rt: &impl Print, label: u8) -> io::Result<()> {
+    rt.write_all(b"label")?;
+    print_number(rt, label as u64)
 }

@@ -2,57 +2,65 @@
 use crate::print::*;
 use ait_descriptors::{Base, Bases, Local, Remote, Selector};
 use ait_read::{ExtensionAnswer, Scope};
+use std::io;
 
-pub fn print_local(x: Local) {
-    io::write_all(1, b" local");
-    print_number(x.label as u64);
-    print_number(x.component as u64);
+pub fn print_local(rt: &impl Print, x: Local) -> io::Result<()> {
+    rt.write_all(b" local")?;
+    print_number(rt, x.label as u64)?;
+    print_number(rt, x.component as u64)
 }
 
-pub fn print_remote(x: Remote) {
-    io::write_all(1, b" remote");
-    print_number(x.label as u64);
-    print_number(x.network as u64);
-    print_number(x.transport as u64);
-    print_number(x.service as u64);
-    print_number(x.component as u64);
+pub fn print_remote(rt: &impl Print, x: Remote) -> io::Result<()> {
+    rt.write_all(b" remote")?;
+    print_number(rt, x.label as u64)?;
+    print_number(rt, x.network as u64)?;
+    print_number(rt, x.transport as u64)?;
+    print_number(rt, x.service as u64)?;
+    print_number(rt, x.component as u64)
 }
 
-pub fn print_bases(x: Bases) {
-    io::write_all(1, b" bases");
-    print_number(x.label as u64);
-    print_number(x.bases as u64);
+pub fn print_bases(rt: &impl Print, x: Bases) -> io::Result<()> {
+    rt.write_all(b" bases")?;
+    print_number(rt, x.label as u64)?;
+    print_number(rt, x.bases as u64)
 }
 
-pub fn print_selector(s: &[u8], x: Selector) {
-    io::write_all(1, b" selector");
-    print_number(x.protocol as u64);
-    print_number(x.label as u64);
+pub fn print_selector(rt: &impl Print, s: &[u8], x: Selector) -> io::Result<()> {
+    rt.write_all(b" selector")?;
+    print_number(rt, x.protocol as u64)?;
+    print_number(rt, x.label as u64)?;
     let selector = x.selector;
-    print_span(s, selector);
+    print_span(rt, s, selector)
 }
 
-pub fn print_base(s: &[u8], b: Base) {
-    io::write_all(1, b"base");
+pub fn print_base(rt: &impl Print, s: &[u8], b: Base) -> io::Result<()> {
+    rt.write_all(b"base")?;
     let text = b.text;
-    print_span(s, text);
-    print_number(b.extensions as u64);
+    print_span(rt, s, text)?;
+    print_number(rt, b.extensions as u64)
 }
 
-pub fn print_extensions(s: &[u8], scope: Scope, j: usize, k: usize) {
+pub fn print_extensions(
+    rt: &impl Print,
+    s: &[u8],
+    scope: Scope,
+    j: usize,
+    k: usize,
+) -> io::Result<()> {
     let mut m: usize = 0;
     while m < 1024 {
         match ait_read::extension_at(s, scope, j, k, m) {
             ExtensionAnswer::Refused(r) => {
-                print_end(r);
-                return;
+                print_end(rt, r)?;
+                return Ok(());
             }
             ExtensionAnswer::Found(x) => {
-                io::write_all(1, b"extension");
-                print_span(s, x);
-                io::write_all(1, b"\n");
+                rt.write_all(b"extension")?;
+                print_span(rt, s, x)?;
+                rt.write_all(b"\n")?;
             }
         }
         m += 1;
     }
+    Ok(())
 }

@@ -1,8 +1,9 @@
 // What is printed of a 0x15.
 use crate::print::print_span;
 use ait_descriptors::Span;
+use std::io;
 
-pub fn print_path(s: &[u8], path: Span) {
-    io::write_all(1, b" path");
-    print_span(s, path);
+pub fn print_path(rt: &impl Print, s: &[u8], path: Span) -> io::Result<()> {
+    rt.write_all(b" path")?;
+    print_span(rt, s, path)
 }

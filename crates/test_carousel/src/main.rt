@@ -10,6 +10,8 @@
 //   t length 16, section              step
 //   h number 16                       hand-out
 //   m number 16                       missing report
+#![tactic(auto)]
+
 ghost use Rattle.std.specs.Prelude.{◌≤◌};
 
 use carousel_handout::Report;
@@ -17,6 +19,7 @@ use carousel_messages::{MOST_BYTES, MOST_MODULES};
 use carousel_record::{Carousel, MARK_WORDS, Module};
 use carousel_step::Answer;
 use section::{Refusal, Spot};
+use std::io;
 
 // Room for the largest image, and some bytes more.
 const MEMORY: usize = MOST_BYTES + 64;
@@ -28,15 +31,15 @@ struct Kept {
     length: usize,
 }
 
-fn main() {
-    let mut buffer = io::large_buffer();
-    let n = io::read_full(0, &mut buffer);
+fn main(rt: HostRuntime) -> io::Result<()> {
+    let mut buffer = streams::large_buffer();
+    let n = streams::read_full(&mut rt.stdin(), &mut buffer);
     let mut memory = [0u8; MEMORY];
-    follow(&buffer[..n], &mut memory);
+    follow(&rt, &buffer[..n], &mut memory)
 }
 
 // Each command, as far as whole ones go.
-fn follow(s: &[u8], memory: &mut [u8]) {
+fn follow(rt: &impl Print, s: &[u8], memory: &mut [u8]) -> io::Result<()> {
     let mut kept = Kept {
         record: carousel_record::empty(),
         length: 0,
@@ -46,11 +49,12 @@ fn follow(s: &[u8], memory: &mut [u8]) {
         let rest = &s[at..];
         let size = command_size(rest);
         if rest.len() < size {
-            return;
+            return Ok(());
         }
-        kept = obey(kept, &rest[0..size], memory);
+        kept = obey(rt, kept, &rest[0..size], memory)?;
         at += size;
     }
+    Ok(())
 }
 
 // A command's size: never 0, so that each turn moves on.
@@ -67,39 +71,45 @@ fn command_size(s: &[u8]) -> usize
     }
 }
 
-fn obey(kept: Kept, s: &[u8], memory: &mut [u8]) -> Kept {
+fn obey(rt: &impl Print, kept: Kept, s: &[u8], memory: &mut [u8]) -> io::Result<Kept> {
     let c = kept.record;
     let n = kept.length;
     match wire::byte_at(s, 0) {
-        b's' => start(s, memory),
-        b'l' => lengthened(c, s, memory),
+        b's' => start(rt, s, memory),
+        b'l' => lengthened(rt, c, s, memory),
         b'i' => {
-            paint(s, memory);
-            kept
+            paint(rt, s, memory)?;
+            Ok(kept)
         }
         b't' => {
-            let record = take(c, n, s, memory);
-            Kept { record, length: n }
+            let record = take(rt, c, n, s, memory)?;
+            Ok(Kept { record, length: n })
         }
-        _ => obey_within(c, n, s, memory),
+        _ => obey_within(rt, c, n, s, memory),
     }
 }
 
 // The commands that leave the memory as it is.
-fn obey_within(c: Carousel, n: usize, s: &[u8], memory: &[u8]) -> Kept {
+fn obey_within(
+    rt: &impl Print,
+    c: Carousel,
+    n: usize,
+    s: &[u8],
+    memory: &[u8],
+) -> io::Result<Kept> {
     let mut record = c;
     match wire::byte_at(s, 0) {
         b'p' => {
-            record = poke(c, s);
+            record = poke(rt, c, s)?;
         }
         b'h' => {
-            hand_out(c, n, s, memory);
+            hand_out(rt, c, n, s, memory)?;
         }
         _ => {
-            report(c, s);
+            report(rt, c, s)?;
         }
     }
-    Kept { record, length: n }
+    Ok(Kept { record, length: n })
 }
 
 // 24 bits of a command, not past the memory's end.
@@ -111,14 +121,14 @@ fn place_in(s: &[u8], memory: &[u8]) -> usize {
     place
 }
 
-fn start(s: &[u8], memory: &mut [u8]) -> Kept {
+fn start(rt: &impl Print, s: &[u8], memory: &mut [u8]) -> io::Result<Kept> {
     let n = place_in(s, memory);
     fill(memory, n, wire::byte_at(s, 4));
-    io::write_all(1, b"start");
-    print_number(n as u64);
-    io::write_all(1, b"\n");
+    rt.write_all(b"start")?;
+    print_number(rt, n as u64)?;
+    rt.write_all(b"\n")?;
     let record = carousel_record::empty();
-    Kept { record, length: n }
+    Ok(Kept { record, length: n })
 }
 
 fn fill(memory: &mut [u8], n: usize, value: u8) {
@@ -132,26 +142,27 @@ fn fill(memory: &mut [u8], n: usize, value: u8) {
     }
 }
 
-fn lengthened(record: Carousel, s: &[u8], memory: &[u8]) -> Kept {
+fn lengthened(rt: &impl Print, record: Carousel, s: &[u8], memory: &[u8]) -> io::Result<Kept> {
     let n = place_in(s, memory);
-    io::write_all(1, b"length");
-    print_number(n as u64);
-    io::write_all(1, b"\n");
-    Kept { record, length: n }
+    rt.write_all(b"length")?;
+    print_number(rt, n as u64)?;
+    rt.write_all(b"\n")?;
+    Ok(Kept { record, length: n })
 }
 
-fn paint(s: &[u8], memory: &mut [u8]) {
-    io::write_all(1, b"paint\n");
+fn paint(rt: &impl Print, s: &[u8], memory: &mut [u8]) -> io::Result<()> {
+    rt.write_all(b"paint\n")?;
     let place = place_in(s, memory);
     if memory.len() <= place {
-        return;
+        return Ok(());
     }
     memory[place] = wire::byte_at(s, 4);
+    Ok(())
 }
 
 // The field's number is the second byte, the place in its array the next two.
-fn poke(c: Carousel, s: &[u8]) -> Carousel {
-    io::write_all(1, b"poke\n");
+fn poke(rt: &impl Print, c: Carousel, s: &[u8]) -> io::Result<Carousel> {
+    rt.write_all(b"poke\n")?;
     let mut next = c;
     let place = wire::sixteen_at(s, 2) as usize;
     match wire::byte_at(s, 1) {
@@ -176,7 +187,7 @@ fn poke(c: Carousel, s: &[u8]) -> Carousel {
             }
         }
     }
-    next
+    Ok(next)
 }
 
 fn poked_module(m: Module, s: &[u8]) -> Module {
@@ -198,96 +209,104 @@ fn poked_module(m: Module, s: &[u8]) -> Module {
     next
 }
 
-fn take(c: Carousel, n: usize, s: &[u8], memory: &mut [u8]) -> Carousel {
+fn take(
+    rt: &impl Print,
+    c: Carousel,
+    n: usize,
+    s: &[u8],
+    memory: &mut [u8],
+) -> io::Result<Carousel> {
     if memory.len() < n {
-        return c;
+        return Ok(c);
     }
     if s.len() < 3 {
-        return c;
+        return Ok(c);
     }
     let stepped = carousel_step::step(c, &s[3..], &mut memory[0..n]);
     let answer = stepped.answer;
     let record = stepped.state;
-    io::write_all(1, b"step");
-    print_answer(answer);
-    print_digest(record_digest(record));
-    print_digest(digest(&memory[0..n]));
-    io::write_all(1, b"\n");
-    record
+    rt.write_all(b"step")?;
+    print_answer(rt, answer)?;
+    print_digest(rt, record_digest(record))?;
+    print_digest(rt, digest(&memory[0..n]))?;
+    rt.write_all(b"\n")?;
+    Ok(record)
 }
 
 // The number and the kind.
-fn print_answer(a: Answer) {
+fn print_answer(rt: &impl Print, a: Answer) -> io::Result<()> {
     match a {
         Answer::New => {
-            io::write_all(1, b" 0 new");
+            rt.write_all(b" 0 new")?;
         }
         Answer::Same => {
-            io::write_all(1, b" 0 same");
+            rt.write_all(b" 0 same")?;
         }
         Answer::Stored => {
-            io::write_all(1, b" 0 stored");
+            rt.write_all(b" 0 stored")?;
         }
         Answer::Repeated => {
-            io::write_all(1, b" 0 repeated");
+            rt.write_all(b" 0 repeated")?;
         }
         Answer::Refused(r) => {
-            print_refusal(r);
-            io::write_all(1, b" none");
+            print_refusal(rt, r)?;
+            rt.write_all(b" none")?;
         }
     }
+    Ok(())
 }
 
 // A refusal's number and, where it has one, its place: 5@12.
-fn print_refusal(r: Refusal) {
-    print_number(r.number as u64);
+fn print_refusal(rt: &impl Print, r: Refusal) -> io::Result<()> {
+    print_number(rt, r.number as u64)?;
     let place = r.place;
     if let Spot::Byte(p) = place {
-        io::write_all(1, b"@");
-        io::print_decimal(1, p as u64);
+        print!(rt; "@{p}")?;
     }
+    Ok(())
 }
 
-fn hand_out(c: Carousel, n: usize, s: &[u8], memory: &[u8]) {
+fn hand_out(rt: &impl Print, c: Carousel, n: usize, s: &[u8], memory: &[u8]) -> io::Result<()> {
     if memory.len() < n {
-        return;
+        return Ok(());
     }
     let image = &memory[0..n];
     let number = wire::sixteen_at(s, 1);
-    io::write_all(1, b"handout");
-    print_number(carousel_handout::handout_number(c, image, number) as u64);
+    rt.write_all(b"handout")?;
+    print_number(
+        rt,
+        carousel_handout::handout_number(c, image, number) as u64,
+    )?;
     let part = carousel_handout::handout(c, image, number);
-    print_number(part.len() as u64);
-    print_digest(digest(part));
-    io::write_all(1, b"\n");
+    print_number(rt, part.len() as u64)?;
+    print_digest(rt, digest(part))?;
+    rt.write_all(b"\n")
 }
 
-fn report(c: Carousel, s: &[u8]) {
-    io::write_all(1, b"missing");
+fn report(rt: &impl Print, c: Carousel, s: &[u8]) -> io::Result<()> {
+    rt.write_all(b"missing")?;
     match carousel_handout::missing(c, wire::sixteen_at(s, 1)) {
         Report::Refused(r) => {
-            print_number(r.number as u64);
+            print_number(rt, r.number as u64)?;
         }
         Report::Whole => {
-            io::write_all(1, b" 0 none");
+            rt.write_all(b" 0 none")?;
         }
         Report::Lacking(l) => {
-            print_number(0);
-            print_number(l.count as u64);
-            print_number(l.lowest as u64);
+            print_number(rt, 0)?;
+            print_number(rt, l.count as u64)?;
+            print_number(rt, l.lowest as u64)?;
         }
     }
-    io::write_all(1, b"\n");
+    rt.write_all(b"\n")
 }
 
-fn print_number(n: u64) {
-    io::write_all(1, b" ");
-    io::print_decimal(1, n);
+fn print_number(rt: &impl Print, n: u64) -> io::Result<()> {
+    print!(rt; " {n}")
 }
 
-fn print_digest(d: u32) {
-    io::write_all(1, b" ");
-    io::print_hex(1, d as u64, 8);
+fn print_digest(rt: &impl Print, d: u32) -> io::Result<()> {
+    print!(rt; " {d:08x}")
 }
 
 // A digest takes in one number after the other, modulo a prime: a step a byte, where the CRC's

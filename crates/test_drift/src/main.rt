@@ -4,101 +4,107 @@
 // count (32 bits each), the room (8 bits), then the numbers (32 bits each); what `write` answers, and
 // the bytes that it leaves. tests/test_drift.py, an independent second program, makes the input and
 // says what must come out.
+#![tactic(auto)]
+
 ghost use Rattle.std.specs.Prelude.{◌≡◌, ◌≤◌, length};
 
 use drift_list::{FixAnswer, Reading, State, Written};
+use std::io;
 
 const CASE: usize = 128;
 
-fn main() {
-    let mut buffer = io::large_buffer();
-    let n = io::read_full(0, &mut buffer);
-    print_each(&buffer[..n]);
+fn main(rt: HostRuntime) -> io::Result<()> {
+    let mut buffer = streams::large_buffer();
+    let n = streams::read_full(&mut rt.stdin(), &mut buffer);
+    print_each(&rt, &buffer[..n])
 }
 
 // A case after another, as far as whole ones go.
-fn print_each(s: &[u8]) {
+fn print_each(rt: &impl Print, s: &[u8]) -> io::Result<()> {
     let mut at: usize = 0;
     while CASE <= s.len() - at {
-        print_case(&s[at..]);
+        print_case(rt, &s[at..])?;
         at += CASE;
     }
+    Ok(())
 }
 
-fn print_case(s: &[u8]) {
+fn print_case(rt: &impl Print, s: &[u8]) -> io::Result<()> {
     let n = wire::eight_at(s, 1);
     if s.len() < 2 + n {
-        return;
+        return Ok(());
     }
     let told = &s[2..2 + n];
     if wire::byte_at(s, 0) == 0 {
-        print_list(told);
+        print_list(rt, told)?;
     } else {
-        print_written(told);
+        print_written(rt, told)?;
     }
+    Ok(())
 }
 
-fn print_list(list: &[u8]) {
-    io::write_all(1, b"read");
+fn print_list(rt: &impl Print, list: &[u8]) -> io::Result<()> {
+    rt.write_all(b"read")?;
     match drift_list::read(list) {
-        Reading::Refused(n) => print_number(n as u64),
+        Reading::Refused(n) => print_number(rt, n as u64)?,
         Reading::Issue { issue, count } => {
-            print_number(0);
-            print_number(issue as u64);
-            print_number(count as u64);
+            print_number(rt, 0)?;
+            print_number(rt, issue as u64)?;
+            print_number(rt, count as u64)?;
         }
     }
-    io::write_all(1, b"\n");
-    print_place(list, 0);
-    print_place(list, 1);
-    print_place(list, 2);
-    print_place(list, 3);
-    print_place(list, 4);
+    rt.write_all(b"\n")?;
+    print_place(rt, list, 0)?;
+    print_place(rt, list, 1)?;
+    print_place(rt, list, 2)?;
+    print_place(rt, list, 3)?;
+    print_place(rt, list, 4)
 }
 
-fn print_place(list: &[u8], k: usize) {
-    print_answer(b"record", k, drift_list::record_at(list, k));
-    print_answer(b"walk", k, drift_list::walk_at(list, k));
+fn print_place(rt: &impl Print, list: &[u8], k: usize) -> io::Result<()> {
+    print_answer(rt, b"record", k, drift_list::record_at(list, k))?;
+    print_answer(rt, b"walk", k, drift_list::walk_at(list, k))
 }
 
-fn print_answer(call: &[u8], k: usize, a: FixAnswer) {
-    io::write_all(1, call);
-    print_number(k as u64);
+fn print_answer(rt: &impl Print, call: &[u8], k: usize, a: FixAnswer) -> io::Result<()> {
+    rt.write_all(call)?;
+    print_number(rt, k as u64)?;
     match a {
-        FixAnswer::Refused(n) => print_number(n as u64),
+        FixAnswer::Refused(n) => print_number(rt, n as u64)?,
         FixAnswer::Found(fix) => {
             let state = fix.state;
-            print_number(0);
-            print_number(fix.buoy as u64);
-            print_state(state);
-            print_signed(fix.longitude);
-            print_signed(fix.latitude);
-            print_number(fix.minute as u64);
+            print_number(rt, 0)?;
+            print_number(rt, fix.buoy as u64)?;
+            print_state(rt, state)?;
+            print_signed(rt, fix.longitude)?;
+            print_signed(rt, fix.latitude)?;
+            print_number(rt, fix.minute as u64)?;
         }
     }
-    io::write_all(1, b"\n");
+    rt.write_all(b"\n")
 }
 
-fn print_state(s: State) {
+fn print_state(rt: &impl Print, s: State) -> io::Result<()> {
     match s {
-        State::None => io::write_all(1, b" none"),
-        State::Fix => io::write_all(1, b" fix"),
-        State::LastKnown => io::write_all(1, b" last"),
+        State::None => rt.write_all(b" none")?,
+        State::Fix => rt.write_all(b" fix")?,
+        State::LastKnown => rt.write_all(b" last")?,
     };
+    Ok(())
 }
 
-fn print_number(n: u64) {
-    io::write_all(1, b" ");
-    io::print_decimal(1, n);
+fn print_number(rt: &impl Print, n: u64) -> io::Result<()> {
+    print!(rt; " {n}")
 }
 
-fn print_signed(z: i32) {
+fn print_signed(rt: &impl Print, z: i32) -> io::Result<()> {
     if z < 0 {
-        io::write_all(1, b" -");
-        io::print_decimal(1, magnitude(z) as u64 + 1);
+        let n = magnitude(z) as u64 + 1;
+        print!(rt; " -{n}")?;
     } else {
-        print_number(magnitude(z) as u64);
+        print_number(rt, magnitude(z) as u64)?;
     }
+    Ok(())
 }
 
 // n for n, and n for -(n + 1).
@@ -109,14 +115,14 @@ fn magnitude(z: i32) -> u32 {
     z as u32
 }
 
-fn print_written(s: &[u8]) {
+fn print_written(rt: &impl Print, s: &[u8]) -> io::Result<()> {
     let issue = wire::thirty_two_at(s, 0);
     let count = wire::thirty_two_at(s, 4);
     let room = wire::eight_at(s, 8);
     let mut numbers = no_numbers();
     let n = fill(&mut numbers, s);
     let mut out = marked();
-    print_write(issue, count, &numbers[..n], &mut out[..room]);
+    print_write(rt, issue, count, &numbers[..n], &mut out[..room])
 }
 
 // The numbers behind the first nine bytes, as many as there are; answers how many.
@@ -144,27 +150,35 @@ fn signed(v: u32) -> i32 {
     !((0xFFFF_FFFF - v) as i32)
 }
 
-fn print_write(issue: u32, count: u32, numbers: &[i32], out: &mut [u8]) {
+fn print_write(
+    rt: &impl Print,
+    issue: u32,
+    count: u32,
+    numbers: &[i32],
+    out: &mut [u8],
+) -> io::Result<()> {
     let answer = drift_list::write(issue, count, numbers, out);
-    io::write_all(1, b"write");
+    rt.write_all(b"write")?;
     match answer {
-        Written::Refused(n) => print_number(n as u64),
+        Written::Refused(n) => print_number(rt, n as u64)?,
         Written::Size(size) => {
-            print_number(0);
-            print_number(size as u64);
+            print_number(rt, 0)?;
+            print_number(rt, size as u64)?;
         }
     }
-    io::write_all(1, b" ");
-    print_bytes(out);
-    io::write_all(1, b"\n");
+    rt.write_all(b" ")?;
+    print_bytes(rt, out)?;
+    rt.write_all(b"\n")
 }
 
-fn print_bytes(s: &[u8]) {
+fn print_bytes(rt: &impl Print, s: &[u8]) -> io::Result<()> {
     let mut i: usize = 0;
     while i < s.len() {
-        io::print_hex(1, wire::byte_at(s, i) as u64, 2);
+        let byte = wire::byte_at(s, i);
+        print!(rt; "{byte:02x}")?;
         i += 1;
     }
+    Ok(())
 }
 
 fn no_numbers() -> [i32; 32]

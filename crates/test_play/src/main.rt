@@ -10,10 +10,13 @@
 // the whole buffer after the call. A section ends with its own CRC, so that its CRC tells nothing of it:
 // the digest is another. tests/test_play.py, an independent second program, makes the input and says
 // what must come out.
+#![tactic(auto)]
+
 ghost use Rattle.std.specs.Prelude.{◌≡◌, ◌<◌, length};
 
 use carousel_messages::{Listed, MOST_BYTES, MOST_MODULES};
 use carousel_play::{Counted, Played, Playlist};
+use std::io;
 use wire::lesser;
 
 // The bytes of a command before its modules, of a module, and after them.
@@ -34,12 +37,12 @@ const RUBBISH: Listed = Listed {
     version: 6,
 };
 
-fn main() {
-    let mut buffer = io::large_buffer();
-    let n = io::read_full(0, &mut buffer);
+fn main(rt: HostRuntime) -> io::Result<()> {
+    let mut buffer = streams::large_buffer();
+    let n = streams::read_full(&mut rt.stdin(), &mut buffer);
     let mut image = blank();
     paint(&mut image);
-    follow(&buffer[..n], &image);
+    follow(&rt, &buffer[..n], &image)
 }
 
 fn blank() -> [u8; IMAGE]
@@ -65,17 +68,18 @@ fn painted(k: usize) -> u8 {
 }
 
 // Each command, as far as whole ones go.
-fn follow(s: &[u8], image: &[u8]) {
+fn follow(rt: &impl Print, s: &[u8], image: &[u8]) -> io::Result<()> {
     let mut at: usize = 0;
     while at < s.len() {
         let rest = &s[at..];
         let size = tail_at(rest) + TAIL;
         if rest.len() < size {
-            return;
+            return Ok(());
         }
-        obey(&rest[0..size], image);
+        obey(rt, &rest[0..size], image)?;
         at += size;
     }
+    Ok(())
 }
 
 // Where a command's modules end.
@@ -85,12 +89,12 @@ fn tail_at(s: &[u8]) -> usize
     HEAD + ENTRY * wire::eight_at(s, 8)
 }
 
-fn obey(s: &[u8], image: &[u8]) {
+fn obey(rt: &impl Print, s: &[u8], image: &[u8]) -> io::Result<()> {
     let p = playlist(s);
     let tail = &s[lesser(tail_at(s), s.len())..];
     let length = lesser(wire::thirty_two_at(tail, 0) as usize, image.len());
-    print_count(p);
-    write_within(p, &image[0..length], tail);
+    print_count(rt, p)?;
+    write_within(rt, p, &image[0..length], tail)
 }
 
 fn playlist(s: &[u8]) -> Playlist {
@@ -125,22 +129,22 @@ fn entry(s: &[u8], i: usize) -> Listed {
     }
 }
 
-fn print_count(p: Playlist) {
-    io::write_all(1, b"count");
+fn print_count(rt: &impl Print, p: Playlist) -> io::Result<()> {
+    rt.write_all(b"count")?;
     match carousel_play::section_count(p) {
-        Counted::Refused(n) => print_answer(n, 0),
-        Counted::Sections(n) => print_answer(0, n),
+        Counted::Refused(n) => print_answer(rt, n, 0)?,
+        Counted::Sections(n) => print_answer(rt, 0, n)?,
     }
-    io::write_all(1, b"\n");
+    rt.write_all(b"\n")
 }
 
 // Lends a buffer of the length that the command says.
-fn write_within(p: Playlist, image: &[u8], tail: &[u8]) {
+fn write_within(rt: &impl Print, p: Playlist, image: &[u8], tail: &[u8]) -> io::Result<()> {
     let identifier = wire::thirty_two_at(tail, 4);
     let place = wire::thirty_two_at(tail, 8) as usize;
     let room = lesser(wire::thirty_two_at(tail, 12) as usize, ROOM);
     let mut out = marked();
-    print_write(p, image, identifier, place, &mut out[..room]);
+    print_write(rt, p, image, identifier, place, &mut out[..room])
 }
 
 // Bytes to write over: a byte that was not written shows.
@@ -150,25 +154,31 @@ fn marked() -> [u8; ROOM]
     [0xEE; ROOM]
 }
 
-fn print_write(p: Playlist, image: &[u8], identifier: u32, place: usize, out: &mut [u8]) {
+fn print_write(
+    rt: &impl Print,
+    p: Playlist,
+    image: &[u8],
+    identifier: u32,
+    place: usize,
+    out: &mut [u8],
+) -> io::Result<()> {
     let answer = carousel_play::write_section(p, image, identifier, place, out);
-    io::write_all(1, b"write");
+    rt.write_all(b"write")?;
     match answer {
-        Played::Refused(n) => print_answer(n, 0),
-        Played::Size(n) => print_answer(0, n),
+        Played::Refused(n) => print_answer(rt, n, 0)?,
+        Played::Size(n) => print_answer(rt, 0, n)?,
     }
-    print_number(digest(out) as u64);
-    io::write_all(1, b"\n");
+    print_number(rt, digest(out) as u64)?;
+    rt.write_all(b"\n")
 }
 
-fn print_answer(refusal: u8, n: usize) {
-    print_number(refusal as u64);
-    print_number(n as u64);
+fn print_answer(rt: &impl Print, refusal: u8, n: usize) -> io::Result<()> {
+    print_number(rt, refusal as u64)?;
+    print_number(rt, n as u64)
 }
 
-fn print_number(n: u64) {
-    io::write_all(1, b" ");
-    io::print_decimal(1, n);
+fn print_number(rt: &impl Print, n: u64) -> io::Result<()> {
+    print!(rt; " {n}")
 }
 
 // A digest takes in one byte after the other, modulo a prime.

@@ -2,75 +2,72 @@
 // the register after its bytes, the numbers that `check` answers by the application's and by the
 // carousel's rules, with their places, and the header's fields where one of them accepts it. tests/test_section.py, an
 // independent second program, makes the input and says what must come out.
-use section::{Checked, Header, Refusal, Rules, Spot};
+#![tactic(auto)]
 
-fn main() {
-    let mut buffer = io::large_buffer();
-    let n = io::read_full(0, &mut buffer);
-    print_each(&buffer[..n]);
+use section::{Checked, Header, Refusal, Rules, Spot};
+use std::io;
+
+fn main(rt: HostRuntime) -> io::Result<()> {
+    let mut buffer = streams::large_buffer();
+    let n = streams::read_full(&mut rt.stdin(), &mut buffer);
+    print_each(&rt, &buffer[..n])
 }
 
 // A line for each stretch, as far as whole ones go.
-fn print_each(s: &[u8]) {
+fn print_each(rt: &impl Print, s: &[u8]) -> io::Result<()> {
     let mut at: usize = 0;
     while at < s.len() {
         let rest = &s[at..];
         let end = 2 + wire::sixteen_at(rest, 0) as usize;
         if rest.len() < end {
-            return;
+            return Ok(());
         }
-        print_one(&rest[2..end]);
+        print_one(rt, &rest[2..end])?;
         at += end;
     }
+    Ok(())
 }
 
-fn print_one(s: &[u8]) {
-    io::print_hex(1, section::crc(s) as u64, 8);
+fn print_one(rt: &impl Print, s: &[u8]) -> io::Result<()> {
+    let crc = section::crc(s);
+    print!(rt; "{crc:08x}")?;
     let application = section::check(s, Rules::Application);
     let carousel = section::check(s, Rules::Carousel);
-    print_number(application);
-    print_number(carousel);
-    print_header(application);
-    print_header(carousel);
-    io::write_all(1, b"\n");
+    print_number(rt, application)?;
+    print_number(rt, carousel)?;
+    print_header(rt, application)?;
+    print_header(rt, carousel)?;
+    println!(rt)
 }
 
-fn print_number(c: Checked) {
-    io::write_all(1, b" ");
+fn print_number(rt: &impl Print, c: Checked) -> io::Result<()> {
     match c {
-        Checked::Refused(r) => {
-            print_refusal(r);
-        }
-        Checked::Accepted(_) => {
-            io::print_decimal(1, 0);
-        }
+        Checked::Refused(r) => print_refusal(rt, r),
+        Checked::Accepted(_) => print!(rt; " 0"),
     }
 }
 
 // The number and, where it has one, its place: 5@12.
-fn print_refusal(r: Refusal) {
-    io::print_decimal(1, r.number as u64);
-    let place = r.place;
-    if let Spot::Byte(p) = place {
-        io::write_all(1, b"@");
-        io::print_decimal(1, p as u64);
+fn print_refusal(rt: &impl Print, r: Refusal) -> io::Result<()> {
+    let number = r.number;
+    match r.place {
+        Spot::Byte(p) => print!(rt; " {number}@{p}"),
+        Spot::Nowhere => print!(rt; " {number}"),
     }
 }
 
-fn print_header(c: Checked) {
+fn print_header(rt: &impl Print, c: Checked) -> io::Result<()> {
     match c {
-        Checked::Refused(_) => {}
-        Checked::Accepted(h) => {
-            print_field(h.table as u64, 2);
-            print_field(h.extension as u64, 4);
-            print_field(h.version as u64, 2);
-            print_field(h.section as u64, 2);
-            print_field(h.last as u64, 2);
-        }
+        Checked::Refused(_) => Ok(()),
+        Checked::Accepted(h) => print_fields(rt, h),
     }
 }
 
-fn print_field(n: u64, width: usize) {
-    io::write_all(1, b" ");
-    io::print_hex(1, n, width);
+fn print_fields(rt: &impl Print, h: Header) -> io::Result<()> {
+    let table = h.table;
+    let extension = h.extension;
+    let version = h.version;
+    let section = h.section;
+    let last = h.last;
+    print!(rt; " {table:02x} {extension:04x} {version:02x} {section:02x} {last:02x}")
 }

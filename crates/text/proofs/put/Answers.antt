@@ -1,13 +1,12 @@
 -- `put` meets its contract. The invariant: the rest of the piece, put from here on, leaves what the whole leaves.
-use Prim.Native.Nat.{◌+◌, ◌-◌, ◌≤◌}
+use Prim.Native.Nat.{◌+◌, ◌≤◌}
 use mathlib.Core.Path.{◌≡◌, refl, ◌∙◌}
 use mathlib.Core.List.{[], ◌∷◌}
 use native.Mathlib.Numerals.{add-one}
 use native.Mathlib.Omega.{arith}
 use lib.ListN.{length, drop, get_or, drop_of_length-le}
 use lib.Seq.{drop-cons}
-use borrow.Author.Rules.{rules}
-use Rattle.text.proofs.Laws.Puts.{Writing, writing-on, writing-done}
+use Rattle.text.proofs.Laws.Puts.{writing-on, writing-done}
 use Rattle.text.proofs.put.Goals as goal
 
 pub loop-i-init : goal.loop-i-init
@@ -15,8 +14,6 @@ loop-i-init c = (refl, omega arith, (refl, refl))
 
 pub loop-i-preserved : goal.loop-i-preserved
 loop-i-preserved c =
-    
-    
     let l = c.loop-i in
     let a = c.args in
     let p = a.piece.now in

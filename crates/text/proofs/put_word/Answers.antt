@@ -1,13 +1,12 @@
 -- `put_word` meets its contract. The invariant: the rest of the word, put from here on, leaves what the whole word leaves.
-use Prim.Native.Nat.{ℕ, ◌+◌, ◌-◌, ◌≤◌}
+use Prim.Native.Nat.{ℕ, ◌+◌}
 use mathlib.Core.Path.{◌≡◌, refl, ap, ◌∙◌}
 use mathlib.Core.List.{List, [], ◌∷◌}
 use native.Mathlib.Omega.{arith}
 use lib.ListN.{length, drop, get_or}
 use lib.Seq.{sets}
-use borrow.Author.Rules.{rules}
 use Rattle.text.specs.Text.{reached, word_at}
-use Rattle.text.proofs.Laws.Puts.{Puts, Writing, writing-on, writing-done}
+use Rattle.text.proofs.Laws.Puts.{Puts, writing-on, writing-done}
 use Rattle.text.proofs.Laws.Words.{word_none, word-ends, word_letter}
 use Rattle.text.proofs.put_word.Goals as goal
 use Rattle.text.proofs.put_word.Goals.{At-loop-i}
@@ -25,14 +24,10 @@ done c e = let l = c.loop-i in let a = c.args in writing-done l.out l.end _ a.ou
 
 pub returns-then-letter-eq32 : goal.returns-then-letter-eq32
 returns-then-letter-eq32 c =
-    
     done (goal.at.returns-then-letter-eq32 c).At-loop-i (word-ends _ c.loop-i.i (omega arith) c.if-letter-eq32.true)
 
 pub loop-i-preserved : goal.loop-i-preserved
 loop-i-preserved c =
-    
-    
-    
     let l = c.loop-i in
     let a = c.args in
     let w = a.words.now in

@@ -1,13 +1,9 @@
 -- `put_word` meets its contract. The invariant: the rest of the word, put from here on, leaves what the whole word leaves.
-use Prim.Native.Nat.{ℕ, ◌+◌, ◌-◌, ◌≤◌}
-use mathlib.Core.Path.{◌≡◌, refl, ap, ◌∙◌}
-use mathlib.Core.List.{List, [], ◌∷◌}
-use native.Mathlib.Omega.{arith}
-use lib.ListN.{length, drop, get_or}
-use lib.Seq.{sets}
-use Rattle.text.specs.Text.{reached, word_at}
-use Rattle.text.proofs.Laws.Puts.{Puts, Writing, writing-on, writing-done}
-use Rattle.text.proofs.Laws.Words.{word_none, word-ends, word_letter}
+use Prim.Native.Nat.{◌-◌, ◌≤◌}
+use mathlib.Core.Path.{◌≡◌}
+use lib.ListN.{length, drop}
+use Rattle.text.specs.Text.{word_at}
+use Rattle.text.proofs.Laws.Puts.{Writing}
 use Rattle.text.proofs.put_word.Given as goal
 
 abbrev pub invariant-loop-i : goal.invariant-loop-i

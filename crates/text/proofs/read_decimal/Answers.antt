@@ -1,10 +1,8 @@
 -- `read_decimal` meets its contract. The invariant: what is left is digits where all are, and says after n what all say.
-use borrow.Author.Rules.{rules}
-use Prim.Native.Nat.{◌+◌, ◌-◌, ◌*◌, ◌≤◌, ◌<◌}
-use mathlib.Core.Path.{◌≡◌, refl, sym, ◌∙◌}
+use Prim.Native.Nat.{◌+◌, ◌-◌, ◌*◌, ◌<◌}
+use mathlib.Core.Path.{refl, sym, ◌∙◌}
 use native.Mathlib.Omega.{arith}
 use lib.ListN.{length, drop, get_or}
-use Rattle.text.specs.Digits.{all_digits, value_from}
 use Rattle.text.proofs.Laws.Said.{value-from, left-none, low-ends, high-ends, digit-on, value_on, says-empty, says_other, says-beyond, says-number}
 use Rattle.text.proofs.read_decimal.Goals as goal
 
@@ -16,21 +14,18 @@ loop-i-init c = (omega arith, omega arith, refl, refl)
 
 pub returns-then-d-lt48 : goal.returns-then-d-lt48
 returns-then-d-lt48 c =
-    
     let l = c.loop-i in
     let s = c.args.digits.now in
     says_other _ s (sym l.invariant.2 ∙ low-ends s l.i (omega arith) c.if-d-lt48.true)
 
 pub returns-then-d-gt57 : goal.returns-then-d-gt57
 returns-then-d-gt57 c =
-    
     let l = c.loop-i in
     let s = c.args.digits.now in
     says_other _ s (sym l.invariant.2 ∙ high-ends s l.i (omega arith) c.if-d-gt57.true)
 
 pub returns-then-most-n : goal.returns-then-most-n
 returns-then-most-n c =
-    
     let l = c.loop-i in
     let s = c.args.digits.now in
     let v = value_on s l.i (omega arith) l.n in
@@ -39,8 +34,6 @@ returns-then-most-n c =
 
 pub loop-i-preserved : goal.loop-i-preserved
 loop-i-preserved c =
-    
-    
     let l = c.loop-i in
     let s = c.args.digits.now in
     let h : l.i < length s = omega arith in (
@@ -52,7 +45,6 @@ loop-i-preserved c =
 
 pub returns : goal.returns
 returns c =
-    
     let l = c.loop-i in
     let s = c.args.digits.now in
     let e = left-none l.n s l.i (omega arith) in

@@ -1,10 +1,8 @@
 -- `read_decimal` meets its contract. The invariant: what is left is digits where all are, and says after n what all say.
-use Prim.Native.Nat.{◌+◌, ◌-◌, ◌*◌, ◌≤◌, ◌<◌}
-use mathlib.Core.Path.{◌≡◌, refl, sym, ◌∙◌}
-use native.Mathlib.Omega.{arith}
-use lib.ListN.{length, drop, get_or}
+use Prim.Native.Nat.{◌-◌, ◌≤◌}
+use mathlib.Core.Path.{◌≡◌}
+use lib.ListN.{length, drop}
 use Rattle.text.specs.Digits.{all_digits, value_from}
-use Rattle.text.proofs.Laws.Said.{value-from, left-none, low-ends, high-ends, digit-on, value_on, says-empty, says_other, says-beyond, says-number}
 use Rattle.text.proofs.read_decimal.Given as goal
 
 abbrev pub invariant-loop-i : goal.invariant-loop-i

@@ -1,14 +1,13 @@
 -- `word_start` meets its contract. The invariant: the word is that of what is left.
-use Prim.Native.Nat.{ℕ, ◌+◌, ◌-◌, ◌≤◌}
-use mathlib.Core.Path.{◌≡◌, refl, sym, ap, ◌∙◌}
+use Prim.Native.Nat.{ℕ, ◌+◌}
+use mathlib.Core.Path.{refl, sym, ap, ◌∙◌}
 use mathlib.Core.List.{List}
-use mathlib.Core.Logic.{⊎_elim}
 use native.Mathlib.Omega.{arith}
-use lib.ListN.{length, drop}
-use borrow.Author.Rules.{rules}
+use lib.ListN.{drop}
 use Rattle.text.specs.Text.{word_at}
 use Rattle.text.proofs.Laws.Words.{word_none, word-passed, word-within}
 use Rattle.text.proofs.word_start.Goals as goal
+use Rattle.text.proofs.word_start.Goals.{then-words-i-eq32, else-words-i-eq32}
 
 pub loop-i-init : goal.loop-i-init
 loop-i-init c = (omega arith, refl)
@@ -21,17 +20,15 @@ returns-then-left-eq0 c =
 
 pub loop-i-preserved : goal.loop-i-preserved
 loop-i-preserved c =
-    
     let s = c.args.words.now in
     let l = c.loop-i in
     let some = c.if-left-eq0.false in
     let from : ℕ → List ℕ = λ k. word_at k (drop (l.i + 1) s) in (
       omega arith,
-      ⊎_elim
-          (λ w. ap from w.1 ∙ word-passed s l.i (omega arith) l.left some w.0.taken)
-          (λ w. ap from w.1 ∙ word-within s l.i (omega arith) l.left some w.0.left)
-          c.if-words-i-eq32.branch
-          ∙ l.invariant.1,
+      elim c.if-words-i-eq32.branch [
+        | then-words-i-eq32 w ↦ ap from w.left-is ∙ word-passed s l.i (omega arith) l.left some w.if-words-i-eq32.true
+        | else-words-i-eq32 w ↦ ap from w.left-is ∙ word-within s l.i (omega arith) l.left some w.if-words-i-eq32.false
+      ] ∙ l.invariant.1,
     )
 
 pub returns : goal.returns

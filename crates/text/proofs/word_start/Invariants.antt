@@ -1,12 +1,8 @@
 -- `word_start` meets its contract. The invariant: the word is that of what is left.
-use Prim.Native.Nat.{ℕ, ◌+◌, ◌-◌, ◌≤◌}
-use mathlib.Core.Path.{◌≡◌, refl, sym, ap, ◌∙◌}
-use mathlib.Core.List.{List}
-use mathlib.Core.Logic.{⊎_elim}
-use native.Mathlib.Omega.{arith}
+use Prim.Native.Nat.{◌-◌, ◌≤◌}
+use mathlib.Core.Path.{◌≡◌}
 use lib.ListN.{length, drop}
 use Rattle.text.specs.Text.{word_at}
-use Rattle.text.proofs.Laws.Words.{word_none, word-passed, word-within}
 use Rattle.text.proofs.word_start.Given as goal
 
 abbrev pub invariant-loop-i : goal.invariant-loop-i
