@@ -1,4 +1,5 @@
 -- `drift_list::given::write_refusal` meets its contract: one law of Writer for each way.
+use native.Mathlib.Omega.{arith}
 use Rattle.drift_list.specs.Writing.{draft}
 use Rattle.drift_list.proofs.Writer.{is36-issue, is36-count, is36-number, is-width, is_fault, is37, is0}
 use Rattle.drift_list.proofs.given.write_refusal.Goals as goal
@@ -30,4 +31,4 @@ returns-then-room-size c =
 pub returns : goal.returns
 returns c =
     is0 (draft c.args.issue c.args.count c.args.numbers.now) c.args.room c.if-issue-ge65536.false c.if-count-ge65536.false
-    c.if-numbers-five.false _ _ c.widths_refusal-w.ensures c.if-w-ne0.false c.records_refusal-f.ensures c.if-f-ne0.false c.if-room-size.false
+    c.if-numbers-five.false _ _ c.widths_refusal-w.ensures c.if-w-ne0.false c.records_refusal-f.ensures c.if-f-ne0.false (omega arith)

@@ -1,6 +1,7 @@
 -- `drift_list::judge::fields_refusal` meets its contract: one law of Laws/Faults for each way.
 use mathlib.Core.Path.{◌≡◌, sym, ap, ap₂, ◌∙◌}
 use mathlib.Core.Bool.{true, ◌&&◌}
+use native.Mathlib.Omega.{arith}
 use lib.IntN.{ℤ}
 use mir.Syntax.{w32}
 use mir.Val.{to_z, of_z}
@@ -46,16 +47,16 @@ pub returns-then-f-ge10080 : goal.returns-then-f-ge10080
 returns-then-f-ge10080 c = is32 _ _ _ (x-in (goal.at.returns-then-f-ge10080 c).Else-not-within) (y-in (goal.at.returns-then-f-ge10080 c).Else-not-within-2) c.if-f-ge10080.true
 
 pub returns-then-f-before : goal.returns-then-f-before
-returns-then-f-before c = is33 _ _ _ (x-in ((goal.at.returns-then-f-before c).Else-not-within)) (y-in (goal.at.returns-then-f-before c).Else-not-within-2) c.if-f-ge10080.false c.if-f-before.true
+returns-then-f-before c = is33 _ _ _ (x-in ((goal.at.returns-then-f-before c).Else-not-within)) (y-in (goal.at.returns-then-f-before c).Else-not-within-2) (omega arith) c.if-f-before.true
 
 pub returns-then-spare-gt0 : goal.returns-then-spare-gt0
 returns-then-spare-gt0 c =
-    is34 _ _ _ (x-in (goal.at.returns-then-spare-gt0 c).Else-not-within) (y-in (goal.at.returns-then-spare-gt0 c).Else-not-within-2) c.if-f-ge10080.false c.if-f-before.false c.if-spare-gt0.true
+    is34 _ _ _ (x-in (goal.at.returns-then-spare-gt0 c).Else-not-within) (y-in (goal.at.returns-then-spare-gt0 c).Else-not-within-2) (omega arith) c.if-f-before.false c.if-spare-gt0.true
 
 pub returns-then-state_fault : goal.returns-then-state_fault
 returns-then-state_fault c =
-    is35 _ _ _ (x-in (goal.at.returns-then-state_fault c).Else-not-within) (y-in (goal.at.returns-then-state_fault c).Else-not-within-2) c.if-f-ge10080.false c.if-f-before.false c.if-spare-gt0.false (sym (state-tested (goal.at.returns-then-state_fault c).After-state_fault) ∙ c.if-state_fault.true)
+    is35 _ _ _ (x-in (goal.at.returns-then-state_fault c).Else-not-within) (y-in (goal.at.returns-then-state_fault c).Else-not-within-2) (omega arith) c.if-f-before.false c.if-spare-gt0.false (sym (state-tested (goal.at.returns-then-state_fault c).After-state_fault) ∙ c.if-state_fault.true)
 
 pub returns : goal.returns
 returns c =
-    is0 _ _ _ (x-in (goal.at.returns c).Else-not-within) (y-in (goal.at.returns c).Else-not-within-2) c.if-f-ge10080.false c.if-f-before.false c.if-spare-gt0.false (sym (state-tested (goal.at.returns c).After-state_fault) ∙ c.if-state_fault.false)
+    is0 _ _ _ (x-in (goal.at.returns c).Else-not-within) (y-in (goal.at.returns c).Else-not-within-2) (omega arith) c.if-f-before.false c.if-spare-gt0.false (sym (state-tested (goal.at.returns c).After-state_fault) ∙ c.if-state_fault.false)
