@@ -1,4 +1,6 @@
 // Acceptance of the body of an application section: refusals 7 and 18. What a well-formed body is, is said in specs/Body.antt.
+#![tactic(auto)]
+
 ghost use Rattle.std.specs.Prelude.{◌≡◌};
 ghost use Rattle.ait_body.specs.Body.{own_refusal, applications_refusal, body_refusal};
 

@@ -6,7 +6,6 @@ use Rattle.wire.specs.Fields.{byte_at, sixteen_at, bits}
 use Rattle.wire.specs.Items.{Size, fixed, count}
 use Rattle.wire.specs.Places.{Finder, bytes, part_at}
 use Rattle.ait_descriptors.specs.declared.tag00.Profile.{Profile}
-use Rattle.ait_descriptors.specs.declared.tag00.ApplicationDescriptor.{ApplicationDescriptor}
 use Rattle.ait_descriptors.specs.declared.Described.{Described}
 use Rattle.ait_descriptors.specs.declared.Described.TheVariants as described
 use Rattle.ait_descriptors.specs.Descriptor.{tag_of, tagged_rest}

@@ -5,6 +5,8 @@
 // src/descriptor.rt have a line for each tag in each list. A kind of item is its size function
 // (specs/Kinds.antt); one loop for each question goes over items of every kind (src/kinds.rt,
 // src/lists.rt).
+#![tactic(auto)]
+
 mod descriptor;
 mod kinds;
 mod lists;

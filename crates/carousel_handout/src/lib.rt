@@ -2,6 +2,7 @@
 //
 // The record is crate `carousel_record`; the hand-out and the missing report are in specs/Calls.antt. No call trusts the record: one that breaks
 // its rule is refused with 1.
+#![tactic(auto)]
 
 mod lacks;
 

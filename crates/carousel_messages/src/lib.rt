@@ -4,6 +4,7 @@
 // What a message's fields are is said in specs/Message.antt and specs/Contents.antt, the limits of
 // 10 and 11 in specs/Limits.antt, one test for each number in specs/Refusals.antt, and the answer,
 // an equation for every slice, in specs/Judged.antt.
+#![tactic(auto)]
 
 mod limits;
 mod message;

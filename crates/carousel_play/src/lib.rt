@@ -3,6 +3,7 @@
 //
 // The bytes are defined in specs/Bytes.antt, the rotation in specs/Rotation.antt, and what the calls
 // answer in specs/Calls.antt. What the box makes of a rotation is in crate `demands`, Player.antt.
+#![tactic(auto)]
 
 mod frame;
 mod payloads;

@@ -3,6 +3,7 @@
 // What a record says and its rule are in specs/Record.antt, the ways in which it changes in specs/Changes.antt, and in specs/Refusals.antt
 // what it holds against a section and against a hand-out alike. A record may be lent
 // broken: each call here has its answer for any record, and `is_ruled` tells whether one keeps its rule.
+#![tactic(auto)]
 
 mod blocks;
 mod entries;

@@ -2,6 +2,7 @@
 //
 // The record, its rule and the ways in which it changes are crate `carousel_record`. Refusals 12 to 17 and the step are in specs/Step.antt. No
 // call trusts the record: one that breaks its rule is refused with 1.
+#![tactic(auto)]
 
 mod announce;
 mod keep;

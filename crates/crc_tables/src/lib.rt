@@ -5,6 +5,8 @@
 // a local of whoever checks sections, and lent from there. What `crc_by` answers is said for every
 // list that is lent (specs/By.antt); that by the tables of `tables` it is the CRC is `by-tables` of
 // proofs/Laws/Right.antt.
+#![tactic(auto)]
+
 mod make;
 
 ghost use Rattle.std.specs.Prelude.{◌≡◌, ◌<◌, ◌≤◌, length};

@@ -3,6 +3,7 @@
 // What stands at a place of a stretch, what one section comes to, and the run are defined in
 // specs/Run.antt, the numbers of kinds and stops in specs/Kinds.antt. A section of table 0x74 goes by
 // the application rules, every other by the carousel's.
+#![tactic(auto)]
 
 ghost use Rattle.std.specs.Prelude.{◌≡◌, true, ◌≤◌, length};
 ghost use Rattle.ait_read.specs.Acceptance.{table_judged_by};

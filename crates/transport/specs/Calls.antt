@@ -1,5 +1,5 @@
 -- WHAT THE CALLS ANSWER, and what they leave in the lent state and the lent buffer. 02, §2.
-use Rattle.std.specs.Prelude.{ℕ, zero, suc, ◌+◌, ◌-◌, Bool, true, false, not, cond, ◌&&◌, List, [], ◌∷◌, ◌++◌, eqb, ltb, length, take, drop}
+use Rattle.std.specs.Prelude.{ℕ, suc, ◌+◌, ◌-◌, Bool, true, false, not, cond, ◌&&◌, List, [], ◌∷◌, eqb, ltb, length, take}
 use Rattle.wire.specs.Items.{joined}
 use Rattle.wire.specs.Pieces.{laid_first}
 use Rattle.wire.specs.Tests.{Tests, first_met}

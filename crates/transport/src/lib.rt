@@ -6,6 +6,7 @@
 //
 // The state holds the last packet and the section in hand. It is lent as bytes, so that no call has to
 // copy it: zeros at first, then carried from call to call. No call trusts it.
+#![tactic(auto)]
 
 mod hand;
 mod judge;

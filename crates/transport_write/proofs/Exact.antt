@@ -12,7 +12,7 @@ use Rattle.wire.specs.Fields.{byte_at}
 use Rattle.wire.specs.Items.{Whole, joined}
 use Rattle.wire.specs.Pieces.{laid_first}
 use Rattle.wire.specs.Tests.{holds, RisingFrom}
-use Rattle.wire.proofs.Laws.Tests.{neither, clash, lowest_met}
+use Rattle.wire.proofs.Laws.Tests.{neither, lowest_met}
 use Rattle.wire.proofs.Laws.Order.{none-exactly, nth-exactly, unmet}
 use Rattle.section.specs.Header.{length_of}
 use Rattle.section.specs.Whole.{said_length, is_short, whole_at}

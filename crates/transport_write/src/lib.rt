@@ -2,6 +2,7 @@
 //
 // Its packets are defined in specs/Writer.antt, and so is what the call answers. That they are handed
 // on as they are is in crate `transport_loss`.
+#![tactic(auto)]
 
 mod put;
 

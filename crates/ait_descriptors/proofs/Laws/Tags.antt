@@ -5,7 +5,6 @@ use mathlib.Core.Bool.{Bool, true, false}
 use mathlib.Core.List.{List}
 use lib.Dec.{eqb}
 use borrow.Author.Tests.{ne_eqb, eqb-true, eqb-false}
-use Rattle.ait_descriptors.specs.declared.Described.{Described}
 use Rattle.ait_descriptors.specs.declared.Described.TheVariants as described
 use Rattle.ait_descriptors.specs.Descriptor.{tag_of}
 use Rattle.ait_descriptors.specs.Contents.{contents_good, raw_fields, described_as, described_of}

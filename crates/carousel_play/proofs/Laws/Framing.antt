@@ -108,4 +108,4 @@ module _ (t : CarouselTable) (id : ℕ) (p : List ℕ) (few : length p < 2 ^ 16)
       go t = two (wanted_of t) (small t)
         where
           small : (t : CarouselTable) → wanted_of t < 2 ^ 16
-          small t = elim t [ Announcements ↦ omega arith | Blocks ↦ omega arith ]
+          small t = elim t as (λ k. wanted_of k < 2 ^ 16) [ Announcements ↦ omega arith | Blocks ↦ omega arith ]

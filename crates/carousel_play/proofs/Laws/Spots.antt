@@ -83,9 +83,9 @@ blocks-none a = refl
 -- THE ENTRIES OF A PLAYLIST, as the modules of the announcement that it says
 module _ (p : Playlist) where
   -- as many as are counted; the playlist's array has its 32 entries, however a machine holds them
-  pub played-count : {A : Type 0} (f : Listed → A) → length (map f p.modules) ≡ most_modules → p.count ≤ most_modules → length (to_play p).modules ≡ p.count
+  pub played-count : length p.modules ≡ most_modules → p.count ≤ most_modules → length (to_play p).modules ≡ p.count
   unfolding to_play
-  played-count f e h = let l = length-map p.modules f in length-take-le p.count p.modules (omega arith)
+  played-count e h = length-take-le p.count p.modules (omega arith)
 
   pub entry-is : (i : ℕ) → i < p.count → module_at (to_play p) i ≡ get_or p.modules i none_listed
   unfolding to_play

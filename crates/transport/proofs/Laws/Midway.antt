@@ -28,7 +28,7 @@ use Rattle.transport.proofs.Laws.States.{Good, good-says, hand-said, laid-parts,
 use Rattle.transport.proofs.Laws.Answers.{last-said}
 use Rattle.transport.proofs.Laws.Taking.{left_grown}
 use Rattle.transport.proofs.Laws.Plain.{plain-judged, plain_hands, plain-leaves, plain-long}
-use Rattle.transport.proofs.Laws.Judged.{last_in_lem, last-past, last_some, judged-answer, Taken, is-taken, not_taken}
+use Rattle.transport.proofs.Laws.Judged.{last_in_lem, last-past, last_some, judged-answer, is-taken, not_taken}
 
 -- a packet before the rest, in its parts
 module _ (p s : List ℕ) (n : ℕ) (e : length p ≡ packet_length) where

@@ -1,0 +1,60 @@
+-- `carousel_handout::missing` meets its contract: 1, 13, and else what the module lacks.
+use Prim.Native.Nat.{ℕ, ◌<◌}
+use mathlib.Core.Path.{◌≡◌, sym, ap, ◌∙◌}
+use mathlib.Core.Bool.{true}
+use native.Mathlib.Omega.{arith}
+use lib.ListN.{length, length-map}
+use borrow.Author.Tests.{not-true, not-false}
+use Rattle.carousel_messages.specs.Limits.{most_modules}
+use Rattle.carousel_handout.specs.declared.Lack.{Lack}
+use Rattle.carousel_record.specs.Record.{announced_by, record_of, place_of, missing_of, ruled_of}
+use Rattle.carousel_record.specs.declared.Carousel.{Carousel}
+use Rattle.carousel_handout.specs.declared.Report.{Report}
+use Rattle.carousel_handout.specs.Calls.{lack_of, missing_number, report_of, number_of_report}
+use Rattle.carousel_record.proofs.Laws.Rule.{ruled-count}
+use Rattle.carousel_record.proofs.Laws.Says.{says-count}
+use Rattle.carousel_handout.proofs.Laws.Calls.{lack-whole, lack-some, report-1, report-13, report-is, report-number}
+use borrow.Author.Rules.{rules}
+use Rattle.carousel_handout.proofs.missing.Goals as goal
+use Rattle.carousel_handout.proofs.missing.Goals.{After-lack_of-lack, Else-c-i, Else-not-is_ruled, Start}
+
+all-entries : (s : Start) → length s.args.c.modules ≡ most_modules
+all-entries s = s.well_formed.0.1.1.1.1.1.0.1.0.1
+
+ruled : (c : Else-not-is_ruled) → ruled_of c.args.c ≡ true
+ruled c = sym c.is_ruled.ensures ∙ c.if-not-is_ruled.false
+
+count : (c : Else-not-is_ruled) → length (announced_by c.args.c).modules ≡ c.args.c.count
+count c = says-count c.args.c (all-entries (goal.at.Else-not-is_ruled c).Start) (ruled-count _ (ruled c))
+
+found : (c : Else-c-i) → place_of (announced_by c.args.c) c.args.number < length (announced_by c.args.c).modules
+found c = let n = count (goal.at.Else-c-i c).Else-not-is_ruled in omega (arith, c.place_of-i.ensures, c.if-c-i.false)
+
+-- what the module that was found lacks
+lack : (c : After-lack_of-lack) → c.lack_of-lack.result ≡ lack_of (missing_of (record_of c.args.c) (place_of (announced_by c.args.c) c.args.number))
+lack c =
+    c.lack_of-lack.ensures ∙ ap (λ i. lack_of (missing_of (record_of c.args.c) i)) c.place_of-i.ensures
+
+-- a report, with its number
+numbered : (c : Carousel) (n : ℕ) (r : Report) → r ≡ report_of c n → (r ≡ report_of c n) × (number_of_report r ≡ missing_number c n)
+numbered c n r e = (e, ap number_of_report e ∙ report-number c n)
+
+pub returns-then-not-is_ruled : goal.returns-then-not-is_ruled
+returns-then-not-is_ruled c = numbered _ _ _ (sym (report-1 c.args.c c.args.number (sym c.is_ruled.ensures ∙ c.if-not-is_ruled.true)))
+
+pub returns-then-c-i : goal.returns-then-c-i
+returns-then-c-i c =
+    let n = count (goal.at.returns-then-c-i c).Else-not-is_ruled in
+    numbered _ _ _ (sym (report-13 c.args.c c.args.number (ruled (goal.at.returns-then-c-i c).Else-not-is_ruled) (omega (arith, c.place_of-i.ensures, c.if-c-i.true))))
+
+pub lack_of-lack-requires : goal.lack_of-lack-requires
+lack_of-lack-requires c = (ruled (goal.at.lack_of-lack-requires c).Else-not-is_ruled, omega (arith, c.if-c-i.false))
+
+pub returns-then-lack-eq0 : goal.returns-then-lack-eq0
+returns-then-lack-eq0 c =
+    numbered _ _ _ (sym (report-is c.args.c c.args.number (ruled (goal.at.returns-then-lack-eq0 c).Else-not-is_ruled) (found (goal.at.returns-then-lack-eq0 c).Else-c-i) ∙ lack-whole _ (sym (ap (λ (l : Lack). l.count) (lack (goal.at.returns-then-lack-eq0 c).After-lack_of-lack)) ∙ c.if-lack-eq0.true)))
+
+pub returns : goal.returns
+returns c =
+    let o = report-is c.args.c c.args.number (ruled (goal.at.returns c).Else-not-is_ruled) (found (goal.at.returns c).Else-c-i) ∙ lack-some _ (λ z. c.if-lack-eq0.false (ap (λ (l : Lack). l.count) (lack (goal.at.returns c).After-lack_of-lack) ∙ z)) in
+    numbered _ _ _ (rw (o, lack (goal.at.returns c).After-lack_of-lack))

@@ -1,0 +1,14 @@
+-- `carousel_messages::limits::place_from` meets its contract. The invariant: the place of the number among those left, from here on, is the same as at the start.
+use mathlib.Core.Path.{◌≡◌, refl}
+use Prim.Native.Nat.{◌+◌, ◌-◌}
+use native.Mathlib.Omega.{arith}
+use lib.ListN.{take, drop}
+use Rattle.carousel_messages.specs.Heard.{place_in}
+use Rattle.carousel_messages.proofs.Laws.Limits.{place_hit, place-next, place-done}
+use Rattle.carousel_messages.proofs.limits.place_from.Given as goal
+
+abbrev pub invariant-loop-i : goal.invariant-loop-i
+invariant-loop-i l = l.i + place_in l.number (drop l.i (take l.n l.ms)) ≡ l.from + place_in l.number (drop l.from (take l.n l.ms))
+
+abbrev pub decreases-loop-i : goal.decreases-loop-i
+decreases-loop-i l = l.end - l.i

@@ -1,0 +1,17 @@
+-- `carousel_messages::modules::read_modules` meets its contract. The invariant: the first i are those of the list, and the others begin at byte `at`.
+use mathlib.Core.Path.{◌≡◌, refl, ◌∙◌}
+use Prim.Native.Nat.{◌-◌, ◌+◌, ◌≤◌}
+use native.Mathlib.Omega.{arith}
+use lib.ListN.{length, take, length-replicate, length-set}
+use Rattle.carousel_messages.specs.declared.Listed.{Listed}
+use Rattle.carousel_messages.specs.Limits.{most_modules}
+use Rattle.carousel_messages.specs.Heard.{none_listed, list_of}
+use Rattle.carousel_messages.proofs.Laws.Limits.{filled_next}
+use Rattle.carousel_messages.proofs.Laws.Reading.{Reading, reading-none, reading-here, reading-next}
+use Rattle.carousel_messages.proofs.modules.read_modules.Given as goal
+
+abbrev pub invariant-loop-i : goal.invariant-loop-i
+invariant-loop-i l = (l.i ≤ l.count) × (length l.ms ≡ most_modules) × (take l.i l.ms ≡ take l.i (list_of l.list)) × (Reading l.list l.i l.at)
+
+abbrev pub decreases-loop-i : goal.decreases-loop-i
+decreases-loop-i l = l.count - l.i

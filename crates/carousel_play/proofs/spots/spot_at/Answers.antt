@@ -1,0 +1,58 @@
+-- `carousel_play::spots::spot_at` meets its contract. The invariant: the blocks and the bytes of the modules passed.
+use Prim.Native.Nat.{◌-◌, ◌<◌}
+use mathlib.Core.Path.{◌≡◌, ap}
+use native.Mathlib.Omega.{arith}
+use lib.ListN.{length}
+use borrow.Author.Rules.{rules}
+use Rattle.carousel_play.specs.Rotation.{blocks_to}
+use Rattle.carousel_play.specs.Calls.{to_play}
+use Rattle.carousel_play.proofs.Laws.Spots.{Walked, walked_none, walked_next, walked_here, walked-past, played-count, entry-is}
+use Rattle.carousel_play.proofs.spots.spot_at.Goals as goal
+use Rattle.carousel_play.proofs.spots.spot_at.Goals.{Start}
+
+counted : (s : Start) → length (to_play s.args.p).modules ≡ s.args.p.count
+counted s = played-count s.args.p s.well_formed.0.1.1.1.1.1.0.1.0.1 s.requires.0
+
+last : (s : Start) → s.args.place < blocks_to (to_play s.args.p) s.args.p.count
+last s = let e = ap (blocks_to (to_play s.args.p)) (counted s) in omega (arith, s.requires.1)
+
+pub loop-i-init : goal.loop-i-init
+loop-i-init c = walked_none _ _ _
+
+pub offset_bounds-ms-i : goal.offset_bounds-ms-i
+offset_bounds-ms-i c = let f = c.requires.0 in omega arith
+
+pub bounds-ms-i : goal.bounds-ms-i
+bounds-ms-i c = let f = c.requires.0 in omega arith
+
+pub returns-then-left-b : goal.returns-then-left-b
+unfolding to_play
+returns-then-left-b c =
+    let l = c.loop-i in
+    let m = entry-is c.args.p l.i (omega arith) in
+    walked_here (to_play c.args.p) c.args.p.count (counted (goal.at.returns-then-left-b c).Start) c.args.place l.left l.start l.i l.invariant (omega arith) _ m _ c.blocks_of-b.ensures.0 (omega arith)
+
+pub overflow_add-start : goal.overflow_add-start
+overflow_add-start c =
+    let f = c.requires.0 in
+    let g = c.loop-i.invariant.2 in
+    omega arith
+
+pub overflow_add-i : goal.overflow_add-i
+overflow_add-i c = let f = c.requires.0 in omega arith
+
+pub loop-i-smaller : goal.loop-i-smaller
+loop-i-smaller c = omega arith
+
+pub loop-i-preserved : goal.loop-i-preserved
+unfolding to_play
+loop-i-preserved c =
+    let l = c.loop-i in
+    let m = entry-is c.args.p l.i (omega arith) in
+    walked_next (to_play c.args.p) c.args.p.count (counted (goal.at.loop-i-preserved c).Start) c.args.place l.left l.start l.i l.invariant (omega arith) _ m _
+    c.blocks_of-b.ensures.0 (omega arith) (omega arith)
+
+pub returns : goal.returns
+returns c =
+    let l = c.loop-i in
+    absurd (walked-past (to_play c.args.p) c.args.p.count c.args.place l.left l.start l.i l.invariant (omega arith) (last (goal.at.returns c).Start))

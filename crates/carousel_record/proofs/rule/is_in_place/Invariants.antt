@@ -1,0 +1,24 @@
+-- `carousel_record::rule::is_in_place` meets its contract. The invariant: the words left keep to the numbers of blocks left just where all keep to all.
+use borrow.Author.Tests.{not-true, not-false}
+use mathlib.Core.Path.{◌≡◌, refl, sym, ap, ◌∙◌}
+use mathlib.Core.List.{List, map}
+use Prim.Native.Nat.{ℕ, ◌+◌, ◌-◌, ◌*◌, ◌≤◌}
+use native.Mathlib.Omega.{arith}
+use lib.ListN.{length, get_or, take, drop, length-map, length-drop}
+use lib.Seq.{take_all}
+use Rattle.carousel_record.specs.declared.Carousel.{Carousel}
+use Rattle.carousel_record.specs.Blocks.{blocks_of}
+use Rattle.carousel_record.specs.Marks.{module_words, mark_words, marks_within, clear_from}
+use Rattle.carousel_messages.specs.Heard.{sizes_of}
+use Rattle.carousel_record.specs.Record.{announced_by, listed_in, unused}
+use Rattle.carousel_record.proofs.Laws.Entries.{place-off, place_kept, marks-done}
+use Rattle.carousel_record.proofs.rule.is_in_place.Given as goal
+
+abbrev pub invariant-loop-i : goal.invariant-loop-i
+invariant-loop-i l =
+    (l.i ≤ l.n)
+    × (marks_within module_words (map (λ z. blocks_of l.c.block_size z) (sizes_of (drop l.i (map listed_in (take l.n l.ms))))) (drop (module_words * l.i) l.words)
+    ≡ marks_within module_words (map (λ z. blocks_of l.c.block_size z) (sizes_of (map listed_in (take l.n l.ms)))) l.words)
+
+abbrev pub decreases-loop-i : goal.decreases-loop-i
+decreases-loop-i l = l.n - l.i

@@ -1,0 +1,15 @@
+-- `carousel_step::keep::put_words` meets its contract. The invariant: the first k words are in their place, and nothing else has changed.
+use Prim.Native.Nat.{◌-◌, ◌≤◌}
+use mathlib.Core.Path.{◌≡◌, refl, ◌∙◌}
+use native.Mathlib.Numerals.{add-one}
+use native.Mathlib.Omega.{arith}
+use lib.ListN.{length, length-set}
+use lib.Seq.{paste, paste-zero, paste-suc}
+use Rattle.wire.proofs.Laws.Copies.{pasted-all}
+use Rattle.carousel_step.proofs.keep.put_words.Given as goal
+
+abbrev pub invariant-loop-k : goal.invariant-loop-k
+invariant-loop-k l = (l.k ≤ length l.words) × (length l.marks ≡ length l.initial.marks) × (l.marks ≡ paste l.initial.marks l.at l.words l.k)
+
+abbrev pub decreases-loop-k : goal.decreases-loop-k
+decreases-loop-k l = length l.words - l.k

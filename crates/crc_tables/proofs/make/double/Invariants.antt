@@ -1,0 +1,13 @@
+-- `crc_tables::make::double` meets its contract. The invariant: so many entries stand.
+use Prim.Native.Nat.{ℕ, ◌+◌, ◌-◌, ◌≤◌}
+use mathlib.Core.Path.{◌≡◌, refl, subst, ◌∙◌}
+use native.Mathlib.Omega.{arith}
+use lib.ListN.{length, length-set}
+use Rattle.crc_tables.proofs.Laws.Made.{Made, doubled}
+use Rattle.crc_tables.proofs.make.double.Given as goal
+
+abbrev pub invariant-loop-j : goal.invariant-loop-j
+invariant-loop-j l = (l.j ≤ l.w) × (length l.t ≡ length l.initial.t) × Made l.t (l.at + l.w + l.j)
+
+abbrev pub decreases-loop-j : goal.decreases-loop-j
+decreases-loop-j l = l.w - l.j
