@@ -1,12 +1,11 @@
 -- THE PROMISES OVER CALLS: packets of the stream among any others, grouped in calls in any way, from a state of zeros on. 02, §2.
 use Prim.Native.Nat.{ℕ, ◌≤◌, ◌<◌}
-use mathlib.Core.Path.{◌≡◌, sym, ap, ◌∙◌}
+use mathlib.Core.Path.{◌≡◌, ap, ◌∙◌}
 use mathlib.Core.Bool.{false}
 use mathlib.Core.List.{List, [], ◌++◌}
 use Rattle.wire.specs.Items.{Wholes}
 use Rattle.section.specs.Whole.{whole_at}
 use Rattle.transport.specs.Feed.{State, fresh, accepted, handed_on}
-use Rattle.transport.specs.State.{state_in}
 use Rattle.transport.specs.Grouped.{PacketCall, all_through, all_given}
 use Rattle.transport.proofs.Laws.Feeding.{only-accepted}
 use Rattle.transport.proofs.Grouped.{grouping, zeros, zeros-good, zeros-fresh}
@@ -14,7 +13,7 @@ use Rattle.transport_loss.specs.Stream.{WellSent, carried, spared, Carry, packet
 use Rattle.transport_loss.specs.Promise.{with_loss}
 use Rattle.transport_loss.specs.Writer.{packets_of_all}
 use Rattle.transport_loss.proofs.Promise.{one_loss}
-use Rattle.transport_loss.proofs.Writer.{written-handed-on}
+use Rattle.transport_loss.proofs.HandedOn.{written-handed-on}
 
 -- what calls give, by the packets that are not refused
 given_by : (pid : ℕ) (cs : List PacketCall) → all_given pid zeros cs ≡ handed_on pid fresh (accepted pid (all_through pid zeros cs))

@@ -1,5 +1,5 @@
 -- NO MARK IS UNEARNED: where a lost packet marks the section in hand, it has a byte of it. This is where empty payloads would do harm.
-use Prim.Native.Nat.{ℕ, ◌+◌}
+use Prim.Native.Nat.{ℕ}
 use mathlib.Core.Path.{◌≡◌, refl, ap, subst, ◌∙◌}
 use mathlib.Core.List.{List, [], ◌∷◌, ◌++◌}
 use native.Mathlib.Omega.{arith}

@@ -4,6 +4,7 @@ pub mod Earned
 pub mod Limits
 pub mod Encoded
 pub mod Writer
+pub mod HandedOn
 pub mod Places
 pub mod Soundings
 pub mod Calls

@@ -1,6 +1,6 @@
 -- WHY 14. After 15 lost payloads the next packet has the last one's counter, and can be equal to it byte for byte: it is taken for a repeat. After 16 it looks like the next one: two halves are
 -- put together that belong to different sections.
-use Prim.Native.Nat.{ℕ, zero, suc, ◌+◌, ◌<◌}
+use Prim.Native.Nat.{ℕ, zero, suc, ◌<◌}
 use mathlib.Core.Path.{◌≡◌, refl, sym, ap, ◌∙◌}
 use mathlib.Core.Bool.{false}
 use mathlib.Core.List.{List, [], ◌∷◌, ◌++◌}

@@ -18,7 +18,8 @@ use Rattle.transport_write.proofs.Laws.Packets.{packets-many}
 use Rattle.transport_loss.specs.Stream.{Sent, idle, middle, final, start, Aired, came, lost, carried, spared, burden, Carry, comes, goes, packets, payloads}
 use Rattle.transport_loss.specs.Promise.{with_loss}
 use Rattle.transport_loss.specs.Writer.{packets_of_all, carry_on, carry_first, carry_of, carry_of_all, touched, packet_count, untouched}
-use Rattle.transport_loss.proofs.Writer.{packets_of, packets-all, how-many, written-with_loss}
+use Rattle.transport_loss.proofs.Writer.{packets_of, packets-all, how-many}
+use Rattle.transport_loss.proofs.HandedOn.{written-with_loss}
 
 -- whether a section is touched, one packet on
 touched-next : (i n k : ℕ) → touched (suc i) n (suc k) ≡ touched i n k

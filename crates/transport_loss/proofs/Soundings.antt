@@ -9,7 +9,7 @@ use Rattle.wire.specs.Items.{Wholes}
 use Rattle.section.specs.Whole.{whole_at}
 use Rattle.transport.specs.Feed.{fresh, handed_on}
 use Rattle.transport_loss.specs.Writer.{packets_of_all, untouched}
-use Rattle.transport_loss.proofs.Writer.{written-handed-on}
+use Rattle.transport_loss.proofs.HandedOn.{written-handed-on}
 use Rattle.transport_loss.proofs.Places.{lost-exactly}
 
 abbrev short : List ℕ

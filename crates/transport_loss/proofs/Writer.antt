@@ -10,19 +10,17 @@ use lib.Seq.{length-take-le}
 use borrow.Author.Tests.{leb-true, leb-false}
 use Rattle.wire.specs.Items.{Wholes, joined}
 use Rattle.wire.specs.Pieces.{cut}
-use Rattle.wire.proofs.Laws.Pieces.{by_cutting, cut-none, cut_step, cut-joined, cut-back, Wide, wide_both}
+use Rattle.wire.proofs.Laws.Pieces.{by_cutting, cut-none, cut_step, cut-joined}
 use Rattle.section.specs.Whole.{whole_at}
 use Rattle.transport.specs.Packet.{view_of, packet_refusal}
-use Rattle.transport.specs.Feed.{fresh, handed_on, packets_in}
 use Rattle.transport_write.specs.Writer.{packet_head, packet_of, payload_length, packets_over, section_packets}
-use Rattle.transport_write.proofs.Laws.Packets.{packet_length_lem, as_many_lem, packets-long}
-use Rattle.transport_loss.specs.Stream.{Sent, middle, final, start, shown, Some, Section, Head, Opens, Aired, WellSent, carried, all_of, spared, Carry, comes, packets, payloads}
-use Rattle.transport_loss.specs.Promise.{with_loss}
+use Rattle.transport_write.proofs.Laws.Packets.{packet_length_lem, as_many_lem}
+use Rattle.transport_loss.specs.Stream.{Sent, middle, final, start, shown, Some, Section, Head, Opens, Aired, WellSent, carried, all_of, Carry, comes, packets}
 use Rattle.transport_loss.specs.Encoder.{none, written}
 use Rattle.transport_loss.specs.Writer.{packets_of_all, carry_on, carry_first, carry_of, carry_of_all}
 use Rattle.transport_loss.proofs.Laws.Sections.{beginning}
 use Rattle.transport_loss.proofs.Laws.Written.{view-written, not-refused}
-use Rattle.transport_loss.proofs.Promise.{all-handed-on, one_loss, well-lost, same-sections, unharmed_loss, comes-both}
+use Rattle.transport_loss.proofs.Promise.{comes-both}
 
 -- THE PACKETS ARE THOSE THAT ARE WRITTEN
 packets-on : (pid c : ℕ) (ps : List (List ℕ)) → packets (carry_on pid c ps) ≡ packets_over pid 0 c ps
@@ -206,7 +204,7 @@ first-sections pid c s (b ∷ bs) e rs =
     on-sections pid (b ∷ bs) ((c + 1) % 16) (take 183 s) (omega arith) rs
     ∙ ap (λ (x : List ℕ). x ∷ all_of (carried [] false rs)) (ap (λ (x : List ℕ). take 183 s ++ x) e ∙ take-append-drop 183 s)
 
-all-sections : (pid c : ℕ) (ss : List (List ℕ)) → all_of (carried [] false (comes (carry_of_all pid c ss))) ≡ ss
+pub all-sections : (pid c : ℕ) (ss : List (List ℕ)) → all_of (carried [] false (comes (carry_of_all pid c ss))) ≡ ss
 unfolding carry_of_all comes carried all_of
 all-sections pid c [] = refl
 all-sections pid c (s ∷ ss) =
@@ -215,37 +213,12 @@ all-sections pid c (s ∷ ss) =
     ∙ first-sections pid c s (cut payload_length (drop 183 s)) (cut-joined payload_length (drop 183 s) (omega arith)) (comes rs)
     ∙ ap (λ (x : List (List ℕ)). s ∷ x) (all-sections pid ((c + length (section_packets pid c s)) % 16) ss)
 
-all-long : (pid c : ℕ) (ss : List (List ℕ)) → Wide 188 (packets_of_all pid c ss)
-unfolding packets_of_all
-all-long pid c [] = tt
-all-long pid c (s ∷ ss) =
-    let n : ℕ = (c + length (section_packets pid c s)) % 16 in
-    wide_both 188 (section_packets pid c s) (packets_of_all pid n ss) (packets-long pid c s) (all-long pid n ss)
-
 module _ (pid c : ℕ) (ss : List (List ℕ)) (pl : pid < 8192) (cl : c < 16) (w : Wholes whole_at ss) where
   -- the counter before the first packet
-  abbrev before : ℕ
+  abbrev pub before : ℕ
   before = (c + 15) % 16
 
   pub well-written : WellSent pid before [] (comes (carry_of_all pid c ss))
   well-written =
       let e : (before + 1) % 16 ≡ c = omega (arith, cl) in
       subst (λ (n : ℕ). WellSent pid before [] (comes (carry_of_all pid n ss))) e (well-all pid pl ss before w)
-
-  -- WHAT IS WRITTEN IS HANDED ON: all the sections, in order, and nothing else
-  pub written-handed-on : handed_on pid fresh (packets_of_all pid c ss) ≡ ss
-  written-handed-on =
-      ap (handed_on pid fresh) (sym (packets-all pid c ss)) ∙ all-handed-on pid before (carry_of_all pid c ss) well-written ∙ all-sections pid c ss
-
-  -- also where they are laid end to end, as the calls have them
-  pub bytes-handed-on : handed_on pid fresh (packets_in (joined (packets_of_all pid c ss))) ≡ ss
-  bytes-handed-on = ap (handed_on pid fresh) (cut-back 188 (packets_of_all pid c ss) (omega arith) (all-long pid c ss)) ∙ written-handed-on
-
-  -- AND WITH A LOSS, in the promise's own words: of the packets, bs in a row are lost, at most 14. The sections of the stream are ss; those with no byte in bs come out, in order, and nothing else.
-  pub written-with_loss : (fs bs ds : List Carry) → fs ++ (bs ++ ds) ≡ carry_of_all pid c ss → payloads bs ≤ 14
-      → (handed_on pid fresh (packets fs ++ packets ds) ≡ spared (carried [] false (with_loss fs bs ds))) × (all_of (carried [] false (with_loss fs bs ds)) ≡ ss)
-  written-with_loss fs bs ds e m =
-      let v = subst (λ (x : List Carry). WellSent pid before [] (comes x)) (sym e) well-written in (
-        one_loss pid before fs bs ds (well-lost pid fs bs ds before [] v) m,
-        same-sections (with_loss fs bs ds) [] false false ∙ ap (λ (x : List Aired). all_of (carried [] false x)) (unharmed_loss fs bs ds ∙ ap comes e) ∙ all-sections pid c ss,
-      )

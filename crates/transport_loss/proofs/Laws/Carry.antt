@@ -1,5 +1,5 @@
 -- ONE PACKET OF A WELL-FORMED STREAM. `e` is what a receiver that missed no more than it had to has in hand: the section in hand if no byte of it was lost, else none.
-use Prim.Native.Nat.{ℕ, ◌+◌}
+use Prim.Native.Nat.{ℕ}
 use mathlib.Core.Path.{◌≡◌, refl, sym, ap, subst, ◌∙◌}
 use mathlib.Core.Bool.{Bool, true, false, cond}
 use mathlib.Core.List.{List, [], ◌∷◌, ◌++◌, append_assoc}
