@@ -14,7 +14,7 @@ use Rattle.transport_run.proofs.run_packets.Goals as goal
 use Rattle.transport_run.proofs.run_packets.Goals.{After-gather-gathered}
 
 -- what was handed on lies in the buffer
-inside : (c : After-gather-gathered) → c.gather-gathered.result.size ≤ length c.gather-gathered.new.out.1.1.0
+inside : (c : After-gather-gathered) → c.gather-gathered.result.size ≤ length c.gather-gathered.new.out
 inside c =
     let a = ap (λ (g : Gathered). g.size) c.gather-gathered.ensures.0 in
     let d = ap (λ (o : List ℕ). length o) c.gather-gathered.ensures.2 in
