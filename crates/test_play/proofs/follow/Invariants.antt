@@ -1,0 +1,9 @@
+-- `test_play::follow` is safe, and ends: each turn passes a command.
+use Rattle.std.proofs.Common.{◌-◌, ◌≤◌, length}
+use Rattle.test_play.proofs.follow.Given as goal
+
+abbrev pub invariant-loop-at : goal.invariant-loop-at
+invariant-loop-at g l = l.at ≤ length l.s
+
+abbrev pub decreases-loop-at : goal.decreases-loop-at
+decreases-loop-at g l = length l.s - l.at
