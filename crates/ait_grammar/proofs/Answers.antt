@@ -1,11 +1,11 @@
 -- WHAT THE CALLS BY PLACE ANSWER ARE THE VALUES' FIELDS. A well-formed section s says one table; here g is that, and each call shows its values, in their order.
-use Prim.Native.Nat.{ℕ, zero, suc, ◌+◌, ◌-◌, ◌*◌, ◌≤◌, ◌<◌}
+use Prim.Native.Nat.{ℕ, zero, suc, ◌+◌, ◌-◌, ◌*◌, ◌≤◌}
 use mathlib.Core.Path.{◌≡◌, refl, sym, ap, subst, ◌∙◌}
 use mathlib.Core.List.{List, [], ◌∷◌, map}
 use native.Mathlib.Omega.{arith}
 use lib.ListN.{length, take, drop, length-map, length-append}
 use Rattle.wire.specs.declared.Place.{Place}
-use Rattle.wire.specs.declared.Place.TheVariants.{At, Nothing}
+use Rattle.wire.specs.declared.Place.TheVariants.{At}
 use Rattle.wire.specs.Items.{count, items}
 use Rattle.wire.specs.Places.{after, in_part, part_at}
 use Rattle.wire.proofs.Laws.Finders.{after-at}
@@ -22,7 +22,6 @@ use Rattle.ait_descriptors.specs.Tag01.{name}
 use Rattle.ait_descriptors.specs.Tag02.{base, extension, extensions_in}
 use Rattle.ait_descriptors.specs.Tag05.{identifier}
 use Rattle.ait_descriptors.proofs.Laws.Kinds.{application_kind, extension_kind, kind_of_lem}
-use Rattle.ait_read.specs.declared.Application.{Application}
 use Rattle.ait_read.specs.declared.Scope.{Scope}
 use Rattle.ait_read.specs.declared.Scope.TheVariants as scope
 use Rattle.ait_read.specs.declared.ApplicationAnswer.TheVariants as application-answer
@@ -44,15 +43,14 @@ use Rattle.ait_read.proofs.Laws.Places.{sound_loop, sound_scope, sound-descripto
 use Rattle.ait_descriptors.proofs.Laws.Lists.{sound-list}
 use Rattle.ait_read.proofs.Laws.Made.{common_part, loop_part, own_part}
 use Rattle.ait_body.specs.Body.{WellFormed, own_loop}
-use Rattle.ait_grammar.specs.Bytes.{Each, spell_all, sized8, sized12}
-use Rattle.wire.specs.Fields.{spelled}
+use Rattle.ait_grammar.specs.Bytes.{Each, spell_all, sized8}
 use Rattle.wire.proofs.Laws.Fields.{spelled_length}
 use Rattle.ait_grammar.specs.Tag00.{ProfileValue, Value00, spell_profile, FitsProfile}
 use Rattle.ait_grammar.specs.Tag01.{NameValue, spell_name, FitsName}
 use Rattle.ait_grammar.specs.Tag02.{Value02, SelectorValue, BaseValue, bases, spell_base, FitsBase, FitsSelector}
 use Rattle.ait_grammar.specs.Tag05.{IdentifierValue, spell_identifier, FitsIdentifier}
 use Rattle.ait_grammar.specs.Contents.{ContentsValue, DescriptorValue, of00, of01, of02, of05, spell_contents, spell_descriptor, FitsContents, FitsDescriptor}
-use Rattle.ait_grammar.specs.Table.{ApplicationValue, TableValue, FitsApplication, Sole00, Spells, spell_application}
+use Rattle.ait_grammar.specs.Table.{ApplicationValue, TableValue, FitsApplication, Sole00, spell_application}
 use Rattle.ait_grammar.specs.Good.{GoodTable}
 use Rattle.ait_grammar.specs.Span.{span}
 use Rattle.ait_grammar.specs.Shown00.{profile_shown}

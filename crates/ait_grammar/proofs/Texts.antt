@@ -1,10 +1,10 @@
 -- THE BYTES THAT A SHOWN SPAN NAMES ARE THE VALUE'S: what `part` hands back of it.
-use Prim.Native.Nat.{ℕ, ◌+◌, ◌-◌, ◌≤◌, ◌<◌}
+use Prim.Native.Nat.{ℕ, ◌+◌, ◌≤◌, ◌<◌}
 use mathlib.Core.Path.{◌≡◌, refl, sym, ap, ◌∙◌}
-use mathlib.Core.List.{List, [], ◌∷◌, ◌++◌, append_assoc}
+use mathlib.Core.List.{List, [], ◌++◌, append_assoc}
 use native.Mathlib.Omega.{arith}
 use lib.ListN.{length, take, drop, length-append, length-take, length-drop}
-use lib.Seq.{take_at, drop_at, drop-drop}
+use lib.Seq.{take_at, drop_at}
 use borrow.Author.Tests.{le-leb}
 use Rattle.wire.specs.Fields.{spelled}
 use Rattle.wire.proofs.Laws.Fields.{spelled_length}
@@ -14,7 +14,7 @@ use Rattle.ait_read.specs.Answers.{span_part}
 use Rattle.ait_grammar.specs.Bytes.{spell_all, sized8}
 use Rattle.ait_grammar.specs.Tag01.{NameValue, spell_name}
 use Rattle.ait_grammar.specs.Tag02.{Value02, unread, BaseValue, spell_selector, spell02, spell_base}
-use Rattle.ait_grammar.specs.Contents.{ContentsValue, DescriptorValue, of02, of15, raw, spell_contents, spell_descriptor}
+use Rattle.ait_grammar.specs.Contents.{DescriptorValue, of02, spell_contents, spell_descriptor}
 
 -- bytes xs behind h others, in what lies at c
 within-bytes : (s : List ℕ) (c h : ℕ) (p xs r : List ℕ) → 0 < h → length p ≡ h → take (length (p ++ (xs ++ r))) (drop c s) ≡ p ++ (xs ++ r) → span_part s (c + h) (length xs) ≡ xs

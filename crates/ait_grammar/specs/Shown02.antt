@@ -1,9 +1,5 @@
 -- What the calls by place show of a 0x02's values.
 use Rattle.std.specs.Prelude.{ℕ, ◌+◌, length}
-use Rattle.ait_descriptors.specs.declared.tag02.Local.{Local}
-use Rattle.ait_descriptors.specs.declared.tag02.Remote.{Remote}
-use Rattle.ait_descriptors.specs.declared.tag02.Bases.{Bases}
-use Rattle.ait_descriptors.specs.declared.tag02.Selector.{Selector}
 use Rattle.ait_descriptors.specs.declared.Described.{Described}
 use Rattle.ait_descriptors.specs.declared.Described.TheVariants as described
 use Rattle.ait_descriptors.specs.declared.Item.{Item}

@@ -36,7 +36,7 @@ use Rattle.ait_descriptors.specs.declared.Item.{Item}
 use Rattle.ait_read.specs.declared.ItemAnswer.TheVariants as items
 use Rattle.ait_read.specs.Labels.{label_at}
 use Rattle.ait_read.specs.Places.{loop_at, application_at, own_at, descriptor_at}
-use Rattle.ait_read.specs.Answers.{application_answer, descriptor_answer, item_answer, resolve_answer}
+use Rattle.ait_read.specs.Answers.{application_answer, descriptor_answer, resolve_answer}
 use Rattle.ait_read.proofs.Laws.Acceptance.{sized, judged_has, located-none, located-at}
 use Rattle.ait_read.proofs.Laws.Counts.{item-there, list_count}
 use Rattle.ait_numbers.specs.declared.DescriptorOut.{DescriptorOut}

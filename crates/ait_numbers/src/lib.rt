@@ -3,6 +3,8 @@
 // Nothing is decided here. Each call is one of `ait_read`, its answer laid out; specs/Reading.antt says how. Each
 // tag has a file of its own, src/tag00.rt and so on, beside specs/Tag00.antt: its numbers and its items'.
 // src/kinds.rt has a line for each kind in each list.
+#![tactic(auto)]
+
 mod classes;
 mod kinds;
 mod shapes;

@@ -2,7 +2,7 @@
 -- no hit is marked unresolved"; "Asking by place answers the section's own refusals (2 to 7, 18), then 19."
 use Prim.Native.Nat.{ℕ, ◌+◌, ◌≤◌, ◌<◌}
 use mathlib.Core.Path.{◌≡◌, refl, sym, ap, subst, ◌∙◌}
-use mathlib.Core.Logic.{◌↔◌, ◌⊎◌, inl, inr}
+use mathlib.Core.Logic.{◌↔◌, inl, inr}
 use mathlib.Core.Bool.{Bool, true, false, cond}
 use mathlib.Core.List as L
 use native.Mathlib.Decide.{dec_lt}
@@ -20,7 +20,6 @@ use Rattle.wire.proofs.Laws.Finders.{in_part_has}
 use Rattle.wire.proofs.Laws.Nth.{nth_item}
 use Rattle.wire.proofs.Laws.Tests.{clash}
 use Rattle.section.specs.declared.Refusal.{Refusal}
-use Rattle.section.specs.declared.Checked.TheVariants.{Refused}
 use Rattle.section.specs.Header.{header_of}
 use Rattle.section.specs.Answer.{refused}
 use Rattle.ait_descriptors.specs.Tag01.{described01}
@@ -36,14 +35,12 @@ use Rattle.ait_descriptors.proofs.Laws.Kinds as kinds
 use Rattle.ait_read.specs.declared.Scope.{Scope}
 use Rattle.ait_read.specs.declared.Scope.TheVariants as scope
 use Rattle.ait_descriptors.specs.declared.Repeated.TheVariants.{Labels}
-use Rattle.ait_descriptors.specs.declared.Described.{Described}
-use Rattle.ait_descriptors.specs.declared.Described.TheVariants as described
 use Rattle.ait_read.specs.declared.DescriptorAnswer.TheVariants as descriptor
 use Rattle.ait_descriptors.specs.declared.Item.TheVariants as item
 use Rattle.ait_read.specs.declared.ItemAnswer.TheVariants as items
 use Rattle.ait_read.specs.declared.Resolved.{Resolved}
 use Rattle.ait_read.specs.declared.Resolved.TheVariants as resolved
-use Rattle.ait_read.specs.Acceptance.{table_judged, FormedTable}
+use Rattle.ait_read.specs.Acceptance.{FormedTable}
 use Rattle.ait_read.specs.Places.{loop_at, application_at, own_at, common_at, scope_at, descriptor_at, list_at, repeated_at}
 use Rattle.ait_descriptors.specs.Tag00.{described00, labels_in}
 use Rattle.ait_read.specs.Labels.{first_to, hit_among, resolved_in, label_at}

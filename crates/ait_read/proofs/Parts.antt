@@ -23,10 +23,8 @@ use Rattle.ait_descriptors.specs.declared.Repeated.{Repeated}
 use Rattle.ait_descriptors.specs.declared.Repeated.TheVariants.{Profiles, Labels, Names, Bases, Identifiers}
 use Rattle.ait_descriptors.specs.declared.Span.{Span}
 use Rattle.ait_descriptors.specs.declared.Described.{Described}
-use Rattle.ait_descriptors.specs.declared.Described.TheVariants as described
 use Rattle.ait_read.specs.declared.DescriptorAnswer.TheVariants as descriptor
 use Rattle.ait_descriptors.specs.declared.Item.{Item}
-use Rattle.ait_descriptors.specs.declared.Item.TheVariants as item
 use Rattle.ait_read.specs.declared.ItemAnswer.TheVariants as found
 use Rattle.ait_read.specs.declared.ExtensionAnswer.TheVariants as extension
 use Rattle.ait_read.specs.Places.{descriptor_at, repeated_at, extension_at}

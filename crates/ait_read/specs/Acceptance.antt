@@ -1,11 +1,9 @@
 -- Acceptance of an application section: the common check, then the body. 01, "The application section" and the table of numbers.
-use Rattle.std.specs.Prelude.{ℕ, ◌-◌, ◌≡◌, cond, true, List, ◌++◌, eqb, length, take, drop}
+use Rattle.std.specs.Prelude.{ℕ, ◌≡◌, cond, true, List, ◌++◌, eqb}
 use Rattle.section.specs.Header.{body_of}
 use Rattle.wire.specs.Items.{items, every}
 use Rattle.wire.specs.Tests.{Tests}
 use Rattle.section.specs.declared.Rules.TheVariants.{Application}
-use Rattle.section.specs.declared.Refusal.{Refusal}
-use Rattle.section.specs.declared.Header.{Header}
 use Rattle.section.specs.declared.Checked.{Checked}
 use Rattle.section.specs.declared.Checked.TheVariants.{Refused, Accepted}
 use Rattle.section.specs.Refusals.{section_tests, GoodSection}

@@ -1,5 +1,5 @@
 -- What each call answers. 01: "Asking by place answers the section's own refusals (2 to 7, 18), then 19."
-use Rattle.std.specs.Prelude.{ℕ, ◌+◌, Bool, true, false, cond, List, [], ◌∷◌, ◌++◌, leb, eqb, length, take, drop}
+use Rattle.std.specs.Prelude.{ℕ, ◌+◌, true, false, cond, List, [], ◌∷◌, ◌++◌, leb, length, take, drop}
 use Rattle.wire.specs.declared.Place.{Place}
 use Rattle.wire.specs.Fields.{byte_at, bits}
 use Rattle.wire.specs.Places.{on_place, part_at}

@@ -1,8 +1,6 @@
 -- Where things lie in an application section. Bytes count from the section's byte 0, things from 0.
 use Rattle.std.specs.Prelude.{ℕ, ◌+◌}
-use mathlib.Core.List as L
 use Rattle.wire.specs.Places.{Finder, item_at, after, bytes, inner, within}
-use Rattle.ait_descriptors.specs.declared.Kind.{Kind}
 use Rattle.ait_descriptors.specs.declared.Kind.TheVariants.{Application, Descriptor, Extension}
 use Rattle.ait_descriptors.specs.Kinds.{size_of}
 use Rattle.ait_descriptors.specs.Contents.{list_in, kind_of}

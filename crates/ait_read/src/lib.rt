@@ -5,6 +5,8 @@
 // there is 19. What each answer is, is said in specs/Answers.antt, over specs/Places.antt (where
 // things lie) and what is read of each: specs/Records.antt for applications, and for descriptors and
 // their items the files of ait_descriptors, one for each tag.
+#![tactic(auto)]
+
 mod acceptance;
 mod classes;
 mod labels;

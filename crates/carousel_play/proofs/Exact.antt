@@ -9,7 +9,7 @@ use lib.Dec.{ltb, eqb}
 use lib.ListN.{length, drop, length-map, length-take}
 use borrow.Author.Tests.{lt-ltb, le-ltb, ltb-true, ltb-false, eq-eqb, ne_eqb, eqb-true, not-true, not-false}
 use Rattle.wire.specs.Tests.{Tests, holds, RisingFrom}
-use Rattle.wire.proofs.Laws.Tests.{neither, clash, lowest_met}
+use Rattle.wire.proofs.Laws.Tests.{neither, lowest_met}
 use Rattle.wire.proofs.Laws.Order.{None, none-exactly, nth-exactly, unmet}
 use Rattle.carousel_messages.specs.Limits.{most_modules, beyond10, twice11}
 use Rattle.carousel_messages.specs.Heard.{Announced, sizes_of, numbers_of}

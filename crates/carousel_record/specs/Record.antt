@@ -1,5 +1,5 @@
 -- The carousel record: what it says, and its rule. 01, "The carousel record".
-use Rattle.std.specs.Prelude.{ℕ, suc, ◌+◌, ◌*◌, Bool, true, false, not, cond, ◌&&◌, List, [], ◌∷◌, map, eqb, leb, length, get_or, take, drop}
+use Rattle.std.specs.Prelude.{ℕ, suc, ◌+◌, ◌*◌, Bool, true, not, cond, ◌&&◌, List, [], ◌∷◌, map, eqb, leb, length, get_or, take, drop}
 use Rattle.wire.specs.Copies.{same_numbers}
 use Rattle.carousel_messages.specs.declared.Listed.{Listed}
 use Rattle.carousel_messages.specs.Limits.{most_modules, most_blocks, total, beyond10, twice11}

@@ -3,6 +3,7 @@
 // What a list is, is said in specs/Values.antt (as values) and specs/Reading.antt (as bytes); what
 // the calls answer, in specs/Answers.antt and specs/Writing.antt. Nothing is trusted: every call
 // judges the bytes or the numbers that it is lent.
+#![tactic(auto)]
 
 mod given;
 mod judge;

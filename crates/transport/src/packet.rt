@@ -15,6 +15,7 @@ pub struct Parts {
 }
 
 // The number of its refusal; 0 where it is not refused.
+#[tactic(auto, using(crate::proofs::Laws::Packets::refusals))]
 pub fn packet_refusal(pid: u16, p: &[u8]) -> u8
     ensures { (result ≡ packet_refusal pid p.now) × (result < 256) }
 {

@@ -1,5 +1,5 @@
 -- Numbered tests, as the paper's table of refusals has them: each a number, and whether it holds.
-use Rattle.std.specs.Prelude.{ℕ, ◌<◌, ◌≤◌, Bool, true, false, cond, ◌&&◌, ◌||◌, List, [], ◌∷◌, eqb}
+use Rattle.std.specs.Prelude.{ℕ, ◌<◌, ◌≤◌, Bool, false, cond, ◌&&◌, ◌||◌, List, [], ◌∷◌, eqb}
 
 abbrev pub Tests : Type 0
 Tests = List (ℕ × Bool)

@@ -16,7 +16,7 @@ use Rattle.ait_descriptors.specs.Kinds.{size_of}
 use Rattle.ait_descriptors.specs.declared.Kind.TheVariants as kinds
 use Rattle.ait_descriptors.proofs.Laws.Kinds.{base-is, base-text, extension_kind, kind_of_lem}
 use Rattle.ait_grammar.specs.Bytes.{Bytes, Each, Short, sized8, spell_all}
-use Rattle.ait_grammar.specs.Tag02.{BaseValue, FitsBase, spell_base}
+use Rattle.ait_grammar.specs.Tag02.{FitsBase, spell_base}
 use Rattle.ait_grammar.proofs.Laws.Forms.{Form, when, seen, field, plain}
 use Rattle.ait_grammar.proofs.Laws.Framed.{frame}
 use Rattle.ait_grammar.proofs.Laws.Repeated.{filled, filled-count}

@@ -1,13 +1,13 @@
 -- Where a spelled value lies: the k-th of some values that are spelled end to end, and the k-th in a part of a section.
-use Prim.Native.Nat.{ℕ, zero, suc, ◌+◌, ◌≤◌, ◌<◌}
+use Prim.Native.Nat.{ℕ, zero, suc, ◌+◌, ◌≤◌}
 use mathlib.Core.Path.{◌≡◌, refl, sym, ap, ◌∙◌}
 use mathlib.Core.List.{List, [], ◌∷◌, ◌++◌, map}
 use native.Mathlib.Omega.{arith}
-use lib.ListN.{length, take, drop, length-append, length-take, length-drop}
+use lib.ListN.{length, take, drop, length-take, length-drop}
 use lib.Seq.{take_at, drop_at, drop-drop}
 use Rattle.wire.specs.declared.Place.{Place}
 use Rattle.wire.specs.declared.Place.TheVariants.{At, Nothing}
-use Rattle.wire.specs.Items.{Size, IsKind, items, items_in, joined}
+use Rattle.wire.specs.Items.{Size, IsKind, items, items_in}
 use Rattle.wire.specs.Places.{place_from, item_at, in_part, Inside, part_at}
 use Rattle.wire.proofs.Laws.Finders.{in_part-at, part_part, item-is}
 use Rattle.ait_grammar.specs.Bytes.{spell_all}

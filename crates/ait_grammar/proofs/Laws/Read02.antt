@@ -18,7 +18,6 @@ use Rattle.ait_grammar.specs.Bytes.{sized8, Each, spell_all}
 use Rattle.ait_grammar.specs.Contents.{DescriptorValue, spell_contents, spell_descriptor, FitsDescriptor, of02}
 use Rattle.ait_grammar.proofs.Laws.Loops.{behind}
 use Rattle.wire.proofs.Laws.Meaning.{append-nil}
-use Rattle.ait_descriptors.specs.Tag00.{label}
 use Rattle.ait_descriptors.specs.Tag02.{base, described02, bases_in, extensions_in, extension_count, base_of, extension_read}
 use Rattle.ait_descriptors.specs.declared.Described.TheVariants as described
 use Rattle.ait_descriptors.specs.declared.Repeated.TheVariants.{Bases}

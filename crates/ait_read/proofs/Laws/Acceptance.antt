@@ -1,5 +1,5 @@
 -- What the judging of a section answers, and what a place in an accepted section is good for.
-use Prim.Native.Nat.{ℕ, ◌+◌, ◌-◌, ◌≤◌, ◌<◌}
+use Prim.Native.Nat.{ℕ, ◌+◌, ◌≤◌, ◌<◌}
 use mathlib.Core.Path.{◌≡◌, refl, sym, ap, ◌∙◌}
 use mathlib.Core.Bool.{Bool, true, false, cond}
 use mathlib.Core.List.{List}
@@ -15,15 +15,14 @@ use Rattle.section.specs.declared.Refusal.{Refusal}
 use Rattle.section.specs.declared.Header.{Header}
 use Rattle.section.specs.declared.Checked.{Checked}
 use Rattle.section.specs.declared.Checked.TheVariants.{Refused, Accepted}
-use Rattle.section.specs.Header.{header_of, body_of}
-use Rattle.section.specs.Refusals.{GoodSection}
+use Rattle.section.specs.Header.{body_of}
 use Rattle.section.specs.Answer.{refused, checked_by, checked_of, on_checked}
 use Rattle.section.proofs.Laws.Exact.{accepted_has}
 use Rattle.ait_body.specs.Body.{body_refusal}
 use Rattle.ait_read.specs.declared.Located.{Located}
 use Rattle.ait_read.specs.declared.Located.TheVariants as located
 use Rattle.ait_read.specs.Acceptance.{table_judged_by, table_judged}
-use Rattle.ait_read.specs.Answers.{located_of, on_located, span_part}
+use Rattle.ait_read.specs.Answers.{located_of, span_part}
 
 -- an accepted section has its header and its CRC, and no more than 1,024 bytes
 pub sized : (s : List ℕ) (h : Header) → checked_of Application s ≡ Accepted h → (12 ≤ length s) × (length s ≤ 1024)

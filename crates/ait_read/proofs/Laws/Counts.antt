@@ -1,15 +1,15 @@
 -- HOW MANY THERE ARE IS WHAT IS SAID: in an accepted section every place below a count answers a value, and no other does; and the counts
 -- that the answers carry are those of the lists that the calls go through.
 use Prim.Native.Nat.{ℕ, ◌+◌, ◌≤◌, ◌<◌}
-use mathlib.Core.Path.{◌≡◌, refl, sym, ap, ◌∙◌}
+use mathlib.Core.Path.{◌≡◌, sym, ap, ◌∙◌}
 use mathlib.Core.List as L
 use native.Mathlib.Omega.{arith}
 use lib.ListN.{length, take, drop, length-drop}
 use lib.Seq.{length-take-le}
 use Rattle.wire.specs.declared.Place.{Place}
-use Rattle.wire.specs.declared.Place.TheVariants.{At, Nothing}
-use Rattle.wire.specs.Items.{count, items}
-use Rattle.wire.specs.Places.{Finder, item_at, after, in_part, within, part_at}
+use Rattle.wire.specs.declared.Place.TheVariants.{At}
+use Rattle.wire.specs.Items.{count}
+use Rattle.wire.specs.Places.{Finder, item_at, after, in_part, part_at}
 use Rattle.wire.proofs.Laws.Finders.{Sound, sound-after, after-at}
 use Rattle.wire.proofs.Laws.Loops.{tail}
 use Rattle.wire.proofs.Laws.Parts.{part-at, item_in, item-past, part-within, found_item}

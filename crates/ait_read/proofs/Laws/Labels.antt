@@ -1,6 +1,6 @@
 -- The look-up of labels, from the facts that code learns on its ways.
 use Prim.Native.Nat.{ℕ, ◌+◌, ◌≤◌}
-use mathlib.Core.Path.{◌≡◌, refl, sym, ap, ◌∙◌}
+use mathlib.Core.Path.{◌≡◌}
 use mathlib.Core.List.{List, [], ◌∷◌}
 use native.Mathlib.Omega.{arith}
 use lib.ListN.{length, take, drop}
@@ -9,7 +9,7 @@ use Rattle.wire.specs.declared.Place.TheVariants.{At, Nothing}
 use Rattle.wire.specs.declared.Hit.{Hit}
 use Rattle.wire.specs.declared.Hit.TheVariants.{Item, Missing}
 use Rattle.wire.specs.Items.{items, items_in}
-use Rattle.wire.specs.Places.{first, first_from, on_hit, part_at, Inside}
+use Rattle.wire.specs.Places.{first, first_from, on_hit, part_at}
 use Rattle.wire.proofs.Laws.Finders.{Sound}
 use Rattle.ait_descriptors.specs.declared.Test.{Test}
 use Rattle.ait_descriptors.specs.declared.Test.TheVariants.{Tagged, Labelled}

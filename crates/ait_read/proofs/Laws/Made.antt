@@ -1,16 +1,16 @@
 -- The loops that the calls go through are those of the body's definitions; so each descriptor of an accepted section is well made.
-use Prim.Native.Nat.{ℕ, ◌+◌, ◌-◌, ◌≤◌, ◌<◌}
-use mathlib.Core.Path.{◌≡◌, refl, sym, ap, ◌∙◌}
-use mathlib.Core.Bool.{Bool, true, false}
+use Prim.Native.Nat.{ℕ, ◌+◌, ◌-◌, ◌≤◌}
+use mathlib.Core.Path.{◌≡◌, refl, ap, ◌∙◌}
+use mathlib.Core.Bool.{Bool, true}
 use mathlib.Core.List as L
 use native.Mathlib.Omega.{arith}
-use lib.ListN.{length, take, drop, length-take, length-drop}
+use lib.ListN.{length, take, drop, length-drop}
 use lib.Seq.{length-take-le}
 use Rattle.section.specs.Header.{body_of}
 use Rattle.wire.specs.declared.Place.{Place}
 use Rattle.wire.specs.declared.Place.TheVariants.{At, Nothing}
 use Rattle.wire.specs.Items.{items, items_in, every}
-use Rattle.wire.specs.Places.{item_at, after, bytes, inner, in_part, part_at}
+use Rattle.wire.specs.Places.{after, in_part, part_at}
 use Rattle.wire.proofs.Laws.Finders.{sound-after, inner-at, bytes-at, after-at, in_part-none}
 use Rattle.wire.proofs.Laws.Loops.{tail}
 use Rattle.wire.proofs.Laws.Parts.{part-at, part-within, found_item, found_met}
@@ -20,7 +20,7 @@ use Rattle.ait_descriptors.specs.declared.Kind.TheVariants as kind
 use Rattle.ait_descriptors.specs.Kinds.{application, size_of}
 use Rattle.ait_descriptors.specs.Descriptor.{descriptor}
 use Rattle.ait_descriptors.specs.Contents.{well_made}
-use Rattle.ait_body.specs.Body.{common_length, loop_length, common_loop, application_loop, own_loop, WellFormed}
+use Rattle.ait_body.specs.Body.{common_length, common_loop, application_loop, own_loop, WellFormed}
 use Rattle.ait_descriptors.proofs.Laws.Kinds as kinds
 use Rattle.ait_body.proofs.Laws.Exact as body
 use Rattle.ait_read.specs.declared.Scope.{Scope}

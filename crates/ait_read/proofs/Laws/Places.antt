@@ -1,34 +1,27 @@
 -- What each finder finds lies in the section; and what the code's steps cite.
-use Prim.Native.Nat.{ℕ, suc, ◌+◌, ◌-◌, ◌≤◌, ◌<◌}
-use mathlib.Core.Path.{◌≡◌, refl, sym, ap, ◌∙◌}
-use mathlib.Core.Bool.{Bool, true, false, cond}
+use Prim.Native.Nat.{ℕ, ◌+◌, ◌≤◌}
+use mathlib.Core.Path.{◌≡◌, sym, ap, ◌∙◌}
 use mathlib.Core.List as L
-use native.Mathlib.Omega.{arith}
-use lib.Dec.{eqb}
 use lib.ListN.{length, take, drop}
-use borrow.Author.Tests.{eq-eqb, ne_eqb}
 use Rattle.wire.specs.declared.Place.{Place}
 use Rattle.wire.specs.declared.Place.TheVariants.{At, Nothing}
-use Rattle.wire.specs.Fields.{byte_at, sixteen_at}
-use Rattle.wire.specs.Items.{count, items, items_in, number}
-use Rattle.wire.specs.Places.{Finder, item_at, after, bytes, inner, in_part, within, Inside, part_at}
+use Rattle.wire.specs.Fields.{byte_at}
+use Rattle.wire.specs.Places.{item_at, after, in_part, Inside}
 use Rattle.ait_descriptors.proofs.Laws.Lists.{sound-list}
 use Rattle.wire.proofs.Laws.Finders.{Sound, sound_item, sound-after, sound-bytes, sound-inner, sound-within, in_part-none, in_part-lost, in_part-at, in_part-inside}
-use Rattle.ait_descriptors.specs.declared.Kind.{Kind}
 use Rattle.ait_descriptors.specs.declared.Kind.TheVariants as kind
-use Rattle.ait_descriptors.specs.Kinds.{size_of, count_at}
-use Rattle.ait_descriptors.specs.Descriptor.{tag_of, tagged_rest}
-use Rattle.ait_descriptors.specs.Contents.{test_of, list_in, kind_of}
+use Rattle.ait_descriptors.specs.Kinds.{size_of}
+use Rattle.ait_descriptors.specs.Contents.{list_in, kind_of}
 use Rattle.ait_body.specs.Body.{common_length}
 use Rattle.ait_descriptors.proofs.Laws.Kinds as kinds
 use Rattle.ait_read.specs.declared.Scope.{Scope}
 use Rattle.ait_read.specs.declared.Scope.TheVariants.{Common, Own}
 use Rattle.ait_descriptors.specs.declared.Repeated.{Repeated}
-use Rattle.ait_descriptors.specs.declared.Repeated.TheVariants.{Profiles, Labels, Names, Bases, Identifiers}
+use Rattle.ait_descriptors.specs.declared.Repeated.TheVariants.{Bases}
 use Rattle.ait_read.specs.declared.steps.Step.{Step}
 use Rattle.ait_read.specs.declared.steps.Step.TheVariants.{CommonLoop, ApplicationLoop, OwnLoop, List, Extensions, Item}
 use Rattle.ait_read.specs.Places.{common_in, loop_in, body_at, common_at, loop_at, application_at, own_at, scope_at, descriptor_at, list_at, repeated_at, extensions_at, extension_at, step_in}
-use Rattle.ait_descriptors.specs.Tag02.{bases_in, extensions_in}
+use Rattle.ait_descriptors.specs.Tag02.{extensions_in}
 
 pub sound-step : (step : Step) → Sound (step_in step)
 unfolding step_in common_in loop_in extensions_in

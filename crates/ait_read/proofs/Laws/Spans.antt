@@ -1,6 +1,6 @@
 -- WHAT `part` HANDS BACK LIES INSIDE THE DESCRIPTOR IT BELONGS TO: every span that an answer carries lies between the first and the last byte
 -- of the descriptor that was asked, and `part` of it is those bytes.
-use Prim.Native.Nat.{ℕ, ◌+◌, ◌-◌, ◌≤◌}
+use Prim.Native.Nat.{ℕ, ◌+◌, ◌≤◌}
 use mathlib.Core.Path.{◌≡◌, sym, ◌∙◌}
 use mathlib.Core.List as L
 use native.Mathlib.Omega.{arith}
@@ -19,9 +19,7 @@ use Rattle.ait_descriptors.specs.Descriptor.{descriptor, tag_of, contents_of, re
 use Rattle.ait_descriptors.specs.Tag01.{name, name_of, described01}
 use Rattle.ait_descriptors.specs.Tag05.{described05}
 use Rattle.ait_descriptors.specs.Tag15.{described15}
-use Rattle.wire.specs.Items.{count}
-use Rattle.wire.specs.Places.{part_at}
-use Rattle.ait_descriptors.specs.Tag02.{base, extension, extensions_start, bases_in, extensions_in, base_of, extension_read, described1, described02}
+use Rattle.ait_descriptors.specs.Tag02.{base, extension, extensions_start, extensions_in, base_of, extension_read}
 use Rattle.ait_descriptors.proofs.Laws.Contents.{good02-long}
 use Rattle.ait_descriptors.proofs.Laws.Tags.{good-at}
 use Rattle.ait_descriptors.proofs.Laws.Kinds as kinds

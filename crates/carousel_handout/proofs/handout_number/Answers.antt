@@ -3,8 +3,7 @@ use Prim.Native.Nat.{◌≤◌, ◌<◌}
 use mathlib.Core.Path.{◌≡◌, sym, ap, ◌∙◌}
 use mathlib.Core.Bool.{true}
 use native.Mathlib.Omega.{arith}
-use lib.ListN.{length, length-map}
-use borrow.Author.Tests.{not-true, not-false}
+use lib.ListN.{length}
 use Rattle.carousel_messages.specs.Limits.{most_modules}
 use Rattle.carousel_record.specs.Record.{announced_by, record_of, place_of, bytes_of, missing_of, ruled_of}
 use Rattle.carousel_record.proofs.Laws.Rule.{ruled-count}
@@ -12,7 +11,6 @@ use Rattle.carousel_record.proofs.Laws.Says.{says-count}
 use Rattle.carousel_handout.specs.declared.Lack.{Lack}
 use Rattle.carousel_handout.specs.Calls.{lack_of}
 use Rattle.carousel_handout.proofs.Laws.Calls.{out-1, out-13, out-15, out-20, out-0}
-use borrow.Author.Rules.{rules}
 use Rattle.carousel_handout.proofs.handout_number.Goals as goal
 use Rattle.carousel_handout.proofs.handout_number.Goals.{After-lack_of, Else-c-i, Else-image-bytes_of, Else-not-is_ruled, Start}
 
@@ -32,7 +30,7 @@ room : (c : Else-image-bytes_of) → bytes_of (announced_by c.args.c) ≤ length
 room c = omega (arith, c.bytes_of.ensures, c.if-image-bytes_of.false)
 
 -- what the module that was found lacks
-lack : (c : After-lack_of) → 
+lack : (c : After-lack_of) →
     c.lack_of.result.count ≡ (lack_of (missing_of (record_of c.args.c) (place_of (announced_by c.args.c) c.args.number))).count
 lack c =
     ap (λ (l : Lack). l.count) c.lack_of.ensures ∙ ap (λ i. (lack_of (missing_of (record_of c.args.c) i)).count) c.place_of-i.ensures

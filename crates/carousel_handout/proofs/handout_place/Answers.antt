@@ -1,9 +1,9 @@
 -- `carousel_handout::handout_place` meets its contract: what is handed out lies in the image, at its start in the record.
-use Prim.Native.Nat.{◌+◌, ◌-◌, ◌≤◌, ◌<◌}
+use Prim.Native.Nat.{◌+◌, ◌≤◌, ◌<◌}
 use mathlib.Core.Path.{◌≡◌, sym, ap, ◌∙◌}
 use mathlib.Core.Bool.{true}
 use native.Mathlib.Omega.{arith}
-use lib.ListN.{length, get_or, length-map}
+use lib.ListN.{length, get_or}
 use Rattle.carousel_messages.specs.Limits.{most_modules}
 use Rattle.carousel_messages.specs.declared.Listed.{Listed}
 use Rattle.carousel_record.specs.declared.Module.{Module}
@@ -13,14 +13,13 @@ use Rattle.carousel_record.proofs.Laws.Rule.{kept, ruled-says, ruled-count}
 use Rattle.carousel_record.proofs.Laws.Says.{says-count, says_module, says-start}
 use Rattle.carousel_handout.proofs.Laws.Calls.{given_out, out_none, out_part, place_none, place_part}
 use Rattle.carousel_record.proofs.Laws.Where.{modules-inside}
-use borrow.Author.Rules.{rules}
 use Rattle.carousel_handout.proofs.handout_place.Goals as goal
 use Rattle.carousel_handout.proofs.handout_place.Goals.{After-place_of, Else-refusal-ne0, Start}
 
 all-entries : (s : Start) → length s.args.c.modules ≡ most_modules
 all-entries s = s.well_formed.0.1.1.1.1.1.0.1.0.1
 
-given : (c : Else-refusal-ne0) → 
+given : (c : Else-refusal-ne0) →
     (ruled_of c.args.c ≡ true)
     × (place_of (announced_by c.args.c) c.args.number < length (announced_by c.args.c).modules) × (bytes_of (announced_by c.args.c) ≤ length c.args.image.now)
 given c = given_out c.args.c c.args.number c.args.image.now (sym c.handout_number-refusal.ensures ∙ c.if-refusal-ne0.false)

@@ -3,8 +3,7 @@ use Prim.Native.Nat.{ℕ, ◌<◌}
 use mathlib.Core.Path.{◌≡◌, sym, ap, ◌∙◌}
 use mathlib.Core.Bool.{true}
 use native.Mathlib.Omega.{arith}
-use lib.ListN.{length, length-map}
-use borrow.Author.Tests.{not-true, not-false}
+use lib.ListN.{length}
 use Rattle.carousel_messages.specs.Limits.{most_modules}
 use Rattle.carousel_handout.specs.declared.Lack.{Lack}
 use Rattle.carousel_record.specs.Record.{announced_by, record_of, place_of, missing_of, ruled_of}
@@ -14,7 +13,6 @@ use Rattle.carousel_handout.specs.Calls.{lack_of, missing_number, report_of, num
 use Rattle.carousel_record.proofs.Laws.Rule.{ruled-count}
 use Rattle.carousel_record.proofs.Laws.Says.{says-count}
 use Rattle.carousel_handout.proofs.Laws.Calls.{lack-whole, lack-some, report-1, report-13, report-is, report-number}
-use borrow.Author.Rules.{rules}
 use Rattle.carousel_handout.proofs.missing.Goals as goal
 use Rattle.carousel_handout.proofs.missing.Goals.{After-lack_of-lack, Else-c-i, Else-not-is_ruled, Start}
 

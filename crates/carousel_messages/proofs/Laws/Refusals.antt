@@ -27,7 +27,7 @@ use Rattle.carousel_messages.specs.Contents.{block_module_of, block_version_of, 
 use Rattle.carousel_messages.specs.Limits.{largest_block, most_modules, most_bytes, some_bad, total, beyond10, twice11}
 use Rattle.carousel_messages.specs.Refusals.{short7, meets8, message_framed, payload_framed, message_meets7, meets9, meets10, meets11, payload_refusal, message_refusal}
 use Rattle.carousel_messages.specs.Heard.{listed_of, sizes_of, numbers_of}
-use Rattle.carousel_messages.specs.Judged.{carousel_table_of, announcement_of, block_of, read_of, message_judged, judged_of, judged_by}
+use Rattle.carousel_messages.specs.Judged.{carousel_table_of, announcement_of, block_of, read_of, message_judged, judged_by}
 
 -- the payload of a body too short to have one
 pub no_payload : (b : List ℕ) → length b < 12 + adaptation_of b → [] ≡ payload_of b

@@ -2,7 +2,6 @@
 use mathlib.Core.Path.{ap, ◌∙◌}
 use Rattle.carousel_messages.specs.Judged.{judged_by, number_of_judged}
 use Rattle.carousel_messages.proofs.Exact.{all_tests}
-use borrow.Author.Rules.{rules}
 use Rattle.carousel_messages.proofs.judge.Goals as goal
 
 pub returns : goal.returns

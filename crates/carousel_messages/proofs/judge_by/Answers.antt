@@ -1,7 +1,7 @@
 -- `carousel_messages::judge_by` meets its contract.
 use mathlib.Core.Path.{◌≡◌, sym, ap, ◌∙◌}
 use native.Mathlib.Omega.{arith}
-use Prim.Native.Nat.{ℕ, ◌≤◌}
+use Prim.Native.Nat.{◌≤◌}
 use lib.ListN.{length}
 use Rattle.section.specs.declared.Rules.TheVariants.{Carousel}
 use Rattle.section.specs.declared.Checked.TheVariants.{Accepted}
@@ -9,7 +9,6 @@ use Rattle.section.specs.Answer.{checked_by}
 use Rattle.section.proofs.Laws.Exact.{accepted-long, body_part}
 use Rattle.carousel_messages.specs.Judged.{message_judged}
 use Rattle.carousel_messages.proofs.Laws.Refusals.{judged-refused, judged-message}
-use borrow.Author.Rules.{rules}
 use Rattle.carousel_messages.proofs.judge_by.Goals as goal
 use Rattle.carousel_messages.proofs.judge_by.Goals.{In-Accepted}
 

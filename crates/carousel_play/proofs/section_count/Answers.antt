@@ -1,6 +1,5 @@
 -- `carousel_play::section_count` meets its contract.
 use mathlib.Core.Path.{sym, ◌∙◌}
-use borrow.Author.Rules.{rules}
 use Rattle.carousel_play.proofs.Laws.Refusals.{kept, count-refused, count-told}
 use Rattle.carousel_play.proofs.section_count.Goals as goal
 

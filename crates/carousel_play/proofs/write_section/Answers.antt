@@ -1,10 +1,9 @@
 -- `carousel_play::write_section` meets its contract: a refusal, the announcement at place 0, or a block.
-use Prim.Native.Nat.{◌-◌, ◌≤◌, ◌<◌, ℕ}
+use Prim.Native.Nat.{◌≤◌, ◌<◌, ℕ}
 use mathlib.Core.Path.{◌≡◌, sym, ap, ◌∙◌}
 use mathlib.Core.List.{List}
 use native.Mathlib.Omega.{arith}
 use lib.ListN.{length}
-use borrow.Author.Rules.{rules}
 use Rattle.carousel_record.specs.Record.{bytes_of}
 use Rattle.carousel_play.specs.Rotation.{section_count, section_at}
 use Rattle.carousel_play.specs.Calls.{to_play, limit_refusal}

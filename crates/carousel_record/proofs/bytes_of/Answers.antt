@@ -5,7 +5,6 @@ use Rattle.carousel_messages.specs.declared.Listed.{Listed}
 use Rattle.carousel_messages.specs.Limits as limits
 use Rattle.carousel_messages.specs.Heard.{sizes_of}
 use Rattle.carousel_record.proofs.Laws.Entries.{said-by}
-use borrow.Author.Rules.{rules}
 use Rattle.carousel_record.proofs.bytes_of.Goals as goal
 
 pub returns : goal.returns

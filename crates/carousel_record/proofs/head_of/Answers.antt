@@ -1,5 +1,4 @@
 -- `carousel_record::head_of` meets its contract.
-use borrow.Author.Rules.{rules}
 use Rattle.carousel_record.proofs.head_of.Goals as goal
 
 pub returns : goal.returns

@@ -5,7 +5,6 @@ use Prim.Native.Nat.{ℕ}
 use lib.ListN.{take}
 use Rattle.carousel_record.specs.Record.{announced_by, place_among}
 use Rattle.carousel_record.proofs.Laws.Entries.{among-entries}
-use borrow.Author.Rules.{rules}
 use Rattle.carousel_record.proofs.place_of.Goals as goal
 
 pub returns : goal.returns

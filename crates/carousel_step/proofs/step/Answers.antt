@@ -1,19 +1,17 @@
 -- `carousel_step::step` meets its contract: 1 first, then what the section is, then what the record makes of it.
-use borrow.Author.Rules.{rules}
-use borrow.Author.Tests.{not-true, not-false}
 use Prim.Native.Nat.{ℕ, ◌+◌, ◌-◌, ◌≤◌}
 use mathlib.Core.Path.{◌≡◌, sym, ap, ◌∙◌}
 use mathlib.Core.Bool.{true}
 use mathlib.Core.List.{List}
 use native.Mathlib.Omega.{arith}
-use lib.ListN.{length, take, drop, length-map}
+use lib.ListN.{length, take, drop}
 use Rattle.carousel_record.specs.Marks.{mark_words}
 use Rattle.wire.proofs.Laws.Finders.{part}
 use Rattle.carousel_messages.specs.declared.Announcement.{Announcement}
 use Rattle.carousel_messages.specs.declared.Judged.TheVariants as judged
 use Rattle.carousel_messages.specs.Limits.{total, most_bytes, most_modules}
 use Rattle.carousel_messages.specs.Judged.{judged_by, judged_of}
-use Rattle.carousel_messages.specs.Heard.{span_of, list_of, announced_in, arrived_in, heard_in, heard_of, sizes_of}
+use Rattle.carousel_messages.specs.Heard.{span_of, list_of, announced_in, heard_in, heard_of, sizes_of}
 use Rattle.carousel_messages.proofs.Laws.Heard.{announcement-inside, count-said, heard-small, block_inside, heard_limits}
 use Rattle.carousel_record.specs.declared.Head.{Head}
 use Rattle.carousel_record.specs.Record.{record_of, head_of, joined_of, ruled_of}
@@ -21,7 +19,7 @@ use Rattle.wire.specs.Tests.{first_met}
 use Rattle.carousel_record.specs.declared.Carousel.{Carousel}
 use Rattle.carousel_step.specs.declared.Answer.{Answer}
 use Rattle.carousel_step.specs.declared.Stepped.{Stepped}
-use Rattle.carousel_step.specs.Step.{StepOutcome, on_announced, on_arrived, image_after, returning, stepped_of, image_of, number_of_answer, step_tests}
+use Rattle.carousel_step.specs.Step.{on_announced, returning, stepped_of, image_of, number_of_answer, step_tests}
 use Rattle.carousel_step.proofs.Exact.{step-number}
 use Rattle.carousel_step.proofs.Held.{found-entry, held-answer, held_record, held-image}
 use Rattle.carousel_record.proofs.Laws.Places.{bytes_most}

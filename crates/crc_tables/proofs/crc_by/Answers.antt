@@ -1,10 +1,9 @@
 -- `crc_tables::crc_by` meets its contract. The invariant: the register so far, carried over what is left, is what all of it leaves.
-use borrow.Author.Rules.{rules}
-use Prim.Native.Nat.{ℕ, ◌+◌, ◌-◌, ◌/◌, ◌≤◌}
+use Prim.Native.Nat.{ℕ, ◌+◌, ◌-◌, ◌/◌}
 use mathlib.Core.Path.{◌≡◌, sym, ap, ◌∙◌}
 use native.Mathlib.Omega.{arith}
 use lib.ListN.{length, drop}
-use Rattle.crc_tables.specs.By.{sixteen, up_to15, groups, crc_by}
+use Rattle.crc_tables.specs.By.{sixteen, up_to15, groups}
 use Rattle.crc_tables.proofs.Laws.Walk.{rest, rest-long, too_few, enough, group-next, group_end}
 use Rattle.crc_tables.proofs.crc_by.Goals as goal
 
@@ -21,12 +20,10 @@ loop-i-init c =
 
 pub with_sixteen-r-requires : goal.with_sixteen-r-requires
 with_sixteen-r-requires c =
-    
     (omega arith, rest-long 16 c.args.s.now c.loop-i.i (omega arith))
 
 pub loop-i-preserved : goal.loop-i-preserved
 loop-i-preserved c =
-    
     let a = c.args in
     let h = c.loop-i in
     let s = a.s.now in
@@ -36,7 +33,6 @@ loop-i-preserved c =
 
 pub returns : goal.returns
 returns c =
-    
     let a = c.args in
     let h = c.loop-i in
     let s = a.s.now in

@@ -1,10 +1,8 @@
 -- `crc_tables::crc_by` meets its contract. The invariant: the register so far, carried over what is left, is what all of it leaves.
-use Prim.Native.Nat.{ℕ, ◌+◌, ◌-◌, ◌/◌, ◌≤◌}
-use mathlib.Core.Path.{◌≡◌, sym, ap, ◌∙◌}
-use native.Mathlib.Omega.{arith}
+use Prim.Native.Nat.{◌-◌, ◌/◌, ◌≤◌}
+use mathlib.Core.Path.{◌≡◌}
 use lib.ListN.{length, drop}
-use Rattle.crc_tables.specs.By.{sixteen, up_to15, groups, crc_by}
-use Rattle.crc_tables.proofs.Laws.Walk.{rest, rest-long, too_few, enough, group-next, group_end}
+use Rattle.crc_tables.specs.By.{groups, crc_by}
 use Rattle.crc_tables.proofs.crc_by.Given as goal
 
 abbrev pub invariant-loop-i : goal.invariant-loop-i

@@ -1,5 +1,4 @@
 -- `crc_tables::from_clear` meets its contract. The invariant: what is added so far, with what the rest leaves, is what all of it leaves.
-use borrow.Author.Rules.{rules}
 use Prim.Native.Nat.{ℕ, suc, ◌+◌, ◌-◌}
 use mathlib.Core.Path.{◌≡◌, refl, ap, ◌∙◌}
 use native.Mathlib.Omega.{arith}
@@ -13,7 +12,6 @@ loop-i-init c = (omega arith, refl)
 
 pub loop-i-preserved : goal.loop-i-preserved
 loop-i-preserved c =
-    
     let a = c.args in
     let h = c.loop-i in
     let t = a.t.now in

@@ -1,10 +1,8 @@
 -- `crc_tables::from_clear` meets its contract. The invariant: what is added so far, with what the rest leaves, is what all of it leaves.
-use Prim.Native.Nat.{ℕ, suc, ◌+◌, ◌-◌}
-use mathlib.Core.Path.{◌≡◌, refl, ap, ◌∙◌}
-use native.Mathlib.Omega.{arith}
+use Prim.Native.Nat.{◌+◌, ◌-◌}
+use mathlib.Core.Path.{◌≡◌}
 use lib.ListN.{length, drop}
 use Rattle.crc_tables.specs.By.{◌⊕◌, from_clear}
-use Rattle.crc_tables.proofs.Laws.Walk.{clear_next, clear_end}
 use Rattle.crc_tables.proofs.from_clear.Given as goal
 
 abbrev pub invariant-loop-i : goal.invariant-loop-i

@@ -1,5 +1,4 @@
 -- `crc_tables::up_to_15` meets its contract.
-use borrow.Author.Rules.{rules}
 use Prim.Native.Nat.{◌-◌}
 use mathlib.Core.Path.{◌≡◌, sym, ap, ap₂, ◌∙◌}
 use lib.ListN.{length, take, drop}
@@ -13,7 +12,6 @@ returns-then-s-lt4 c = c.with_ones.ensures ∙ sym (under4 _ _ _ c.if-s-lt4.true
 
 pub returns : goal.returns
 returns c =
-    
     let a = c.args in
     let t = a.t.now in
     let s = a.s.now in

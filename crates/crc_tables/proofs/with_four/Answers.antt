@@ -1,5 +1,4 @@
 -- `crc_tables::with_four` meets its contract.
-use borrow.Author.Rules.{rules}
 use Rattle.crc_tables.specs.By.{◌⊕◌, four}
 use Rattle.crc_tables.proofs.with_four.Goals as goal
 

@@ -1,9 +1,8 @@
 -- `crc_tables::with_ones` meets its contract. The invariant: the register so far, carried over what is left, is what all of it leaves.
-use borrow.Author.Rules.{rules}
-use Prim.Native.Nat.{ℕ, ◌+◌, ◌-◌, ◌*◌, ◌%◌, ◌^◌, ◌≤◌}
-use mathlib.Core.Path.{◌≡◌, refl, sym, ap, ◌∙◌}
+use Prim.Native.Nat.{ℕ, ◌+◌, ◌*◌, ◌%◌, ◌^◌}
+use mathlib.Core.Path.{refl, sym, ap, ◌∙◌}
 use native.Mathlib.Omega.{arith}
-use lib.ListN.{length, drop}
+use lib.ListN.{drop}
 use lib.Bits.{bit_xor}
 use Rattle.crc_tables.specs.By.{one, ones}
 use Rattle.crc_tables.proofs.Laws.Walk.{one-next, one_end}

@@ -1,11 +1,8 @@
 -- `crc_tables::with_ones` meets its contract. The invariant: the register so far, carried over what is left, is what all of it leaves.
-use Prim.Native.Nat.{ℕ, ◌+◌, ◌-◌, ◌*◌, ◌%◌, ◌^◌, ◌≤◌}
-use mathlib.Core.Path.{◌≡◌, refl, sym, ap, ◌∙◌}
-use native.Mathlib.Omega.{arith}
+use Prim.Native.Nat.{◌-◌, ◌≤◌}
+use mathlib.Core.Path.{◌≡◌}
 use lib.ListN.{length, drop}
-use lib.Bits.{bit_xor}
-use Rattle.crc_tables.specs.By.{one, ones}
-use Rattle.crc_tables.proofs.Laws.Walk.{one-next, one_end}
+use Rattle.crc_tables.specs.By.{ones}
 use Rattle.crc_tables.proofs.with_ones.Given as goal
 
 abbrev pub invariant-loop-i : goal.invariant-loop-i

@@ -1,5 +1,4 @@
 -- `crc_tables::with_sixteen` meets its contract.
-use borrow.Author.Rules.{rules}
 use mathlib.Core.Path.{ap, ◌∙◌}
 use Rattle.crc_tables.specs.By.{◌⊕◌, four, sixteen}
 use Rattle.crc_tables.proofs.Laws.Walk.{rest}

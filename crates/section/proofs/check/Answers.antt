@@ -1,5 +1,4 @@
 -- `section::check` meets its contract: the register that is handed on is the section's own.
-use borrow.Author.Rules.{rules}
 use mathlib.Core.Path.{ap, ◌∙◌}
 use Rattle.section.specs.Refusals.{refusal_by}
 use Rattle.section.specs.Answer.{checked_by}

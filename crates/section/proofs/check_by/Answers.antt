@@ -10,11 +10,6 @@ use Rattle.section.specs.Refusals.{refusal_by}
 use Rattle.section.proofs.Laws.Places.{whole_by5}
 use Rattle.section.specs.declared.Checked.TheVariants.{Accepted}
 use Rattle.section.proofs.Laws.Exact.{refused_as, accepted-by}
-use Rattle.section.proofs.check_by.Reads as reads
-use Rattle.section.proofs.check_by.Lts as lts
-use Rattle.section.proofs.header_of.Reads as header-of-reads
-use Rattle.section.proofs.refusal_number.Reads as refusal-number-reads
-use Rattle.section.proofs.spot_of.Reads as spot-of-reads
 use Rattle.section.proofs.check_by.Goals as goal
 
 -- a section that is refused with 5 has its CRC

@@ -1,12 +1,5 @@
 -- `section::header_of` meets its contract: each field is what its reader answers.
-use borrow.Author.Rules.{rules}
-use mathlib.Core.Path.{ap, ◌∙◌}
-use Rattle.wire.specs.Fields.{bits}
 use Rattle.wire.proofs.Laws.Fields.{masked}
-use Rattle.section.proofs.header_of.Reads as reads
-use Rattle.section.proofs.header_of.Lts as lts
-use Rattle.wire.proofs.byte_at.Reads as byte-at-reads
-use Rattle.wire.proofs.sixteen_at.Reads as sixteen-at-reads
 use Rattle.section.proofs.header_of.Goals as goal
 
 pub returns : goal.returns

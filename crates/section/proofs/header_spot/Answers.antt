@@ -1,10 +1,6 @@
 -- `section::header_spot` meets its contract.
-use borrow.Author.Rules.{rules}
 use mathlib.Core.Path.{sym, ap, ◌∙◌}
 use mathlib.Core.Bool.{Bool, not, cond}
-use Rattle.section.proofs.header_spot.Reads as reads
-use Rattle.section.proofs.header_spot.Lts as lts
-use Rattle.section.proofs.is_framed.Reads as is-framed-reads
 use Rattle.section.proofs.header_spot.Goals as goal
 
 pub returns-then-is_framed : goal.returns-then-is_framed

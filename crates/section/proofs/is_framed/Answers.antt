@@ -1,13 +1,7 @@
 -- `section::is_framed` meets its contract.
-use borrow.Author.Rules.{rules}
 use native.Mathlib.Omega.{arith}
 use mathlib.Core.Path.{sym}
 use Rattle.section.proofs.Laws.Refusals.{frame-short, frame-long, frame-syntax, frame_right}
-use Rattle.section.proofs.is_framed.Reads as reads
-use Rattle.section.proofs.is_framed.Lts as lts
-use Rattle.section.proofs.limit.Reads as limit-reads
-use Rattle.wire.proofs.sixteen_at.Reads as sixteen-at-reads
-use Rattle.wire.proofs.twelve_at.Reads as twelve-at-reads
 use Rattle.section.proofs.is_framed.Goals as goal
 
 pub returns-then-length-lt9 : goal.returns-then-length-lt9

@@ -1,21 +1,14 @@
 -- `section::refusal_number` meets its contract: at each `return` the tests that led there say which test of the paper's table holds, and that no lower one does.
 use mathlib.Core.Bool.{not}
 use mathlib.Core.Path.{ap}
-use borrow.Author.Rules.{rules}
 use native.Mathlib.Omega.{arith}
 use Prim.Native.Nat.{◌≤◌}
 use lib.ListN.{length}
 use mathlib.Core.Path.{◌≡◌, sym, ◌∙◌}
 use mathlib.Core.Bool.{false}
-use borrow.Author.Tests.{not-true, not-false}
 use Rattle.wire.proofs.Laws.Fields.{masked_low}
 use Rattle.section.specs.Refusals.{meets2, meets3, misframed, meets4}
 use Rattle.section.proofs.Laws.Refusals.{short2, uneven2, past2, other3, past3, framed_has, frame4, above4, past4, bad5, past5, next6, past6, is2, is3, is4, is5, is6, is0}
-use Rattle.section.proofs.refusal_number.Reads as reads
-use Rattle.section.proofs.refusal_number.Lts as lts
-use Rattle.section.proofs.has_table.Reads as has-table-reads
-use Rattle.section.proofs.is_framed.Reads as is-framed-reads
-use Rattle.wire.proofs.twelve_at.Reads as twelve-at-reads
 use Rattle.section.proofs.refusal_number.Goals as goal
 use Rattle.section.proofs.refusal_number.Goals.{Else-not-has_table, Else-not-is_framed, Else-s, Else-s-length}
 

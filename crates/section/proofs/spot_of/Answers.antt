@@ -1,12 +1,8 @@
 -- `section::spot_of` meets its contract.
-use borrow.Author.Rules.{rules}
 use native.Mathlib.Omega.{arith}
 use mathlib.Core.Path.{sym, ap, ◌∙◌}
 use Rattle.section.specs.declared.Spot.TheVariants.{Byte}
 use Rattle.section.proofs.Laws.Places.{spot2, spot3, spot4, spot5, spot6, spot-none}
-use Rattle.section.proofs.spot_of.Reads as reads
-use Rattle.section.proofs.spot_of.Lts as lts
-use Rattle.section.proofs.header_spot.Reads as header-spot-reads
 use Rattle.section.proofs.spot_of.Goals as goal
 
 pub overflow_sub-result : goal.overflow_sub-result

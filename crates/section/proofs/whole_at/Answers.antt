@@ -2,7 +2,6 @@
 use mathlib.Core.Path.{sym, ◌∙◌}
 use native.Mathlib.Omega.{arith}
 use Rattle.section.proofs.Laws.Whole.{whole-few, whole_stuffing, whole-short, whole_is}
-use borrow.Author.Rules.{rules}
 use Rattle.section.proofs.whole_at.Goals as goal
 
 pub returns-then-s-lt-UP_TO_LENGTH : goal.returns-then-s-lt-UP_TO_LENGTH

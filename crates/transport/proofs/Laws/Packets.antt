@@ -181,3 +181,6 @@ module _ (p : List ℕ) where
 
         a : (view_of p).after ≡ drop (1 + byte_at (payload_in p) 0) (payload_in p)
         a = rw s
+
+-- by which `packet_refusal` meets its contract
+pub ruleset refusals = (refused-40, refused-41, refused-42, refused-43, not-refused)

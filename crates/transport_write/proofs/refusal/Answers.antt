@@ -60,6 +60,6 @@ returns c =
       size-known ((goal.at.returns c).Else-n-twelve_at),
       c.if-s.false,
       room-known (goal.at.returns c).Else-room-packets_in,
-      omega (arith, c.if-pid-gt8191.false),
-      omega (arith, c.if-counter-gt15.false),
+      omega arith,
+      omega arith,
     ))

@@ -1,15 +1,15 @@
 -- Fields of any width: what they are below, where they are 0, where else in the bytes they stand, and how code puts them together.
 use Prim.Native.Nat.{ℕ, zero, suc, ◌+◌, ◌-◌, ◌*◌, ◌/◌, ◌%◌, ◌^◌, ◌<◌, ◌≤◌}
 use mathlib.Core.Path.{◌≡◌, refl, sym, ap, ap₂, ◌∙◌}
-use mathlib.Core.List.{List, [], ◌∷◌, ◌++◌}
+use mathlib.Core.List.{List, ◌∷◌, ◌++◌}
 use native.Mathlib.Nat.{mod-lt, pow-suc, pow-succ', mul_assoc, mod-eq_of_lt}
 use native.Mathlib.Omega.{arith}
-use lib.ListN.{length, get_or, take, drop, get_or-eq_default}
+use lib.ListN.{length, take, drop, get_or-eq_default}
 use lib.Seq.{get_or-take, get_or-drop}
 use lib.Bits.{bit_and, bit_or, and_mask, or_shifted, or_lt}
 use lib.Pow.{pow_pos}
 use lib.Arith.{mod-mul}
-use Rattle.wire.specs.Fields.{byte_at, field_at, bits, sixteen_at, thirty_two_at, spelled}
+use Rattle.wire.specs.Fields.{byte_at, field_at, bits, spelled}
 
 -- a byte past the end
 pub byte_past : (s : List ℕ) (i : ℕ) → length s ≤ i → byte_at s i ≡ 0

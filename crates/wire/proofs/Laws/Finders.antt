@@ -10,10 +10,10 @@ use lib.Seq.{take_at, drop_at, drop-drop, take-take}
 use borrow.Author.Tests.{le-leb, lt-leb, leb-true}
 use Rattle.wire.specs.declared.Place.{Place}
 use Rattle.wire.specs.declared.Place.TheVariants.{At, Nothing}
-use Rattle.wire.specs.Items.{Size, IsKind, Wholes, framed, items, joined}
+use Rattle.wire.specs.Items.{Size, IsKind, Wholes, items, joined}
 use Rattle.wire.specs.Places.{Finder, on_place, item_at, place_from, after, bytes, inner, in_part, within, Inside}
 use Rattle.wire.proofs.Laws.Steps.{covers}
-use Rattle.wire.proofs.Laws.Frames.{framed_kind, framed-least, rest_of}
+use Rattle.wire.proofs.Laws.Frames.{rest_of}
 use Rattle.wire.proofs.Laws.Meaning.{wholes, front, joined-both}
 
 placed : (k at : ℕ) (is : List (List ℕ)) (a n : ℕ) → place_from k at is ≡ At a n

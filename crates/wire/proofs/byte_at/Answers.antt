@@ -1,10 +1,7 @@
 -- `wire::byte_at` meets its contract.
-use borrow.Author.Rules.{rules}
 use native.Mathlib.Omega.{arith}
 use mathlib.Core.Path.{refl, sym}
 use Rattle.wire.proofs.Laws.Fields.{byte_past}
-use Rattle.wire.proofs.byte_at.Reads as reads
-use Rattle.wire.proofs.byte_at.Lts as lts
 use Rattle.wire.proofs.byte_at.Goals as goal
 
 pub returns-then-s-at : goal.returns-then-s-at

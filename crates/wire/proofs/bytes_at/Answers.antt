@@ -2,7 +2,6 @@
 use mathlib.Core.Path.{sym}
 use native.Mathlib.Omega.{arith}
 use Rattle.wire.proofs.Laws.Finders.{bytes-at, bytes-none}
-use borrow.Author.Rules.{rules}
 use Rattle.wire.proofs.bytes_at.Goals as goal
 
 pub returns-then-x-at : goal.returns-then-x-at

@@ -1,10 +1,8 @@
 -- `wire::measured_end` meets its contract. The invariant: what is left to count from i on ends where all ends.
-use borrow.Author.Rules.{rules}
-use mathlib.Core.Path.{◌≡◌, refl, sym, ap, ◌∙◌}
+use mathlib.Core.Path.{◌≡◌, refl, ap, ◌∙◌}
 use native.Mathlib.Omega.{arith}
-use Prim.Native.Nat.{◌≤◌, ◌<◌}
-use lib.ListN.{length, drop}
-use Rattle.wire.specs.Items.{measured, items, end_of}
+use lib.ListN.{drop}
+use Rattle.wire.specs.Items.{measured}
 use Rattle.wire.proofs.Laws.Frames.{framed_kind}
 use Rattle.wire.proofs.Laws.Loops.{tail, item-fits, end_none, end-stop, end-turn, end-done}
 use Rattle.wire.proofs.measured_end.Goals as goal

@@ -1,11 +1,7 @@
 -- `wire::measured_end` meets its contract. The invariant: what is left to count from i on ends where all ends.
-use mathlib.Core.Path.{◌≡◌, refl, sym, ap, ◌∙◌}
-use native.Mathlib.Omega.{arith}
-use Prim.Native.Nat.{◌≤◌, ◌<◌}
-use lib.ListN.{length, drop}
+use mathlib.Core.Path.{◌≡◌}
+use lib.ListN.{drop}
 use Rattle.wire.specs.Items.{measured, items, end_of}
-use Rattle.wire.proofs.Laws.Frames.{framed_kind}
-use Rattle.wire.proofs.Laws.Loops.{tail, item-fits, end_none, end-stop, end-turn, end-done}
 use Rattle.wire.proofs.measured_end.Given as goal
 
 abbrev pub invariant-loop-left : goal.invariant-loop-left

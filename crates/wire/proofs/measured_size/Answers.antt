@@ -1,11 +1,10 @@
 -- `wire::measured_size` meets its contract.
-use mathlib.Core.Path.{◌≡◌, refl, sym, ap, ◌∙◌}
+use mathlib.Core.Path.{sym, ◌∙◌}
 use native.Mathlib.Omega.{arith}
 use Prim.Native.Nat.{◌+◌}
 use lib.ListN.{length}
 use Rattle.wire.specs.Fields.{byte_at}
 use Rattle.wire.proofs.Laws.Frames.{framed-short, framed-read, there, not_there}
-use borrow.Author.Rules.{rules}
 use Rattle.wire.proofs.measured_size.Goals as goal
 
 pub returns-then-s-h : goal.returns-then-s-h

@@ -1,7 +1,6 @@
 -- `wire::rest` meets its contract.
 use mathlib.Core.Path.{sym}
 use Rattle.wire.proofs.Laws.Finders.{after-at, after_none}
-use borrow.Author.Rules.{rules}
 use Rattle.wire.proofs.rest.Goals as goal
 
 pub returns-then-x-at : goal.returns-then-x-at

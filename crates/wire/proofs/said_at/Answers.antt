@@ -1,9 +1,8 @@
 -- `wire::said_at` meets its contract.
-use mathlib.Core.Path.{◌≡◌, refl, sym, ap, ◌∙◌}
+use mathlib.Core.Path.{sym, ◌∙◌}
 use native.Mathlib.Omega.{arith}
 use lib.ListN.{take, length-take, get_or-eq_default}
 use lib.Seq.{get_or-take}
-use borrow.Author.Rules.{rules}
 use Rattle.wire.proofs.said_at.Goals as goal
 
 pub returns-then-h-at : goal.returns-then-h-at

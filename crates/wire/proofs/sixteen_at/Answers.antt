@@ -1,12 +1,8 @@
 -- `wire::sixteen_at` meets its contract: two bytes joined are the field of both.
-use borrow.Author.Rules.{rules}
 use native.Mathlib.Omega.{arith}
 use mathlib.Core.Path.{refl, sym, ◌∙◌}
 use Prim.Native.Nat.{◌+◌}
 use Rattle.wire.proofs.Laws.Fields.{field_past_lem, field-one, halves}
-use Rattle.wire.proofs.sixteen_at.Reads as reads
-use Rattle.wire.proofs.sixteen_at.Lts as lts
-use Rattle.wire.proofs.byte_at.Reads as byte-at-reads
 use Rattle.wire.proofs.sixteen_at.Goals as goal
 
 pub returns-then-s-at : goal.returns-then-s-at

@@ -1,5 +1,4 @@
 -- `wire::thirty_two_at` meets its contract: two fields of 16 bits joined are the field of both.
-use borrow.Author.Rules.{rules}
 use native.Mathlib.Omega.{arith}
 use mathlib.Core.Path.{◌≡◌, refl, sym, ap, ◌∙◌}
 use mathlib.Core.List.{List}
@@ -8,9 +7,6 @@ use lib.ListN.{length, take, drop}
 use Rattle.wire.specs.Fields.{field_at}
 use Rattle.wire.proofs.Laws.Fields.{field_past_lem, field_drop, halves}
 use Rattle.wire.proofs.Laws.Loops.{tail}
-use Rattle.wire.proofs.thirty_two_at.Reads as reads
-use Rattle.wire.proofs.thirty_two_at.Lts as lts
-use Rattle.wire.proofs.sixteen_at.Reads as sixteen-at-reads
 use Rattle.wire.proofs.thirty_two_at.Goals as goal
 
 pub returns-then-s-at : goal.returns-then-s-at

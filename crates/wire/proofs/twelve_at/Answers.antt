@@ -1,13 +1,8 @@
 -- `wire::twelve_at` meets its contract: a mask of twelve ones leaves the twelve low bits.
-use borrow.Author.Rules.{rules}
 use mathlib.Core.Path.{ap, ◌∙◌}
-use Prim.Native.Nat.{ℕ}
 use lib.Bits.{mask_lt}
 use Rattle.wire.specs.Fields.{bits}
 use Rattle.wire.proofs.Laws.Fields.{masked_low}
-use Rattle.wire.proofs.twelve_at.Reads as reads
-use Rattle.wire.proofs.twelve_at.Lts as lts
-use Rattle.wire.proofs.sixteen_at.Reads as sixteen-at-reads
 use Rattle.wire.proofs.twelve_at.Goals as goal
 
 pub returns : goal.returns

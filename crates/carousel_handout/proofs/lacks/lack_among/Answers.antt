@@ -1,11 +1,8 @@
 -- `carousel_handout::lacks::lack_among` meets its contract. The invariant: what is told so far is told of the blocks from b on.
-use borrow.Author.Rules.{rules}
 use mathlib.Core.Path.{◌≡◌, sym, ap, ◌∙◌}
-use Prim.Native.Nat.{◌-◌, ◌≤◌}
+use Prim.Native.Nat.{◌-◌}
 use native.Mathlib.Omega.{arith}
 use Rattle.carousel_handout.specs.declared.Lack.{Lack}
-use Rattle.carousel_record.specs.Marks.{clear_among}
-use Rattle.carousel_handout.specs.Calls.{lack_of}
 use Rattle.carousel_handout.proofs.Laws.Lacks.{among_next, among_none, among-few}
 use Rattle.carousel_handout.proofs.lacks.lack_among.Goals as goal
 

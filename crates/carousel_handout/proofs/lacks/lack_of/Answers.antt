@@ -2,7 +2,7 @@
 use Prim.Native.Nat.{ℕ, ◌*◌, ◌≤◌, ◌<◌}
 use mathlib.Core.Path.{◌≡◌, sym, ap, ◌∙◌}
 use native.Mathlib.Omega.{arith}
-use lib.ListN.{length, get_or, length-map}
+use lib.ListN.{length, get_or}
 use Rattle.carousel_messages.specs.Limits.{most_modules, most_blocks}
 use Rattle.carousel_messages.specs.declared.Listed.{Listed}
 use Rattle.carousel_record.specs.Blocks.{blocks_of}
@@ -13,7 +13,6 @@ use Rattle.carousel_record.proofs.Laws.Blocks.{few}
 use Rattle.carousel_record.proofs.Laws.Places.{block-size_pos, size-most}
 use Rattle.carousel_record.proofs.Laws.Rule.{kept, ruled-says, ruled-count}
 use Rattle.carousel_record.proofs.Laws.Says.{says-count, says_module}
-use borrow.Author.Rules.{rules}
 use Rattle.carousel_handout.proofs.lacks.lack_of.Goals as goal
 use Rattle.carousel_handout.proofs.lacks.lack_of.Goals.{Start}
 

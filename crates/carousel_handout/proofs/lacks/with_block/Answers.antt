@@ -1,5 +1,4 @@
 -- `carousel_handout::lacks::with_block` meets its contract.
-use borrow.Author.Rules.{rules}
 use Rattle.carousel_handout.proofs.lacks.with_block.Goals as goal
 
 pub returns : goal.returns

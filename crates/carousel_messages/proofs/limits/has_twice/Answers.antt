@@ -1,11 +1,7 @@
 -- `carousel_messages::limits::has_twice` meets its contract. The invariant: of the numbers left one comes twice just where one of all does.
-use borrow.Author.Rules.{rules}
-use mathlib.Core.Path.{◌≡◌, refl, sym, ◌∙◌}
-use Prim.Native.Nat.{◌-◌}
+use mathlib.Core.Path.{refl, sym, ◌∙◌}
 use native.Mathlib.Omega.{arith}
-use lib.ListN.{take, drop}
-use Rattle.carousel_messages.specs.Limits.{twice11}
-use Rattle.carousel_messages.specs.Heard.{numbers_of}
+use lib.ListN.{take}
 use Rattle.carousel_messages.proofs.Laws.Limits.{twice_hit, twice-next, twice-done}
 use Rattle.carousel_messages.proofs.limits.has_twice.Goals as goal
 

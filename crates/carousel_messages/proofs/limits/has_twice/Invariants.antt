@@ -1,11 +1,9 @@
 -- `carousel_messages::limits::has_twice` meets its contract. The invariant: of the numbers left one comes twice just where one of all does.
-use mathlib.Core.Path.{◌≡◌, refl, sym, ◌∙◌}
+use mathlib.Core.Path.{◌≡◌}
 use Prim.Native.Nat.{◌-◌}
-use native.Mathlib.Omega.{arith}
 use lib.ListN.{take, drop}
 use Rattle.carousel_messages.specs.Limits.{twice11}
 use Rattle.carousel_messages.specs.Heard.{numbers_of}
-use Rattle.carousel_messages.proofs.Laws.Limits.{twice_hit, twice-next, twice-done}
 use Rattle.carousel_messages.proofs.limits.has_twice.Given as goal
 
 abbrev pub invariant-loop-i : goal.invariant-loop-i

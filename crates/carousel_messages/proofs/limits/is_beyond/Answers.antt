@@ -7,7 +7,6 @@ use lib.ListN.{take}
 use Rattle.carousel_messages.specs.Limits.{most_bytes, some_bad, total, beyond10}
 use Rattle.carousel_messages.specs.Heard.{sizes_of}
 use Rattle.carousel_messages.proofs.Laws.Limits.{beyond-none, beyond-large, beyond-empty, beyond-sizes}
-use borrow.Author.Rules.{rules}
 use Rattle.carousel_messages.proofs.limits.is_beyond.Goals as goal
 use Rattle.carousel_messages.proofs.limits.is_beyond.Goals.{Else-used-eq0}
 

@@ -1,10 +1,7 @@
 -- `carousel_messages::limits::place_from` meets its contract. The invariant: the place of the number among those left, from here on, is the same as at the start.
-use borrow.Author.Rules.{rules}
-use mathlib.Core.Path.{◌≡◌, refl}
-use Prim.Native.Nat.{◌+◌, ◌-◌}
+use mathlib.Core.Path.{refl}
 use native.Mathlib.Omega.{arith}
-use lib.ListN.{take, drop}
-use Rattle.carousel_messages.specs.Heard.{place_in}
+use lib.ListN.{take}
 use Rattle.carousel_messages.proofs.Laws.Limits.{place_hit, place-next, place-done}
 use Rattle.carousel_messages.proofs.limits.place_from.Goals as goal
 

@@ -1,10 +1,8 @@
 -- `carousel_messages::limits::place_from` meets its contract. The invariant: the place of the number among those left, from here on, is the same as at the start.
-use mathlib.Core.Path.{◌≡◌, refl}
+use mathlib.Core.Path.{◌≡◌}
 use Prim.Native.Nat.{◌+◌, ◌-◌}
-use native.Mathlib.Omega.{arith}
 use lib.ListN.{take, drop}
 use Rattle.carousel_messages.specs.Heard.{place_in}
-use Rattle.carousel_messages.proofs.Laws.Limits.{place_hit, place-next, place-done}
 use Rattle.carousel_messages.proofs.limits.place_from.Given as goal
 
 abbrev pub invariant-loop-i : goal.invariant-loop-i

@@ -1,11 +1,7 @@
 -- `carousel_messages::limits::some_bad` meets its contract. The invariant: of the sizes left one is bad just where one of all is.
-use borrow.Author.Rules.{rules}
-use mathlib.Core.Path.{◌≡◌, refl, sym, ◌∙◌}
-use Prim.Native.Nat.{◌-◌}
+use mathlib.Core.Path.{refl, sym, ◌∙◌}
 use native.Mathlib.Omega.{arith}
-use lib.ListN.{take, drop}
-use Rattle.carousel_messages.specs.Limits.{some_bad}
-use Rattle.carousel_messages.specs.Heard.{sizes_of}
+use lib.ListN.{take}
 use Rattle.carousel_messages.proofs.Laws.Limits.{bad_zero, bad-large, bad-next, bad-done}
 use Rattle.carousel_messages.proofs.limits.some_bad.Goals as goal
 

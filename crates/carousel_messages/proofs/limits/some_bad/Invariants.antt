@@ -1,11 +1,9 @@
 -- `carousel_messages::limits::some_bad` meets its contract. The invariant: of the sizes left one is bad just where one of all is.
-use mathlib.Core.Path.{◌≡◌, refl, sym, ◌∙◌}
+use mathlib.Core.Path.{◌≡◌}
 use Prim.Native.Nat.{◌-◌}
-use native.Mathlib.Omega.{arith}
 use lib.ListN.{take, drop}
 use Rattle.carousel_messages.specs.Limits.{some_bad}
 use Rattle.carousel_messages.specs.Heard.{sizes_of}
-use Rattle.carousel_messages.proofs.Laws.Limits.{bad_zero, bad-large, bad-next, bad-done}
 use Rattle.carousel_messages.proofs.limits.some_bad.Given as goal
 
 abbrev pub invariant-loop-i : goal.invariant-loop-i

@@ -1,11 +1,6 @@
 -- `carousel_messages::limits::total` meets its contract. The invariant: the sum so far and the sizes left are the sizes together.
-use borrow.Author.Rules.{rules}
-use mathlib.Core.Path.{◌≡◌}
-use Prim.Native.Nat.{◌+◌, ◌-◌, ◌*◌, ◌≤◌}
 use native.Mathlib.Omega.{arith}
-use lib.ListN.{take, drop}
-use Rattle.carousel_messages.specs.Limits as limits
-use Rattle.carousel_messages.specs.Heard.{sizes_of}
+use lib.ListN.{take}
 use Rattle.carousel_messages.proofs.Laws.Limits.{total-next, total-done}
 use Rattle.carousel_messages.proofs.limits.total.Goals as goal
 

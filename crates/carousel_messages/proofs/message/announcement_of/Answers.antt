@@ -3,7 +3,6 @@ use Prim.Native.Nat.{◌+◌, ◌-◌}
 use mathlib.Core.Path.{ap, ap₂, ◌∙◌}
 use Rattle.carousel_messages.specs.Contents.{download_of, block_size_of, module_count_of, modules_start, modules_end}
 use Rattle.carousel_messages.specs.Judged.{announcement_of}
-use borrow.Author.Rules.{rules}
 use Rattle.carousel_messages.proofs.message.announcement_of.Goals as goal
 
 pub returns : goal.returns

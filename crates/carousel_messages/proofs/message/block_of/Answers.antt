@@ -5,7 +5,6 @@ use mathlib.Core.List.{List}
 use lib.ListN.{length}
 use Rattle.carousel_messages.specs.Contents.{block_module_of, block_version_of, block_number_of}
 use Rattle.carousel_messages.specs.Judged.{block_of}
-use borrow.Author.Rules.{rules}
 use Rattle.carousel_messages.proofs.message.block_of.Goals as goal
 
 pub returns : goal.returns

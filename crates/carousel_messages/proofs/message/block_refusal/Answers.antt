@@ -1,7 +1,6 @@
 -- `carousel_messages::message::block_refusal` meets its contract.
 use native.Mathlib.Omega.{arith}
 use Rattle.carousel_messages.proofs.Laws.Refusals.{block-short, another_module, another-number, another-version, block-own}
-use borrow.Author.Rules.{rules}
 use Rattle.carousel_messages.proofs.message.block_refusal.Goals as goal
 
 pub returns-then-p-lt6 : goal.returns-then-p-lt6

@@ -3,7 +3,6 @@ use mathlib.Core.Path.{ap₂, ◌∙◌}
 use native.Mathlib.Omega.{arith}
 use lib.Dec.{leb}
 use Rattle.carousel_messages.proofs.Laws.Refusals.{uneven, even}
-use borrow.Author.Rules.{rules}
 use Rattle.carousel_messages.proofs.message.is_framed.Goals as goal
 
 pub returns-then-n-b : goal.returns-then-n-b

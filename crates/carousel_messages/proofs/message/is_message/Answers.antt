@@ -4,7 +4,6 @@ use native.Mathlib.Omega.{arith}
 use mathlib.Core.Bool.{Bool, not}
 use lib.Dec.{eqb}
 use Rattle.carousel_messages.proofs.Laws.Refusals.{first-other, second-other, number_is}
-use borrow.Author.Rules.{rules}
 use Rattle.carousel_messages.proofs.message.is_message.Goals as goal
 
 pub returns-then-byte_at-ne17 : goal.returns-then-byte_at-ne17

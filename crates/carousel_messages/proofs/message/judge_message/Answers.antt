@@ -1,7 +1,6 @@
 -- `carousel_messages::message::judge_message` meets its contract.
 use mathlib.Core.Path.{◌≡◌, sym, ap, ◌∙◌}
 use Prim.Native.Nat.{ℕ}
-use borrow.Author.Rules.{rules}
 use Rattle.section.specs.Answer.{refused}
 use Rattle.carousel_messages.specs.declared.CarouselTable.{CarouselTable}
 use Rattle.carousel_messages.specs.declared.Judged.TheVariants.{Refused, Announced, Carried}

@@ -2,10 +2,8 @@
 use mathlib.Core.Bool.{not}
 use mathlib.Core.Path.{sym, ap, ◌∙◌}
 use native.Mathlib.Omega.{arith}
-use borrow.Author.Tests.{not-true, not-false}
 use Rattle.carousel_messages.specs.Refusals.{payload_refusal}
 use Rattle.carousel_messages.proofs.Laws.Refusals.{is-short, is-8, is_open, is-payload}
-use borrow.Author.Rules.{rules}
 use Rattle.carousel_messages.proofs.message.message_refusal.Goals as goal
 
 pub returns-then-b-lt12 : goal.returns-then-b-lt12

@@ -5,7 +5,6 @@ use Prim.Native.Nat.{ℕ, ◌+◌}
 use lib.ListN.{drop}
 use Rattle.wire.proofs.Laws.Loops.{tail}
 use Rattle.carousel_messages.proofs.Laws.Refusals.{no_payload}
-use borrow.Author.Rules.{rules}
 use Rattle.carousel_messages.proofs.message.payload.Goals as goal
 
 pub returns-then-b-at : goal.returns-then-b-at

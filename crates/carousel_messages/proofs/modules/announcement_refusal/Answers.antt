@@ -5,14 +5,12 @@ use mathlib.Core.List.{List, map}
 use Prim.Native.Nat.{ℕ, ◌≤◌}
 use native.Mathlib.Omega.{arith}
 use lib.ListN.{length, take}
-use borrow.Author.Tests.{not-true, not-false}
 use Rattle.wire.proofs.Laws.Loops.{tail}
 use Rattle.carousel_messages.specs.Contents.{announcement_framed, modules_of}
 use Rattle.carousel_messages.specs.Refusals.{meets10, meets11}
 use Rattle.carousel_messages.specs.Heard.{listed_of, list_of}
 use Rattle.carousel_messages.proofs.Laws.Listed.{list-long, list_read}
 use Rattle.carousel_messages.proofs.Laws.Refusals.{framed-starts, beyond-many, read-10, read-11, announcement_open, announcement-beyond, announcement-twice, announcement-good}
-use borrow.Author.Rules.{rules}
 use Rattle.carousel_messages.proofs.modules.announcement_refusal.Goals as goal
 use Rattle.carousel_messages.proofs.modules.announcement_refusal.Goals.{After-has_twice, After-is_beyond, After-modules_start-start, After-read_modules-ms, Else-not-is_announcement}
 

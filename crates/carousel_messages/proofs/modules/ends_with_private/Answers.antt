@@ -6,7 +6,6 @@ use lib.Dec.{eqb}
 use lib.ListN.{length}
 use borrow.Author.Tests.{ne_eqb}
 use Rattle.wire.specs.Fields.{sixteen_at}
-use borrow.Author.Rules.{rules}
 use Rattle.carousel_messages.proofs.modules.ends_with_private.Goals as goal
 
 pub returns-then-p-lt2 : goal.returns-then-p-lt2

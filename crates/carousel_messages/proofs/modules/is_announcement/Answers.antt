@@ -6,7 +6,6 @@ use lib.Dec.{eqb}
 use lib.ListN.{length}
 use Rattle.wire.specs.Fields.{sixteen_at}
 use Rattle.carousel_messages.proofs.Laws.Refusals.{framed-short, framed-fewer, framed-rest}
-use borrow.Author.Rules.{rules}
 use Rattle.carousel_messages.proofs.modules.is_announcement.Goals as goal
 
 pub returns-then-p-modules_start : goal.returns-then-p-modules_start

@@ -2,7 +2,6 @@
 use mathlib.Core.Path.{sym, ◌∙◌}
 use native.Mathlib.Omega.{arith}
 use Rattle.carousel_messages.proofs.Laws.Listed.{there, past, none-at, none-past, listed-is, ends-within}
-use borrow.Author.Rules.{rules}
 use Rattle.carousel_messages.proofs.modules.module_at.Goals as goal
 
 pub returns-then-list-place : goal.returns-then-list-place

@@ -4,7 +4,6 @@ use native.Mathlib.Omega.{arith}
 use Prim.Native.Nat.{◌+◌, ◌-◌}
 use Rattle.wire.specs.Fields.{sixteen_at}
 use Rattle.carousel_messages.specs.Contents.{compatibility_of}
-use borrow.Author.Rules.{rules}
 use Rattle.carousel_messages.proofs.modules.module_count.Goals as goal
 
 pub returns : goal.returns

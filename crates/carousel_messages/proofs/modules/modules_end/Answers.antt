@@ -1,6 +1,5 @@
 -- `carousel_messages::modules::modules_end` meets its contract.
 use mathlib.Core.Path.{◌∙◌}
-use borrow.Author.Rules.{rules}
 use Rattle.carousel_messages.proofs.modules.modules_end.Goals as goal
 
 pub returns : goal.returns

@@ -1,9 +1,8 @@
 -- `carousel_messages::modules::read_modules` meets its contract. The invariant: the first i are those of the list, and the others begin at byte `at`.
-use borrow.Author.Rules.{rules}
 use mathlib.Core.Path.{◌≡◌, refl, ◌∙◌}
-use Prim.Native.Nat.{◌-◌, ◌+◌, ◌≤◌}
+use Prim.Native.Nat.{◌+◌}
 use native.Mathlib.Omega.{arith}
-use lib.ListN.{length, take, length-replicate, length-set}
+use lib.ListN.{length-replicate, length-set}
 use Rattle.carousel_messages.specs.declared.Listed.{Listed}
 use Rattle.carousel_messages.specs.Limits.{most_modules}
 use Rattle.carousel_messages.specs.Heard.{none_listed, list_of}

@@ -1,13 +1,10 @@
 -- `carousel_messages::modules::read_modules` meets its contract. The invariant: the first i are those of the list, and the others begin at byte `at`.
-use mathlib.Core.Path.{◌≡◌, refl, ◌∙◌}
-use Prim.Native.Nat.{◌-◌, ◌+◌, ◌≤◌}
-use native.Mathlib.Omega.{arith}
-use lib.ListN.{length, take, length-replicate, length-set}
-use Rattle.carousel_messages.specs.declared.Listed.{Listed}
+use mathlib.Core.Path.{◌≡◌}
+use Prim.Native.Nat.{◌-◌, ◌≤◌}
+use lib.ListN.{length, take}
 use Rattle.carousel_messages.specs.Limits.{most_modules}
-use Rattle.carousel_messages.specs.Heard.{none_listed, list_of}
-use Rattle.carousel_messages.proofs.Laws.Limits.{filled_next}
-use Rattle.carousel_messages.proofs.Laws.Reading.{Reading, reading-none, reading-here, reading-next}
+use Rattle.carousel_messages.specs.Heard.{list_of}
+use Rattle.carousel_messages.proofs.Laws.Reading.{Reading}
 use Rattle.carousel_messages.proofs.modules.read_modules.Given as goal
 
 abbrev pub invariant-loop-i : goal.invariant-loop-i

@@ -5,7 +5,6 @@ use native.Mathlib.Omega.{arith}
 use Rattle.text.proofs.Laws.Written.{first, then}
 use Rattle.carousel_play.specs.Pieces.{head_bytes, message_head}
 use Rattle.carousel_play.proofs.Laws.Pieces.{framed}
-use borrow.Author.Rules.{rules}
 use Rattle.carousel_play.proofs.frame.put_frame.Goals as goal
 
 pub returns : goal.returns

@@ -2,7 +2,6 @@
 use mathlib.Core.List.{[], ◌∷◌}
 use Rattle.wire.specs.Fields.{spelled}
 use Rattle.text.proofs.Laws.Written.{first, then}
-use borrow.Author.Rules.{rules}
 use Rattle.carousel_play.proofs.payloads.put_carried.Goals as goal
 
 pub returns : goal.returns

@@ -8,7 +8,6 @@ use Rattle.carousel_play.specs.Bytes.{modules_bytes}
 use Rattle.carousel_play.specs.Calls.{to_play}
 use Rattle.carousel_play.proofs.Laws.Spots.{played-count}
 use Rattle.carousel_play.proofs.Laws.Pieces.{list_pieces}
-use borrow.Author.Rules.{rules}
 use Rattle.carousel_play.proofs.payloads.put_list.Goals as goal
 use Rattle.carousel_play.proofs.payloads.put_list.Goals.{Start}
 

@@ -1,13 +1,10 @@
 -- `carousel_play::payloads::put_modules` meets its contract. The invariant: the modules that are left, put from here on, leave what all of them leave.
-use Prim.Native.Nat.{◌+◌, ◌-◌, ◌≤◌}
-use mathlib.Core.Path.{◌≡◌, refl, sym, ◌∙◌}
-use native.Mathlib.Omega.{arith}
-use lib.ListN.{length, take, drop, get_or}
+use Prim.Native.Nat.{◌-◌, ◌≤◌}
+use mathlib.Core.Path.{◌≡◌}
+use lib.ListN.{length, take, drop}
 use lib.Seq.{sets}
 use Rattle.text.specs.Text.{reached}
-use Rattle.carousel_messages.specs.Heard.{none_listed}
 use Rattle.carousel_play.specs.Bytes.{modules_bytes}
-use Rattle.carousel_play.proofs.Laws.Pieces.{module-step, module-none, modules-left, none_left}
 use Rattle.carousel_play.proofs.payloads.put_modules.Given as goal
 
 abbrev pub invariant-loop-i : goal.invariant-loop-i

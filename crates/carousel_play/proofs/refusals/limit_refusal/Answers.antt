@@ -1,6 +1,5 @@
 -- `carousel_play::refusals::limit_refusal` meets its contract.
 use mathlib.Core.Path.{sym, ◌∙◌}
-use borrow.Author.Rules.{rules}
 use Rattle.carousel_play.proofs.Laws.Refusals.{too_many, beyond, twice, within}
 use Rattle.carousel_play.proofs.refusals.limit_refusal.Goals as goal
 

@@ -2,7 +2,6 @@
 use Prim.Native.Nat.{◌≤◌}
 use mathlib.Core.Path.{◌≡◌, sym, ◌∙◌}
 use native.Mathlib.Omega.{arith}
-use borrow.Author.Rules.{rules}
 use Rattle.carousel_record.specs.Record.{bytes_of}
 use Rattle.carousel_play.specs.Calls.{to_play, limit_refusal}
 use Rattle.carousel_play.proofs.Laws.Refusals.{kept, by_limits, short-image, no_place_lem, a-place}

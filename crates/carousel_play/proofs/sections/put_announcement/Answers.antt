@@ -9,7 +9,6 @@ use Rattle.carousel_play.specs.Pieces.{framed_by}
 use Rattle.carousel_play.proofs.Laws.Payload.{list-long}
 use Rattle.carousel_play.proofs.Laws.Spots.{played-count}
 use Rattle.carousel_play.proofs.Laws.Pieces.{around}
-use borrow.Author.Rules.{rules}
 use Rattle.carousel_play.proofs.sections.put_announcement.Goals as goal
 use Rattle.carousel_play.proofs.sections.put_announcement.Goals.{Start}
 

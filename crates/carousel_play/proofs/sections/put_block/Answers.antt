@@ -7,7 +7,6 @@ use Rattle.carousel_play.specs.Pieces.{framed_by}
 use Rattle.carousel_play.specs.Bytes.{carried_bytes}
 use Rattle.carousel_play.proofs.Laws.Chosen.{carried-size}
 use Rattle.carousel_play.proofs.Laws.Pieces.{around}
-use borrow.Author.Rules.{rules}
 use Rattle.carousel_play.proofs.sections.put_block.Goals as goal
 
 pub returns : goal.returns

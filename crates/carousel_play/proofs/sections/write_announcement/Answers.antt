@@ -8,7 +8,6 @@ use Rattle.carousel_play.specs.Calls.{to_play}
 use Rattle.carousel_play.proofs.Laws.Spots.{played-count}
 use Rattle.carousel_play.proofs.Laws.Chosen.{announcement-size}
 use Rattle.carousel_play.proofs.Laws.Refusals.{no_room, room}
-use borrow.Author.Rules.{rules}
 use Rattle.carousel_play.proofs.sections.write_announcement.Goals as goal
 use Rattle.carousel_play.proofs.sections.write_announcement.Goals.{Start}
 

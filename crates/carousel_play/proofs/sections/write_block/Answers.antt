@@ -17,7 +17,6 @@ use Rattle.carousel_play.specs.Calls.{to_play}
 use Rattle.carousel_play.proofs.Laws.Spots.{played-count, entry-is}
 use Rattle.carousel_play.proofs.Laws.Chosen.{length-is, Chosen, chosen, section-is, section-size, cut, part-long}
 use Rattle.carousel_play.proofs.Laws.Refusals.{no_room, room}
-use borrow.Author.Rules.{rules}
 use Rattle.carousel_play.proofs.sections.write_block.Goals as goal
 use Rattle.carousel_play.proofs.sections.write_block.Goals.{After-lesser-last, After-lesser-size, After-spot_at-spot}
 

@@ -9,7 +9,6 @@ use Rattle.wire.proofs.Laws.Fields.{spelled_length}
 use Rattle.section.specs.Crc.{crc_of}
 use Rattle.text.specs.Text.{reached}
 use Rattle.text.proofs.Laws.Puts.{reached-fits}
-use borrow.Author.Rules.{rules}
 use Rattle.carousel_play.proofs.spell.put_crc.Goals as goal
 
 pub returns : goal.returns

@@ -4,7 +4,6 @@ use mathlib.Core.List.{[], ◌∷◌}
 use Rattle.wire.specs.Fields.{spelled}
 use Rattle.text.proofs.Laws.Written.{first, then}
 use Rattle.carousel_play.specs.Pieces.{head_bytes}
-use borrow.Author.Rules.{rules}
 use Rattle.carousel_play.proofs.spell.put_head.Goals as goal
 
 pub returns : goal.returns

@@ -3,7 +3,6 @@ use mathlib.Core.List.{[], ◌∷◌}
 use Rattle.wire.specs.Fields.{spelled}
 use Rattle.text.proofs.Laws.Written.{first, then}
 use Rattle.carousel_play.specs.Pieces.{message_head}
-use borrow.Author.Rules.{rules}
 use Rattle.carousel_play.proofs.spell.put_message.Goals as goal
 
 pub returns : goal.returns

@@ -1,9 +1,8 @@
 -- `carousel_play::spots::sections_in` meets its contract. The invariant: the announcement, and the blocks of the modules passed.
-use Prim.Native.Nat.{ℕ, ◌+◌, ◌-◌, ◌*◌, ◌≤◌}
+use Prim.Native.Nat.{ℕ, ◌+◌}
 use mathlib.Core.Path.{◌≡◌, ap, ◌∙◌}
 use native.Mathlib.Omega.{arith}
 use lib.ListN.{length}
-use borrow.Author.Rules.{rules}
 use Rattle.carousel_play.specs.Rotation.{blocks_to}
 use Rattle.carousel_play.specs.Calls.{to_play}
 use Rattle.carousel_play.proofs.Laws.Spots.{blocks-none, blocks-next, played-count, entry-is}

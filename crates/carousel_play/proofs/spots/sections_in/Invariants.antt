@@ -1,11 +1,8 @@
 -- `carousel_play::spots::sections_in` meets its contract. The invariant: the announcement, and the blocks of the modules passed.
-use Prim.Native.Nat.{ℕ, ◌+◌, ◌-◌, ◌*◌, ◌≤◌}
-use mathlib.Core.Path.{◌≡◌, ap, ◌∙◌}
-use native.Mathlib.Omega.{arith}
-use lib.ListN.{length}
+use Prim.Native.Nat.{◌+◌, ◌-◌, ◌*◌, ◌≤◌}
+use mathlib.Core.Path.{◌≡◌}
 use Rattle.carousel_play.specs.Rotation.{blocks_to}
 use Rattle.carousel_play.specs.Calls.{to_play}
-use Rattle.carousel_play.proofs.Laws.Spots.{blocks-none, blocks-next, played-count, entry-is}
 use Rattle.carousel_play.proofs.spots.sections_in.Given as goal
 
 abbrev pub invariant-loop-i : goal.invariant-loop-i

@@ -1,12 +1,11 @@
 -- `carousel_play::spots::spot_at` meets its contract. The invariant: the blocks and the bytes of the modules passed.
-use Prim.Native.Nat.{◌-◌, ◌<◌}
+use Prim.Native.Nat.{◌<◌}
 use mathlib.Core.Path.{◌≡◌, ap}
 use native.Mathlib.Omega.{arith}
 use lib.ListN.{length}
-use borrow.Author.Rules.{rules}
 use Rattle.carousel_play.specs.Rotation.{blocks_to}
 use Rattle.carousel_play.specs.Calls.{to_play}
-use Rattle.carousel_play.proofs.Laws.Spots.{Walked, walked_none, walked_next, walked_here, walked-past, played-count, entry-is}
+use Rattle.carousel_play.proofs.Laws.Spots.{walked_none, walked_next, walked_here, walked-past, played-count, entry-is}
 use Rattle.carousel_play.proofs.spots.spot_at.Goals as goal
 use Rattle.carousel_play.proofs.spots.spot_at.Goals.{Start}
 

@@ -1,11 +1,7 @@
 -- `carousel_play::spots::spot_at` meets its contract. The invariant: the blocks and the bytes of the modules passed.
-use Prim.Native.Nat.{◌-◌, ◌<◌}
-use mathlib.Core.Path.{◌≡◌, ap}
-use native.Mathlib.Omega.{arith}
-use lib.ListN.{length}
-use Rattle.carousel_play.specs.Rotation.{blocks_to}
+use Prim.Native.Nat.{◌-◌}
 use Rattle.carousel_play.specs.Calls.{to_play}
-use Rattle.carousel_play.proofs.Laws.Spots.{Walked, walked_none, walked_next, walked_here, walked-past, played-count, entry-is}
+use Rattle.carousel_play.proofs.Laws.Spots.{Walked}
 use Rattle.carousel_play.proofs.spots.spot_at.Given as goal
 
 abbrev pub invariant-loop-i : goal.invariant-loop-i

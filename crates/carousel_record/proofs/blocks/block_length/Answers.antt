@@ -4,7 +4,6 @@ use mathlib.Core.Path.{sym}
 use native.Mathlib.Omega.{arith}
 use Rattle.carousel_record.proofs.Laws.Blocks.{begins, inner_length, last_length}
 use Rattle.carousel_record.proofs.Laws.Words.{block-sized, blocks-most}
-use borrow.Author.Rules.{rules}
 use Rattle.carousel_record.proofs.blocks.block_length.Goals as goal
 use Rattle.carousel_record.proofs.blocks.block_length.Goals.{Else-block-blocks_of, Start}
 

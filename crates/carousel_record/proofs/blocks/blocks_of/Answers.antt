@@ -4,7 +4,6 @@ use Prim.Native.Nat.{◌+◌, ◌-◌}
 use mathlib.Core.Path.{refl, sym}
 use native.Mathlib.Nat.{div-zero, div-le_self}
 use native.Mathlib.Omega.{arith}
-use borrow.Author.Rules.{rules}
 use Rattle.carousel_record.proofs.blocks.blocks_of.Goals as goal
 
 pub returns-then-block_size-eq0 : goal.returns-then-block_size-eq0

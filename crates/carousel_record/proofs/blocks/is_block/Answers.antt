@@ -3,7 +3,6 @@ use borrow.Author.Tests.{lt-ltb, le-ltb}
 use Prim.Native.Nat.{◌≤◌, ◌<◌}
 use native.Mathlib.Omega.{arith}
 use Rattle.carousel_record.specs.Blocks.{blocks_of}
-use borrow.Author.Rules.{rules}
 use Rattle.carousel_record.proofs.blocks.is_block.Goals as goal
 
 pub returns-then-blocks_of-block : goal.returns-then-blocks_of-block

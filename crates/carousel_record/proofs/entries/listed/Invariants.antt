@@ -1,15 +1,10 @@
 -- `carousel_record::entries::listed` meets its contract. The invariant: the first i are those of the entries.
-use mathlib.Core.Path.{◌≡◌, refl, sym, ◌∙◌}
+use mathlib.Core.Path.{◌≡◌}
 use mathlib.Core.List.{map}
 use Prim.Native.Nat.{◌-◌, ◌≤◌}
-use native.Mathlib.Omega.{arith}
-use lib.ListN.{length, take, length-map, length-replicate, length-set, get_or-map}
-use lib.Seq.{take_all}
-use Rattle.carousel_messages.specs.declared.Listed.{Listed}
+use lib.ListN.{length, take}
 use Rattle.carousel_messages.specs.Limits.{most_modules}
-use Rattle.carousel_messages.specs.Heard.{none_listed}
-use Rattle.carousel_messages.proofs.Laws.Limits.{filled_next}
-use Rattle.carousel_record.specs.Record.{listed_in, unused}
+use Rattle.carousel_record.specs.Record.{listed_in}
 use Rattle.carousel_record.proofs.entries.listed.Given as goal
 
 abbrev pub invariant-loop-i : goal.invariant-loop-i

@@ -1,10 +1,9 @@
 -- `carousel_record::entries::numbers_of` meets its contract. The invariant: the first i are those of the entries.
-use borrow.Author.Rules.{rules}
 use mathlib.Core.Path.{◌≡◌, refl, sym, ◌∙◌}
 use mathlib.Core.List.{map}
-use Prim.Native.Nat.{ℕ, ◌-◌, ◌≤◌}
+use Prim.Native.Nat.{ℕ}
 use native.Mathlib.Omega.{arith}
-use lib.ListN.{length, take, length-map, length-replicate, length-set, get_or-map}
+use lib.ListN.{length, length-map, length-replicate, length-set, get_or-map}
 use lib.Seq.{take_all}
 use Rattle.carousel_messages.specs.Limits.{most_modules}
 use Rattle.carousel_messages.proofs.Laws.Limits.{filled_next}

@@ -1,13 +1,10 @@
 -- `carousel_record::entries::numbers_of` meets its contract. The invariant: the first i are those of the entries.
-use mathlib.Core.Path.{◌≡◌, refl, sym, ◌∙◌}
+use mathlib.Core.Path.{◌≡◌}
 use mathlib.Core.List.{map}
-use Prim.Native.Nat.{ℕ, ◌-◌, ◌≤◌}
-use native.Mathlib.Omega.{arith}
-use lib.ListN.{length, take, length-map, length-replicate, length-set, get_or-map}
-use lib.Seq.{take_all}
+use Prim.Native.Nat.{◌-◌, ◌≤◌}
+use lib.ListN.{length, take}
 use Rattle.carousel_messages.specs.Limits.{most_modules}
-use Rattle.carousel_messages.proofs.Laws.Limits.{filled_next}
-use Rattle.carousel_record.specs.Record.{number_in, unused}
+use Rattle.carousel_record.specs.Record.{number_in}
 use Rattle.carousel_record.proofs.entries.numbers_of.Given as goal
 
 abbrev pub invariant-loop-i : goal.invariant-loop-i

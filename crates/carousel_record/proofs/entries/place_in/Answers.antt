@@ -1,10 +1,6 @@
 -- `carousel_record::entries::place_in` meets its contract. The invariant: the place of the number among those left, from here on, is the same as at the start.
-use borrow.Author.Rules.{rules}
-use mathlib.Core.Path.{◌≡◌}
-use Prim.Native.Nat.{◌+◌, ◌-◌}
 use native.Mathlib.Omega.{arith}
-use lib.ListN.{length, take, drop, length-take}
-use Rattle.carousel_record.specs.Record.{place_among}
+use lib.ListN.{length-take}
 use Rattle.carousel_record.proofs.Laws.Entries.{among_hit, among_next, among-done}
 use Rattle.carousel_record.proofs.entries.place_in.Goals as goal
 

@@ -1,10 +1,8 @@
 -- `carousel_record::entries::place_in` meets its contract. The invariant: the place of the number among those left, from here on, is the same as at the start.
 use mathlib.Core.Path.{◌≡◌}
 use Prim.Native.Nat.{◌+◌, ◌-◌}
-use native.Mathlib.Omega.{arith}
-use lib.ListN.{length, take, drop, length-take}
+use lib.ListN.{take, drop}
 use Rattle.carousel_record.specs.Record.{place_among}
-use Rattle.carousel_record.proofs.Laws.Entries.{among_hit, among_next, among-done}
 use Rattle.carousel_record.proofs.entries.place_in.Given as goal
 
 abbrev pub invariant-loop-i : goal.invariant-loop-i

@@ -1,13 +1,8 @@
 -- `carousel_record::marks::is_clear_from` meets its contract. The invariant: the words left have no mark from what is left of n on just where all have none from n on.
-use borrow.Author.Tests.{not-true, not-false}
-use mathlib.Core.Path.{◌≡◌, refl, sym, ap, ◌∙◌}
-use mathlib.Core.List.{List}
-use Prim.Native.Nat.{ℕ, ◌-◌, ◌≤◌}
-use native.Mathlib.Omega.{arith}
-use lib.ListN.{length, drop, length-drop}
-use lib.Seq.{take_all}
+use mathlib.Core.Path.{◌≡◌}
+use Prim.Native.Nat.{◌-◌, ◌≤◌}
+use lib.ListN.{length, drop}
 use Rattle.carousel_record.specs.Marks.{clear_from}
-use Rattle.carousel_record.proofs.Laws.Words.{word-off, word_next, word-done}
 use Rattle.carousel_record.proofs.marks.is_clear_from.Given as goal
 
 abbrev pub invariant-loop-i : goal.invariant-loop-i

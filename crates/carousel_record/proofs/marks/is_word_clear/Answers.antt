@@ -5,7 +5,6 @@ use native.Mathlib.Nat.{div-eq_of_lt}
 use native.Mathlib.Omega.{arith}
 use lib.Pow.{pow_mono}
 use borrow.Author.Tests.{eq-eqb}
-use borrow.Author.Rules.{rules}
 use Rattle.carousel_record.proofs.marks.is_word_clear.Goals as goal
 
 pub returns-then-n-ge32 : goal.returns-then-n-ge32

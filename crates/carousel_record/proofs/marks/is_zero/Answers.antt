@@ -1,12 +1,6 @@
 -- `carousel_record::marks::is_zero` meets its contract. The invariant: nothing is set in the words so far, taken together, nor in those left, just where all are clear.
-use borrow.Author.Rules.{rules}
-use mathlib.Core.Path.{◌≡◌, refl, sym, ◌∙◌}
-use mathlib.Core.Bool.{◌&&◌}
-use Prim.Native.Nat.{◌-◌, ◌≤◌}
+use mathlib.Core.Path.{refl, sym, ◌∙◌}
 use native.Mathlib.Omega.{arith}
-use lib.Dec.{eqb}
-use lib.ListN.{length, drop}
-use Rattle.carousel_record.specs.Marks.{clear_from}
 use Rattle.carousel_record.proofs.Laws.Words.{zero-next, zero-done}
 use Rattle.carousel_record.proofs.marks.is_zero.Goals as goal
 

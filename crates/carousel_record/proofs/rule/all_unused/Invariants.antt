@@ -1,12 +1,9 @@
 -- `carousel_record::rule::all_unused` meets its contract. The invariant: the entries left are unused just where all from n on are.
-use borrow.Author.Tests.{not-true, not-false}
-use mathlib.Core.Path.{◌≡◌, refl, sym, ◌∙◌}
+use mathlib.Core.Path.{◌≡◌}
 use Prim.Native.Nat.{◌-◌, ◌≤◌}
-use native.Mathlib.Omega.{arith}
-use lib.ListN.{length, drop}
+use lib.ListN.{drop}
 use Rattle.carousel_messages.specs.Limits.{most_modules}
 use Rattle.carousel_record.specs.Record.{all_unused}
-use Rattle.carousel_record.proofs.Laws.Entries.{used-here, unused-next, unused-done}
 use Rattle.carousel_record.proofs.rule.all_unused.Given as goal
 
 abbrev pub invariant-loop-i : goal.invariant-loop-i

@@ -1,17 +1,14 @@
 -- `carousel_record::rule::is_in_place` meets its contract. The invariant: the words left keep to the numbers of blocks left just where all keep to all.
-use borrow.Author.Rules.{rules}
-use borrow.Author.Tests.{not-true, not-false}
 use mathlib.Core.Path.{◌≡◌, refl, sym, ap, ◌∙◌}
-use mathlib.Core.List.{List, map}
+use mathlib.Core.List.{List}
 use Prim.Native.Nat.{ℕ, ◌+◌, ◌-◌, ◌*◌, ◌≤◌}
 use native.Mathlib.Omega.{arith}
-use lib.ListN.{length, get_or, take, drop, length-map, length-drop}
+use lib.ListN.{length, get_or, take, drop, length-drop}
 use lib.Seq.{take_all}
 use Rattle.carousel_record.specs.declared.Carousel.{Carousel}
 use Rattle.carousel_record.specs.Blocks.{blocks_of}
-use Rattle.carousel_record.specs.Marks.{module_words, mark_words, marks_within, clear_from}
-use Rattle.carousel_messages.specs.Heard.{sizes_of}
-use Rattle.carousel_record.specs.Record.{announced_by, listed_in, unused}
+use Rattle.carousel_record.specs.Marks.{module_words, mark_words, clear_from}
+use Rattle.carousel_record.specs.Record.{announced_by, unused}
 use Rattle.carousel_record.proofs.Laws.Entries.{place-off, place_kept, marks-done}
 use Rattle.carousel_record.proofs.rule.is_in_place.Goals as goal
 use Rattle.carousel_record.proofs.rule.is_in_place.Goals.{After-is_clear_from, Start}

@@ -1,10 +1,10 @@
 -- `carousel_record::rule::is_ruled` meets its contract.
-use borrow.Author.Tests.{eq-eqb, le-leb, lt-leb, not-true, not-false}
+use borrow.Author.Tests.{eq-eqb, le-leb, lt-leb}
 use mathlib.Core.Path.{◌≡◌, sym, ◌∙◌}
 use mathlib.Core.Bool.{Bool, true, ◌&&◌}
 use mathlib.Core.List.{map}
 use native.Mathlib.Omega.{arith}
-use lib.ListN.{length, take, length-map}
+use lib.ListN.{length, take}
 use Rattle.wire.specs.Copies.{same_numbers}
 use Rattle.carousel_messages.specs.Limits.{most_modules}
 use Rattle.carousel_record.specs.declared.Carousel.{Carousel}
@@ -12,7 +12,6 @@ use Rattle.carousel_record.specs.Blocks.{blocks_of}
 use Rattle.carousel_record.specs.Marks.{module_words, mark_words, marks_within}
 use Rattle.carousel_messages.specs.Heard.{sizes_of}
 use Rattle.carousel_record.specs.Record.{announced_by, starts_by, listed_in, start_in, sums, within_limits, ruled, ruled_of}
-use borrow.Author.Rules.{rules}
 use Rattle.carousel_record.proofs.rule.is_ruled.Goals as goal
 use Rattle.carousel_record.proofs.rule.is_ruled.Goals.{Else-not-all_unused, Else-not-is_within_limits, Start}
 

@@ -1,13 +1,11 @@
 -- `carousel_record::rule::is_running` meets its contract. The invariant: the starts left are the running sums from this sum on just where all are those from 0 on.
-use mathlib.Core.Path.{◌≡◌, refl, sym, ◌∙◌}
+use mathlib.Core.Path.{◌≡◌}
 use mathlib.Core.List.{map}
 use Prim.Native.Nat.{◌-◌, ◌*◌, ◌≤◌}
-use native.Mathlib.Omega.{arith}
-use lib.ListN.{length, take, drop}
+use lib.ListN.{take, drop}
 use Rattle.wire.specs.Copies.{same_numbers}
 use Rattle.carousel_messages.specs.Heard.{sizes_of}
 use Rattle.carousel_record.specs.Record.{listed_in, start_in, sums}
-use Rattle.carousel_record.proofs.Laws.Entries.{running-off, running-next, running-done}
 use Rattle.carousel_record.proofs.rule.is_running.Given as goal
 
 abbrev pub invariant-loop-i : goal.invariant-loop-i

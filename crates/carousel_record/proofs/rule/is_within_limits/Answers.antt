@@ -3,13 +3,12 @@ use borrow.Author.Tests.{eq-eqb, ne_eqb}
 use mathlib.Core.Path.{◌≡◌, sym, ap, ◌∙◌}
 use mathlib.Core.List.{List}
 use native.Mathlib.Omega.{arith}
-use lib.ListN.{length, length-map}
+use lib.ListN.{length}
 use Rattle.carousel_messages.specs.declared.Listed.{Listed}
 use Rattle.carousel_messages.specs.Limits.{beyond10, twice11}
 use Rattle.carousel_messages.specs.Heard.{sizes_of, numbers_of}
 use Rattle.carousel_record.specs.Record.{announced_by, within_limits}
 use Rattle.carousel_record.proofs.Laws.Entries.{listed-long, said-by}
-use borrow.Author.Rules.{rules}
 use Rattle.carousel_record.proofs.rule.is_within_limits.Goals as goal
 use Rattle.carousel_record.proofs.rule.is_within_limits.Goals.{After-has_twice, After-is_beyond, Start}
 

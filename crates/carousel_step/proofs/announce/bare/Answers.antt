@@ -1,6 +1,5 @@
 -- `carousel_step::announce::bare` meets its contract. The invariant: the record has the first i modules, `sum` is their sizes together, and the others begin at byte `at`.
-use borrow.Author.Rules.{rules}
-use Prim.Native.Nat.{◌-◌, ◌+◌, ◌≤◌}
+use Prim.Native.Nat.{◌+◌}
 use mathlib.Core.Path.{◌≡◌, refl, ap, ◌∙◌}
 use native.Mathlib.Omega.{arith}
 use lib.ListN.{get_or}

@@ -1,16 +1,15 @@
 -- `carousel_step::announce::is_same` meets its contract: downloadId, blockSize, the number of modules, then module by module.
-use mathlib.Core.Path.{sym, ◌∙◌}
+use mathlib.Core.Path.{◌∙◌}
 use native.Mathlib.Omega.{arith}
 use Prim.Native.Nat.{◌≤◌}
 use mathlib.Core.List.{map}
-use lib.ListN.{length, take, length-map}
+use lib.ListN.{length, take}
 use borrow.Author.Tests.{eq-eqb, ne_eqb}
 use Rattle.carousel_messages.specs.Heard.{list_of, announced_in}
 use Rattle.carousel_record.specs.Record.{listed_in, announced_by}
 use Rattle.carousel_step.specs.Step.{same_announced}
 use Rattle.carousel_step.proofs.Laws.Sames.{modules_lengths}
 use Rattle.carousel_record.proofs.Laws.Says.{listed_length}
-use borrow.Author.Rules.{rules}
 use Rattle.carousel_step.proofs.announce.is_same.Goals as goal
 use Rattle.carousel_step.proofs.announce.is_same.Goals.{Start}
 

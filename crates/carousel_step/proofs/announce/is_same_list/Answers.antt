@@ -1,19 +1,15 @@
 -- `carousel_step::announce::is_same_list` meets its contract. The invariant: what is left is the same just where all is, and the announced modules that are left begin at byte `at`.
-use borrow.Author.Rules.{rules}
-use Prim.Native.Nat.{suc, ◌-◌, ◌+◌, ◌≤◌}
+use Prim.Native.Nat.{suc, ◌+◌, ◌≤◌}
 use mathlib.Core.Path.{◌≡◌, refl, sym, ap, ◌∙◌}
-use mathlib.Core.List.{List, ◌∷◌, map}
+use mathlib.Core.List.{List, ◌∷◌}
 use native.Mathlib.Numerals.{add-one}
 use native.Mathlib.Omega.{arith}
-use lib.ListN.{length, drop, take}
+use lib.ListN.{length, drop}
 use lib.Seq.{drop-cons}
-use borrow.Author.Tests.{not-true, not-false}
 use Rattle.carousel_messages.specs.declared.Listed.{Listed}
 use Rattle.carousel_messages.specs.Heard.{none_listed, list_of}
 use Rattle.carousel_messages.proofs.Laws.Reading.{Reading, reading-none, reading-here, reading-next}
 use Rattle.carousel_record.specs.declared.Module.{Module}
-use Rattle.carousel_record.specs.Record.{listed_in}
-use Rattle.carousel_step.specs.Step.{same_modules}
 use Rattle.carousel_step.proofs.Laws.Sames.{same-off, same_next, same-done}
 use Rattle.carousel_step.proofs.announce.is_same_list.Goals as goal
 use Rattle.carousel_step.proofs.announce.is_same_list.Goals.{After-is_same_module, After-measured_size-at, Start}

@@ -1,19 +1,12 @@
 -- `carousel_step::announce::is_same_list` meets its contract. The invariant: what is left is the same just where all is, and the announced modules that are left begin at byte `at`.
-use Prim.Native.Nat.{suc, ◌-◌, ◌+◌, ◌≤◌}
-use mathlib.Core.Path.{◌≡◌, refl, sym, ap, ◌∙◌}
-use mathlib.Core.List.{List, ◌∷◌, map}
-use native.Mathlib.Numerals.{add-one}
-use native.Mathlib.Omega.{arith}
-use lib.ListN.{length, drop, take}
-use lib.Seq.{drop-cons}
-use borrow.Author.Tests.{not-true, not-false}
-use Rattle.carousel_messages.specs.declared.Listed.{Listed}
-use Rattle.carousel_messages.specs.Heard.{none_listed, list_of}
-use Rattle.carousel_messages.proofs.Laws.Reading.{Reading, reading-none, reading-here, reading-next}
-use Rattle.carousel_record.specs.declared.Module.{Module}
+use Prim.Native.Nat.{◌-◌, ◌≤◌}
+use mathlib.Core.Path.{◌≡◌}
+use mathlib.Core.List.{map}
+use lib.ListN.{drop, take}
+use Rattle.carousel_messages.specs.Heard.{list_of}
+use Rattle.carousel_messages.proofs.Laws.Reading.{Reading}
 use Rattle.carousel_record.specs.Record.{listed_in}
 use Rattle.carousel_step.specs.Step.{same_modules}
-use Rattle.carousel_step.proofs.Laws.Sames.{same-off, same_next, same-done}
 use Rattle.carousel_step.proofs.announce.is_same_list.Given as goal
 
 abbrev pub invariant-loop-i : goal.invariant-loop-i

@@ -6,7 +6,6 @@ use Rattle.carousel_messages.specs.Heard.{list_of, announced_in}
 use Rattle.carousel_record.specs.declared.Carousel.{Carousel}
 use Rattle.carousel_record.specs.Changes.{bare_record}
 use Rattle.carousel_step.proofs.Laws.Afresh.{made_so}
-use borrow.Author.Rules.{rules}
 use Rattle.carousel_step.proofs.announce.made_afresh.Goals as goal
 
 pub kept_marks-marks-requires : goal.kept_marks-marks-requires

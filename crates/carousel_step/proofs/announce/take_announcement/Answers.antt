@@ -4,7 +4,6 @@ use Rattle.carousel_messages.specs.Heard.{announced_in}
 use Rattle.carousel_record.specs.Record.{record_of}
 use Rattle.carousel_step.specs.Step.{StepOutcome, returning}
 use Rattle.carousel_step.proofs.Laws.Outcomes.{announced-same, announced-new}
-use borrow.Author.Rules.{rules}
 use Rattle.carousel_step.proofs.announce.take_announcement.Goals as goal
 
 pub returns-then-is_same : goal.returns-then-is_same

@@ -1,17 +1,15 @@
 -- `carousel_step::keep::kept_marks` meets its contract. The invariant: the first j places have the words that are theirs, and all others none.
-use borrow.Author.Rules.{rules}
 use mathlib.Core.Bool.{true}
 use Prim.Native.Nat.{◌+◌, ◌-◌, ◌*◌, ◌≤◌, ◌<◌}
 use mathlib.Core.Path.{◌≡◌, sym, ap, ◌∙◌}
-use mathlib.Core.Logic.{⊎_elim}
 use native.Mathlib.Omega.{arith}
-use lib.ListN.{length, drop, length-map, length-take}
+use lib.ListN.{length, drop, length-take}
 use Rattle.carousel_messages.specs.Limits.{most_modules}
 use Rattle.carousel_record.specs.Marks.{module_words, mark_words}
 use Rattle.carousel_record.specs.Record.{announced_by, record_of}
 use Rattle.carousel_record.specs.Keeping.{modules_in, same_at, place_before}
 use Rattle.carousel_record.proofs.Laws.Says.{says-count}
-use Rattle.carousel_step.proofs.Laws.Keeping.{kept_so_far, none_so_far, so_far_length, kept_next, left-next, all-so_far, all-emptied, same_still, same-still, same-within, was-at}
+use Rattle.carousel_step.proofs.Laws.Keeping.{none_so_far, so_far_length, kept_next, left-next, all-so_far, all-emptied, same_still, same-still, same-within, was-at}
 use Rattle.carousel_step.proofs.keep.kept_marks.Goals as goal
 use Rattle.carousel_step.proofs.keep.kept_marks.Goals.{After-is_still, After-place_in-i, At-loop-j, Else-c-next, Else-c-next-2, Start, then-is_still, else-is_still}
 
@@ -115,11 +113,13 @@ pub loop-j-preserved : goal.loop-j-preserved
 loop-j-preserved c =
     let l = c.loop-j in (
       omega arith,
-      elim c.if-is_still.branch [ then-is_still w ↦
-          kept_next (record_of c.args.c) (all_words (goal.at.loop-j-preserved c).Start) (few-before (goal.at.loop-j-preserved c).Start) (record_of c.args.next) l.j (omega (arith, c.requires.1))
-          l.marks _ c.place_in-i.result l.invariant.1 (was (goal.at.loop-j-preserved c).After-place_in-i) (sym (same (goal.at.loop-j-preserved c).After-is_still) ∙ w.if-is_still.true) (w.marks-is ∙ w.put_words.ensures)
-          | else-is_still w ↦ left-next (record_of c.args.c) (all_words (goal.at.loop-j-preserved c).Start) (few-before (goal.at.loop-j-preserved c).Start) (record_of c.args.next) l.j (omega (arith, c.requires.1))
-          l.marks _ c.place_in-i.result l.invariant.1 (was (goal.at.loop-j-preserved c).After-place_in-i) (sym (same (goal.at.loop-j-preserved c).After-is_still) ∙ w.if-is_still.false) w.marks-is ],
+      elim c.if-is_still.branch [
+        | then-is_still w ↦
+            kept_next (record_of c.args.c) (all_words (goal.at.loop-j-preserved c).Start) (few-before (goal.at.loop-j-preserved c).Start) (record_of c.args.next) l.j (omega (arith, c.requires.1))
+            l.marks _ c.place_in-i.result l.invariant.1 (was (goal.at.loop-j-preserved c).After-place_in-i) (sym (same (goal.at.loop-j-preserved c).After-is_still) ∙ w.if-is_still.true) (w.marks-is ∙ w.put_words.ensures)
+        | else-is_still w ↦ left-next (record_of c.args.c) (all_words (goal.at.loop-j-preserved c).Start) (few-before (goal.at.loop-j-preserved c).Start) (record_of c.args.next) l.j (omega (arith, c.requires.1))
+            l.marks _ c.place_in-i.result l.invariant.1 (was (goal.at.loop-j-preserved c).After-place_in-i) (sym (same (goal.at.loop-j-preserved c).After-is_still) ∙ w.if-is_still.false) w.marks-is
+      ],
     )
 
 pub returns : goal.returns

@@ -1,11 +1,8 @@
 -- `carousel_step::keep::put_words` meets its contract. The invariant: the first k words are in their place, and nothing else has changed.
 use Prim.Native.Nat.{◌-◌, ◌≤◌}
-use mathlib.Core.Path.{◌≡◌, refl, ◌∙◌}
-use native.Mathlib.Numerals.{add-one}
-use native.Mathlib.Omega.{arith}
-use lib.ListN.{length, length-set}
-use lib.Seq.{paste, paste-zero, paste-suc}
-use Rattle.wire.proofs.Laws.Copies.{pasted-all}
+use mathlib.Core.Path.{◌≡◌}
+use lib.ListN.{length}
+use lib.Seq.{paste}
 use Rattle.carousel_step.proofs.keep.put_words.Given as goal
 
 abbrev pub invariant-loop-k : goal.invariant-loop-k

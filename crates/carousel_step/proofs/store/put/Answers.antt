@@ -1,13 +1,12 @@
 -- `carousel_step::store::put` meets its contract: a block that is marked is compared, one that is not is stored.
-use Prim.Native.Nat.{ℕ, ◌+◌, ◌-◌, ◌≤◌}
-use mathlib.Core.Path.{◌≡◌, refl, sym, ap, ◌∙◌}
+use Prim.Native.Nat.{◌+◌, ◌-◌, ◌≤◌}
+use mathlib.Core.Path.{◌≡◌, refl, sym, ◌∙◌}
 use mathlib.Core.Bool.{Bool, true, false}
 use native.Mathlib.Omega.{arith}
 use lib.ListN.{length, take, drop}
 use Rattle.wire.specs.Copies.{same_numbers}
 use Rattle.wire.proofs.Laws.Copies.{laid-fits}
 use Rattle.carousel_step.proofs.Laws.Outcomes.{put-short, put-clear, put_same, put_other}
-use borrow.Author.Rules.{rules}
 use Rattle.carousel_step.proofs.store.put.Goals as goal
 use Rattle.carousel_step.proofs.store.put.Goals.{Else-image-at-2}
 

@@ -4,7 +4,6 @@ use mathlib.Core.Path.{◌≡◌, refl, sym, ◌∙◌}
 use native.Mathlib.Omega.{arith}
 use native.Mathlib.Nat.{mul-le-mul_right}
 use lib.ListN.{length}
-use borrow.Author.Tests.{not-true, not-false}
 use Rattle.section.specs.Answer.{refused}
 use Rattle.carousel_messages.specs.Heard.{Arrived, arrived_in}
 use Rattle.carousel_step.specs.declared.Answer.{Answer}
@@ -12,7 +11,6 @@ use Rattle.carousel_step.specs.declared.Answer.TheVariants.{Refused}
 use Rattle.carousel_step.specs.Step.{StepOutcome, answer_of, image_after}
 use Rattle.carousel_step.specs.Held.{held_refusal, held_outcome, marks_after}
 use Rattle.carousel_step.proofs.Laws.Outcomes.{is-12-none, is-12, is-13, is-14, is-15, is-16, is-matching, held_bad, held-good}
-use borrow.Author.Rules.{rules}
 use Rattle.carousel_step.proofs.store.take_block.Goals as goal
 use Rattle.carousel_step.proofs.store.take_block.Goals.{After-struct_known-9-1, Else-h-b, Else-m-b, Else-not-is_block, Start}
 

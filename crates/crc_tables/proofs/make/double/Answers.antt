@@ -1,6 +1,5 @@
 -- `crc_tables::make::double` meets its contract. The invariant: so many entries stand.
-use borrow.Author.Rules.{rules}
-use Prim.Native.Nat.{ℕ, ◌+◌, ◌-◌, ◌≤◌}
+use Prim.Native.Nat.{ℕ, ◌+◌, ◌≤◌}
 use mathlib.Core.Path.{◌≡◌, refl, subst, ◌∙◌}
 use native.Mathlib.Omega.{arith}
 use lib.ListN.{length, length-set}
@@ -12,7 +11,6 @@ loop-j-init c = let z : c.args.at + c.args.w ≡ c.args.at + c.args.w + 0 = omeg
 
 pub loop-j-preserved : goal.loop-j-preserved
 loop-j-preserved c =
-    
     let h = c.loop-j in
     let p = c.requires in
     let a = c.args in

@@ -1,9 +1,8 @@
 -- `crc_tables::make::double` meets its contract. The invariant: so many entries stand.
-use Prim.Native.Nat.{ℕ, ◌+◌, ◌-◌, ◌≤◌}
-use mathlib.Core.Path.{◌≡◌, refl, subst, ◌∙◌}
-use native.Mathlib.Omega.{arith}
-use lib.ListN.{length, length-set}
-use Rattle.crc_tables.proofs.Laws.Made.{Made, doubled}
+use Prim.Native.Nat.{◌+◌, ◌-◌, ◌≤◌}
+use mathlib.Core.Path.{◌≡◌}
+use lib.ListN.{length}
+use Rattle.crc_tables.proofs.Laws.Made.{Made}
 use Rattle.crc_tables.proofs.make.double.Given as goal
 
 abbrev pub invariant-loop-j : goal.invariant-loop-j

@@ -1,9 +1,8 @@
 -- `crc_tables::make::fill` meets its contract. The invariant: the entries below the bit w stand, and x is what the bit adds.
-use Prim.Native.Nat.{ℕ, ◌+◌, ◌-◌, ◌*◌, ◌/◌, ◌^◌, ◌≤◌}
-use mathlib.Core.Path.{◌≡◌, refl, subst, subst⁻¹, ◌∙◌}
-use native.Mathlib.Omega.{arith}
-use lib.ListN.{length, length-set}
-use Rattle.crc_tables.proofs.Laws.Made.{twice-is, half, Next, next-first, next-twice, Made, begun}
+use Prim.Native.Nat.{ℕ, ◌+◌, ◌-◌, ◌/◌, ◌^◌, ◌≤◌}
+use mathlib.Core.Path.{◌≡◌}
+use lib.ListN.{length}
+use Rattle.crc_tables.proofs.Laws.Made.{Next, Made}
 use Rattle.crc_tables.proofs.make.fill.Given as goal
 
 abbrev pub invariant-loop-w : goal.invariant-loop-w

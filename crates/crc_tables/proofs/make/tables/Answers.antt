@@ -1,11 +1,10 @@
 -- `crc_tables::make::tables` meets its contract. The invariant: the tables below stand, and x is entry 1 of the one to make.
-use borrow.Author.Rules.{rules}
-use Prim.Native.Nat.{ℕ, ◌+◌, ◌-◌, ◌/◌, ◌%◌, ◌≤◌}
-use mathlib.Core.Path.{◌≡◌, refl, ap, ◌∙◌}
+use Prim.Native.Nat.{ℕ}
+use mathlib.Core.Path.{refl}
 use native.Mathlib.Omega.{arith}
-use lib.ListN.{length, length-replicate}
-use Rattle.crc_tables.specs.Tables.{left, first_entries}
-use Rattle.crc_tables.proofs.Laws.Made.{left_one, Made, all_made}
+use lib.ListN.{length-replicate}
+use Rattle.crc_tables.specs.Tables.{first_entries}
+use Rattle.crc_tables.proofs.Laws.Made.{left_one, all_made}
 use Rattle.crc_tables.proofs.make.tables.Goals as goal
 
 pub loop-at-init : goal.loop-at-init

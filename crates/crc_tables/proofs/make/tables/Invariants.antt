@@ -1,10 +1,9 @@
 -- `crc_tables::make::tables` meets its contract. The invariant: the tables below stand, and x is entry 1 of the one to make.
-use Prim.Native.Nat.{ℕ, ◌+◌, ◌-◌, ◌/◌, ◌%◌, ◌≤◌}
-use mathlib.Core.Path.{◌≡◌, refl, ap, ◌∙◌}
-use native.Mathlib.Omega.{arith}
-use lib.ListN.{length, length-replicate}
-use Rattle.crc_tables.specs.Tables.{left, first_entries}
-use Rattle.crc_tables.proofs.Laws.Made.{left_one, Made, all_made}
+use Prim.Native.Nat.{◌-◌, ◌/◌, ◌%◌, ◌≤◌}
+use mathlib.Core.Path.{◌≡◌}
+use lib.ListN.{length}
+use Rattle.crc_tables.specs.Tables.{left}
+use Rattle.crc_tables.proofs.Laws.Made.{Made}
 use Rattle.crc_tables.proofs.make.tables.Given as goal
 
 abbrev pub invariant-loop-at : goal.invariant-loop-at

@@ -1,14 +1,10 @@
 -- `section::register::crc` meets its contract. The invariant: the register so far, carried over the bytes that are left, is the CRC of all.
-use borrow.Author.Rules.{rules}
-use Prim.Native.Nat.{ℕ, ◌+◌, ◌-◌, ◌≤◌}
-use mathlib.Core.Path.{◌≡◌, refl, sym, ap, ◌∙◌}
+use Prim.Native.Nat.{ℕ, ◌+◌}
+use mathlib.Core.Path.{refl, sym, ap, ◌∙◌}
 use native.Mathlib.Omega.{arith}
-use lib.ListN.{length, drop}
+use lib.ListN.{drop}
 use Rattle.section.specs.Crc.{crc_from, crc_of}
 use Rattle.section.proofs.Laws.Crc.{from_next, from_end}
-use Rattle.section.proofs.register.crc.Reads as reads
-use Rattle.section.proofs.register.crc.Lts as lts
-use Rattle.section.proofs.register.with_byte.Reads as with-byte-reads
 use Rattle.section.proofs.register.crc.Goals as goal
 
 pub loop-i-init : goal.loop-i-init

@@ -1,8 +1,6 @@
 -- `section::register::with_bit` meets its contract.
 use mathlib.Core.Path.{sym}
 use Rattle.section.proofs.Laws.Crc.{bit-same, bit-other}
-use Rattle.section.proofs.register.with_bit.Reads as reads
-use Rattle.section.proofs.register.with_bit.Lts as lts
 use Rattle.section.proofs.register.with_bit.Goals as goal
 
 pub returns-then-r-d : goal.returns-then-r-d

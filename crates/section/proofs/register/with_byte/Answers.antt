@@ -1,14 +1,10 @@
 -- `section::register::with_byte` meets its contract. The invariant: the register so far, carried over the n bits that are left, is that after all eight.
-use borrow.Author.Rules.{rules}
-use Prim.Native.Nat.{ℕ, ◌-◌, ◌/◌, ◌%◌, ◌≤◌, ◌^◌}
+use Prim.Native.Nat.{ℕ, ◌-◌, ◌/◌, ◌%◌, ◌^◌}
 use mathlib.Core.Path.{◌≡◌, refl, sym, ap, ◌∙◌}
 use native.Mathlib.Omega.{arith}
 use lib.Bits.{and_mask}
-use Rattle.section.specs.Crc.{crc_bit, crc_bits, crc_byte}
+use Rattle.section.specs.Crc.{crc_bit, crc_bits}
 use Rattle.section.proofs.Laws.Crc.{bits_none, bits-next}
-use Rattle.section.proofs.register.with_byte.Reads as reads
-use Rattle.section.proofs.register.with_byte.Lts as lts
-use Rattle.section.proofs.register.with_bit.Reads as with-bit-reads
 use Rattle.section.proofs.register.with_byte.Goals as goal
 
 pub loop-n-init : goal.loop-n-init

@@ -1,12 +1,11 @@
 -- `wire::copies::copy_at` meets its contract. The invariant: there is room, the first j bytes are in their place, and nothing else has changed.
-use borrow.Author.Rules.{rules}
 use Prim.Native.Nat.{ℕ, ◌+◌, ◌-◌, ◌≤◌}
 use mathlib.Core.Path.{◌≡◌, refl, sym, ap, ◌∙◌}
 use mathlib.Core.List.{List}
 use native.Mathlib.Nat.{add-sub_cancel_left}
 use native.Mathlib.Omega.{arith}
 use lib.ListN.{length, take, drop}
-use lib.Seq.{paste, paste-zero}
+use lib.Seq.{paste-zero}
 use Rattle.wire.specs.Copies.{overwrite}
 use Rattle.wire.proofs.Laws.Copies.{laid-fits, laid-short, pasted-all, piece_length, piece_laid, first_laid}
 use Rattle.wire.proofs.copies.copy_at.Goals as goal
@@ -50,7 +49,6 @@ cut c =
 
 pub put-requires : goal.put-requires
 put-requires c =
-    
     let n = c.lesser-n.ensures in
     let e = ap length (cut (goal.at.put-requires c).After-lesser-n) ∙ long (goal.at.put-requires c).After-lesser-n in
     omega arith
@@ -69,14 +67,12 @@ slice_bounds-put-end-in-loop-j-2 c = sym (held-long (goal.at.slice_bounds-put-en
 
 pub put-requires-in-loop-j : goal.put-requires-in-loop-j
 put-requires-in-loop-j c =
-    
     let e = held-long (goal.at.put-requires-in-loop-j c).After-put in
     let w = within ((goal.at.put-requires-in-loop-j c).After-lesser-n) in
     omega arith
 
 pub loop-j-preserved : goal.loop-j-preserved
 loop-j-preserved c =
-    
     let l = c.loop-j in
     let a = c.args in (
       within (goal.at.loop-j-preserved c).After-lesser-n,

@@ -1,13 +1,8 @@
 -- `wire::copies::copy_at` meets its contract. The invariant: there is room, the first j bytes are in their place, and nothing else has changed.
-use Prim.Native.Nat.{ℕ, ◌+◌, ◌-◌, ◌≤◌}
-use mathlib.Core.Path.{◌≡◌, refl, sym, ap, ◌∙◌}
-use mathlib.Core.List.{List}
-use native.Mathlib.Nat.{add-sub_cancel_left}
-use native.Mathlib.Omega.{arith}
-use lib.ListN.{length, take, drop}
-use lib.Seq.{paste, paste-zero}
-use Rattle.wire.specs.Copies.{overwrite}
-use Rattle.wire.proofs.Laws.Copies.{laid-fits, laid-short, pasted-all, piece_length, piece_laid, first_laid}
+use Prim.Native.Nat.{◌+◌, ◌-◌, ◌≤◌}
+use mathlib.Core.Path.{◌≡◌}
+use lib.ListN.{length}
+use lib.Seq.{paste}
 use Rattle.wire.proofs.copies.copy_at.Given as goal
 
 abbrev pub invariant-loop-j : goal.invariant-loop-j

@@ -1,12 +1,10 @@
 -- `wire::copies::is_equal` meets its contract. The invariant: no bit differs so far, and what is left is the same, just where all is.
 use Prim.Native.Nat.{◌-◌, ◌≤◌}
-use mathlib.Core.Path.{◌≡◌, refl, sym, ◌∙◌}
+use mathlib.Core.Path.{◌≡◌}
 use mathlib.Core.Bool.{◌&&◌}
-use native.Mathlib.Omega.{arith}
 use lib.Dec.{eqb}
 use lib.ListN.{length, drop}
 use Rattle.wire.specs.Copies.{same_numbers}
-use Rattle.wire.proofs.Laws.Copies.{bytes_lengths, mixed-next, mixed-done}
 use Rattle.wire.proofs.copies.is_equal.Given as goal
 
 abbrev pub invariant-loop-i : goal.invariant-loop-i

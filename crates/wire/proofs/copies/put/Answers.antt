@@ -1,11 +1,9 @@
 -- `wire::copies::put` meets its contract. The invariant: the first j bytes are in their place, and nothing else has changed.
-use borrow.Author.Rules.{rules}
-use Prim.Native.Nat.{◌-◌, ◌≤◌}
-use mathlib.Core.Path.{◌≡◌, refl, ◌∙◌}
+use mathlib.Core.Path.{refl, ◌∙◌}
 use native.Mathlib.Numerals.{add-one}
 use native.Mathlib.Omega.{arith}
-use lib.ListN.{length, length-set}
-use lib.Seq.{paste, paste-zero, paste-suc}
+use lib.ListN.{length-set}
+use lib.Seq.{paste-zero, paste-suc}
 use Rattle.wire.proofs.Laws.Copies.{pasted-all}
 use Rattle.wire.proofs.copies.put.Goals as goal
 
