@@ -2,6 +2,7 @@
 //
 // What the call answers is defined in specs/Heard.antt. That the record and the image after it are those of the sections
 // handed on, so that demand 3 speaks of these, is in crate `demands`, Transport.antt.
+#![tactic(auto)]
 
 ghost use Rattle.std.specs.Prelude.{◌≡◌, length};
 ghost use Rattle.transport_run.specs.Heard.{none_gathered, heard_answer, heard_state, heard_out, heard_image};

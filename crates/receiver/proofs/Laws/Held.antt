@@ -2,7 +2,7 @@
 use Prim.Native.Nat.{ℕ, zero, suc, ◌+◌, ◌<◌}
 use mathlib.Core.Path.{◌≡◌, refl, sym, ap, subst}
 use mathlib.Core.Bool.{Bool, true, false, ◌&&◌}
-use mathlib.Core.List.{List, [], ◌∷◌}
+use mathlib.Core.List.{List, [], ◌∷◌, map}
 use native.Mathlib.Omega.{arith}
 use lib.Dec.{eqb}
 use lib.ListN.{length, take, drop}
@@ -22,13 +22,20 @@ use Rattle.carousel_messages.specs.Judged.{judged_of, number_of_judged}
 use Rattle.carousel_messages.specs.Heard.{arrived_in, span_of, sizes_of}
 use Rattle.carousel_messages.proofs.Exact as messages
 use Rattle.carousel_record.specs.declared.Carousel.{Carousel}
-use Rattle.carousel_record.specs.Record.{record_of, sums, within_limits, ruled, ruled_of}
+use Rattle.carousel_record.specs.declared.Head.{Head}
+use Rattle.carousel_record.specs.declared.Module.{Module}
+use Rattle.carousel_record.specs.Record.{record_of, sums, within_limits, ruled, ruled_of, number_in, head_of, joined_of}
 use Rattle.carousel_record.specs.Marks.{mark_words}
 use Rattle.carousel_record.proofs.Laws.Rule.{ruled-says}
 use Rattle.carousel_step.specs.Step.{StepOutcome, refusing, on_arrived, carousel_after, image_after, stepped_of, image_of, returning}
 use Rattle.carousel_step.specs.declared.Stepped.{Stepped}
 use Rattle.carousel_step.proofs.Laws.Outcomes.{stepped-is, comes-refused, comes-carried}
 use Rattle.receiver.specs.Run.{given_of, image_given}
+
+-- a record held in its parts: whole, and keeping its rule
+abbrev pub Whole : Head → List Module → (numbers marks : List ℕ) → Type 0
+Whole h ms numbers marks =
+    (numbers ≡ map number_in ms) × (length numbers ≡ most_modules) × (h ≡ head_of (joined_of h ms marks)) × (ruled_of (joined_of h ms marks) ≡ true)
 
 module _ (c : Carousel) (s image : List ℕ) (ruled : ruled_of c ≡ true) where
   -- of a section that is not an application's, the step's
