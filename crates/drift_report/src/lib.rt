@@ -1,5 +1,7 @@
 // What the program `driftlist` prints of a stretch and a module's number. The text is defined in
 // specs/Page.antt, a list's part of it in specs/Lines.antt.
+#![tactic(auto)]
+
 mod argument;
 mod lines;
 

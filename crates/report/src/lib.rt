@@ -1,5 +1,7 @@
 // What the paper's program prints of a stretch: the header, a line for each section taken, and the
 // stop. The text is defined in specs/Report.antt.
+#![tactic(auto)]
+
 ghost use Rattle.std.specs.Prelude.{◌≡◌, length};
 ghost use Rattle.std.proofs.lemmas.List.Edits.{sets};
 ghost use Rattle.text.specs.Text.{reached};

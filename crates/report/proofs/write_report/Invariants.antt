@@ -1,0 +1,27 @@
+-- `write_report` meets its contract. The invariant: what is still to be put, put from here on, leaves what the whole text leaves.
+use Prim.Native.Nat.{ℕ, ◌+◌, ◌-◌, ◌≤◌}
+use mathlib.Core.Path.{◌≡◌, refl, sym, ap, ◌∙◌}
+use mathlib.Core.Bool.{true}
+use mathlib.Core.List.{List, ◌++◌}
+use native.Mathlib.Omega.{arith}
+use native.Mathlib.Nat.{lt_of_le_of_lt}
+use lib.ListN.{length, take, drop}
+use Rattle.wire.proofs.Laws.Loops.{tail}
+use Rattle.carousel_record.specs.Record.{ruled_of}
+use Rattle.carousel_step.proofs.Simulation.{empty-ruled}
+use Rattle.receiver.specs.declared.Took.{Took}
+use Rattle.receiver.specs.declared.What.TheVariants as what
+use Rattle.receiver.specs.Run.{took_of, image_took, runs}
+use Rattle.text.proofs.Laws.Puts.{puts_then, puts-same, Writing, writing-on, writing-ends}
+use Rattle.report.specs.Report.{budget, header, line_of, printed}
+use Rattle.report.proofs.Laws.Lines.{text_from, printed-is, image-is, text-ends, Turned, turned}
+use Rattle.report.proofs.write_report.Given as goal
+
+abbrev pub invariant-loop-stop : goal.invariant-loop-stop
+invariant-loop-stop l =
+    (l.passed ≤ length l.stretch) × (l.index ≤ budget) × (length l.image ≡ length l.initial.image) × (length l.out ≡ length l.initial.out) × (ruled_of l.c ≡ true)
+    × Writing l.out l.at (text_from (budget - l.index) l.index l.c (drop l.passed l.stretch) l.image) l.initial.out l.initial.at (text_from budget 0 l.initial.c l.stretch l.initial.image)
+    × ((runs (budget - l.index) l.c (drop l.passed l.stretch) l.image).image ≡ (runs budget l.initial.c l.stretch l.initial.image).image)
+
+abbrev pub decreases-loop-stop : goal.decreases-loop-stop
+decreases-loop-stop l = budget - l.index
