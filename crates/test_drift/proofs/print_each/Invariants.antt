@@ -2,8 +2,8 @@
 use Rattle.std.proofs.Common.{◌-◌, ◌≤◌, length}
 use Rattle.test_drift.proofs.print_each.Given as goal
 
-abbrev pub invariant-loop-CASE : goal.invariant-loop-CASE
-invariant-loop-CASE g l = l.at ≤ length l.s
+abbrev pub invariant-loop-at : goal.invariant-loop-at
+invariant-loop-at g l = l.at ≤ length l.s
 
-abbrev pub decreases-loop-CASE : goal.decreases-loop-CASE
-decreases-loop-CASE g l = length l.s - l.at
+abbrev pub decreases-loop-at : goal.decreases-loop-at
+decreases-loop-at g l = length l.s - l.at
