@@ -1,5 +1,5 @@
 -- THE RUN STRAIGHT FROM PACKETS (02 §2): the packets one by one; the sections that they hand on go to the receiver's run, record and image as they are.
-use Rattle.std.specs.Prelude.{ℕ, cond, List, [], length}
+use Rattle.std.specs.Prelude.{ℕ, cond, List, []}
 use Rattle.wire.specs.Items.{joined}
 use Rattle.carousel_record.specs.declared.Carousel.{Carousel}
 use Rattle.carousel_record.specs.Record.{ruled_of}

@@ -103,7 +103,7 @@ take_packet-step-requires c =
     let g = going (goal.at.take_packet-step-requires c).At-loop-passed in
     let r = ap (λ (x : List ℕ). length x) (tail c.loop-passed.out c.loop-passed.size) in
     let d = length-drop c.loop-passed.size c.loop-passed.out in
-    (c.loop-passed.invariant.2, omega (arith, r, d, c.if-out-size-lt-LEAST_ROOM.false))
+    (c.loop-passed.invariant.2, omega (arith, r, d))
 
 pub counted-counts-requires : goal.counted-counts-requires
 counted-counts-requires c =
