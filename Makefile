@@ -16,12 +16,9 @@ AT := $(DESTDIR)$(PREFIX)
 all: programs $(ARCHIVE)
 	@echo "built: $(PROGRAMS:%=target/bin/%) $(ARCHIVE)"
 
-# rt itself knows what has changed since it was proved.
-programs:
+# rt itself knows what has changed since it was proved. The archive is built with the programs.
+programs $(ARCHIVE) &:
 	@bash tools/build.sh $(PROGRAMS) nebosvar
-
-$(ARCHIVE): crates.txt $(shell find crates -name '*.rt' -o -name '*.antt') | programs
-	@rt staticlib nebosvar > target/staticlib.log 2>&1 || { cat target/staticlib.log; exit 1; }
 
 check:
 	bash .ci/run
@@ -43,4 +40,4 @@ wrong-answers:
 	python3 tools/wrong_answers.py
 
 clean:
-	rm -rf target rust/target
+	rm -rf target rust/target crates/*/out

@@ -102,7 +102,7 @@ def field(name, type_):
 
 
 def source_structs(text):
-    for name, inside in re.findall(r"#\[repr\(C\)\]\s*pub struct (\w+) \{(.*?)\}", text, re.S):
+    for name, inside in re.findall(r"#\[repr\(C\)\]\s*(?:#\[derive\([^)]*\)\]\s*)?pub struct (\w+) \{(.*?)\}", text, re.S):
         yield c_type(name), [field(*f) for f in re.findall(r"pub (\w+): ([^,\n]+),", inside)]
 
 
@@ -118,7 +118,7 @@ def crossed(call, name, type_):
 
 
 def source_calls(text):
-    for name, parameters, answer in re.findall(r"#\[no_mangle\]\s*pub extern \"C\" fn (\w+)\((.*?)\) -> (\w+)", text, re.S):
+    for name, parameters, answer in re.findall(r"#\[unsafe\(no_mangle\)\]\s*pub extern \"C\" fn (\w+)\((.*?)\) -> (\w+)", text, re.S):
         yield name, ([c for p in re.findall(r"(\w+): ([^,]+)", parameters) for c in crossed(name, p[0], p[1].strip())], c_type(answer))
 
 
@@ -128,9 +128,9 @@ def row(calls):
     text = ROWS.read_text()
     fields = re.search(r"^pub record InFields .*? where\n((?:  .*\n)+)", text, re.M)[1]
     looked = re.findall(r"pub (\w+) : \w+ \S.*? \(cell ns (?:i|\(i \+ (\d)\))\)$", fields, re.M)
-    given = re.search(r"^rowsOf \(f ∷ fs\) = (.*) ∷ rowsOf fs$", text, re.M)[1]
+    given = re.search(r"^rows_of \(f ∷ fs\) = (.*) ∷ rows_of fs$", text, re.M)[1]
     assert [int(k or 0) for _, k in looked] == list(range(fields.count("\n"))), looked
-    assert [n for n, _ in looked] == re.findall(r"f \.(\w+)", given), (looked, given)
+    assert [n for n, _ in looked] == re.findall(r"f\.(\w+)", given), (looked, given)
     one = dict(calls["nebosvar_list_write"][0])["numbers"].removeprefix("*const ")
     return {"nebosvar_fix": [(n, one, 1) for n, _ in looked]}
 

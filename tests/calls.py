@@ -7,13 +7,17 @@ from collections import Counter
 from pathlib import Path
 
 ROOT = Path(__file__).resolve().parent.parent
+# What the programs read stands in no argument: the layer over std has no theorem of one answer.
+OUTSIDE = {"streams"}
 PUBLIC = re.compile(r"^pub (?:extern \"C\" )?fn (\w+)(?:<[^>]*>)?\((.*?)\)", re.M | re.S)
 
 
 def public_calls():
     """crate::name, and whether it takes a record behind a reference. Public are the functions of src/lib.rt, and those that it names by `pub use`."""
     for root in sorted(ROOT.glob("crates/*/src/lib.rt")):
-        named = set(re.findall(r"^pub use \w+::(\w+);", root.read_text(), re.M))
+        if root.parent.parent.name in OUTSIDE:
+            continue
+        named = set(re.findall(r"\w+", " ".join(re.findall(r"^pub use \w+::(\w+|\{[^}]*\});", root.read_text(), re.M))))
         for source in sorted(root.parent.rglob("*.rt")):
             for name, parameters in PUBLIC.findall(source.read_text()):
                 if source == root or name in named:
@@ -29,7 +33,7 @@ def listed_calls():
 def unproved(calls):
     for crate, name, in_place in calls:
         theorems = (ROOT / "crates" / crate / "proofs" / "Unique.antt").read_text()
-        stated = re.search(r"^ *pub %s :" % name.replace("_", "-"), theorems, re.M) or "in-place-by-value" in theorems
+        stated = re.search(r"^ *pub %s :" % name.replace("_", "[-_]"), theorems, re.M) or "in-place-by-value" in theorems
         if not (re.search(r"\.%s\.Reads as " % name, theorems) or in_place and stated):
             yield "%s::%s" % (crate, name)
 

@@ -9,7 +9,7 @@ import sys
 from pathlib import Path
 
 ROOT = Path(__file__).resolve().parent.parent
-HEAD = re.compile(r"^ *(?:#\[no_mangle\]\s*)?pub (?:extern \"C\" )?fn (\w+)(.*?)^\{", re.M | re.S)
+HEAD = re.compile(r"^ *(?:#\[unsafe\(no_mangle\)\]\s*)?pub (?:extern \"C\" )?fn (\w+)(.*?)^\{", re.M | re.S)
 
 
 def faults():
@@ -18,7 +18,7 @@ def faults():
         if crate.name not in listed:
             yield "%s is not in crates.txt" % crate.name
         root = crate / "src" / "lib.rt"
-        named = set(re.findall(r"^pub use \w+::(\w+);", root.read_text(), re.M)) if root.exists() else set()
+        named = set(re.findall(r"\w+", " ".join(re.findall(r"^pub use \w+::(\w+|\{[^}]*\});", root.read_text(), re.M)))) if root.exists() else set()
         for source in sorted(crate.glob("src/**/*.rt")) if root.exists() else []:
             for name, head in HEAD.findall(source.read_text()):
                 where = "%s: %s" % (source.relative_to(ROOT), name)
@@ -29,7 +29,7 @@ def faults():
         program = crate / "src" / "main.rt"
         for name in re.findall(r"^ *pub fn (\w+)", program.read_text(), re.M) if program.exists() else []:
             yield "%s: %s is public at a program's root, where nobody calls it" % (program.relative_to(ROOT), name)
-        for proof in sorted(crate.glob("**/*.antt")):
+        for proof in sorted([*crate.glob("specs/**/*.antt"), *crate.glob("proofs/**/*.antt")]):
             if re.search(r"^ *(axiom|postulate)\b", proof.read_text(), re.M):
                 yield "%s assumes something" % proof.relative_to(ROOT)
         for edit in sorted(crate.glob("must-fail/*.edit")):

@@ -20,7 +20,7 @@ and standard error is quiet. A number is 1 to 4,096 digits, leading zeros among 
 
     driftlist.py          check the inputs, and compare crates/driftlist/args, stdin and stdout with what this program makes
     driftlist.py --write  check the inputs, and write the three
-    driftlist.py built    the first, then run target/bin/driftlist, which 'rt check driftlist' builds, on every input and compare what
+    driftlist.py built    the first, then run target/bin/driftlist, which tools/build.sh builds, on every input and compare what
                           it prints on standard output and standard error, byte for byte; then its ends closed, broken, slow
 """
 import itertools

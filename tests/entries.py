@@ -1,7 +1,7 @@
 #!/usr/bin/env python3
 """The calls that take a record behind a reference. Their theorems of one answer (proofs/Unique.antt) are over the equations of their contracts, written out by hand: here
-each premise is held to the contract's text (`ensures` in src/lib.rt), equation by equation, so that changing either alone fails. In the contract's words, `now (c .entry)` is
-the record c, that of a slice the slice, `now (c .exit)` is d, the record after, and `now (image .exit)` is l, the image after; so is `now (out .exit)`, the bytes written to.
+each premise is held to the contract's text (`ensures` in src/lib.rt), equation by equation, so that changing either alone fails. In the contract's words, `result` is r,
+`c.old` the record c, `.now` or `.old` of a slice the slice, `c.new` is d, the record after, and `image.new` is l, the image after; so is `out.new`, the bytes written to.
 
 A premise may leave an equation of the contract out, since fewer leave more answers; which do, is said in LEFT_OUT. None may have one that the contract has not."""
 import re
@@ -11,8 +11,8 @@ from calls import ROOT, public_calls
 
 # what the premises do without: by the call, how the equation begins
 LEFT_OUT = {
-    "carousel_step::step_in": ["numberOfAnswer r ≡"],  # the answer's number
-    "nebosvar::nebosvar_handout": ["take (r .length) (drop (r .at) image) ≡"],  # the bytes of the part
+    "carousel_step::step_in": ["number_of_answer r ≡"],  # the answer's number
+    "nebosvar::nebosvar_handout": ["take r.length (drop r.at image) ≡"],  # the bytes of the part
 }
 # of the theorem that compares an entry with the call by value: the value's names
 BY_VALUE = {"r": "x", "l": "m"}
@@ -40,15 +40,16 @@ def bare(text):
 
 
 def renamed(text, names):
-    """Variables renamed; a field, ` .answer`, is none."""
-    return re.sub(r"(?<![\w.′])(%s)(?![\w′])" % "|".join(names), lambda m: names[m[1]], text) if names else text
+    """Variables renamed; a field, `.answer`, is none."""
+    return re.sub(r"(?<![\w.'])(%s)(?![\w'])" % "|".join(names), lambda m: names[m[1]], text) if names else text
 
 
 def contract(source, name):
     """The equations of a call's contract, in the theorem's names."""
-    said = re.search(r"\bfn %s\([^{]*?ensures \{ λ r\. ⌜(.*?)⌝ \}" % name, source, re.S)[1]
-    said = re.sub(r"\(now \((\w+) \.entry\)\)", lambda m: {"stretch": "s", "section": "s"}.get(m[1], m[1]), said)
-    said = re.sub(r"now \((\w+) \.exit\)", lambda m: {"c": "d", "image": "l", "out": "l"}[m[1]], said)
+    said = re.search(r"\bfn %s\([^{]*?ensures \{(.*?)\}\n\{" % name, source, re.S)[1]
+    said = re.sub(r"\bresult\b", "r", said)
+    said = re.sub(r"\b(\w+)\.(?:old|now)\b", lambda m: {"stretch": "s", "section": "s"}.get(m[1], m[1]), said)
+    said = re.sub(r"\b(\w+)\.new\b", lambda m: {"c": "d", "image": "l", "out": "l"}[m[1]], said)
     return parts(bare(said), "×")
 
 
@@ -74,19 +75,20 @@ def held(call, premise, equations):
 
 
 def faults(crate, name, source, theorems):
-    call, own = "%s::%s" % (crate, name), name.replace("_", "-")
+    call = "%s::%s" % (crate, name)
+    own = re.search(r"^ *pub (%s) :" % name.replace("_", "[-_]"), theorems, re.M)
     equations = contract(source, name)
-    theorem = own if "pub %s :" % own in theorems else "in-place"
+    theorem = own[1] if own else "in_place"
     (one, other), same = statement(theorems, theorem)
     yield from held(call, one, equations)
     after = sorted({e.split(" ≡ ")[0] for e in one})
-    if other != [renamed(e, {v: v + "′" for v in after}) for e in one]:
+    if other != [renamed(e, {v: v + "'" for v in after}) for e in one]:
         yield "%s: the two premises differ" % call
-    if sorted(same) != ["%s ≡ %s′" % (v, v) for v in after]:
+    if sorted(same) != ["%s ≡ %s'" % (v, v) for v in after]:
         yield "%s: not all that the premises tell is the same" % call
     there, here = homes(source), homes(theorems)
-    yield from ("%s: %s is not that of the contract" % (call, n) for n in here if n in there and here[n] != there[n] and re.search(r"\b%s\b" % n, " ".join(one)))
-    if theorem == "in-place":
+    yield from ("%s: %s is not that of the contract" % (call, n) for n in here if there.get(n, "Rattle.std.").startswith("Rattle.std.") is False and here[n] != there[n] and re.search(r"\b%s\b" % n, " ".join(one)))
+    if theorem == "in_place":
         value = re.search(r"\bfn %s\(.*?= (\w+)\(\*c," % name, source, re.S)[1]
         (entry, by_value), _ = statement(theorems, "in-place-by-value")
         yield from held(call, entry, equations)
@@ -102,20 +104,20 @@ def texts(crate):
 def tried():
     """Changes of one text alone, each of which has to be found."""
     for crate, name, which, old, new in (
-        ("carousel_step", "step_in", 0, "(now (image .entry)) .state)", "(now (image .exit)) .state)"),
-        ("carousel_step", "step_in", 1, "× (l ≡ imageOf c s image)", "× (l ≡ imageOf d s image)"),
-        ("carousel_step", "step_in", 0, "        × (now (image .exit) ≡ imageOf (now (c .entry)) (now (s .entry)) (now (image .entry)))\n", ""),
-        ("carousel_step", "step_in", 1, "(x ≡ steppedOf c s image) × (m ≡", "(x ≡ steppedOf c image s) × (m ≡"),
-        ("receiver", "run_in", 0, "budget .passage)", "(budget + 1) .passage)"),
-        ("receiver", "run_in", 1, "(d′ ≡ ranOf c s image budget .state)", "(d′ ≡ ranOf c s image 0 .state)"),
-        ("nebosvar", "nebosvar_run", 1, "→ (r ≡ r′) × (d ≡ d′) × (l ≡ l′)", "→ (r ≡ r′) × (d ≡ d′)"),
-        ("nebosvar", "nebosvar_missing", 1, "r ≡ lackOut (reportOf c number)", "(r ≡ lackOut (reportOf c number)) × (number ≡ 0)"),
-        ("nebosvar", "nebosvar_step", 0, "Rattle·carousel_step.specs.Step.{imageOf}", "Rattle·carousel_step.specs.Other.{imageOf}"),
-        ("nebosvar", "nebosvar_handout", 0, "partOut (now (c .entry)) (now (image .entry)) number)", "partOut (now (c .entry)) (now (image .entry)) 0)"),
-        ("nebosvar", "nebosvar_section_count", 0, "countedOut (countAnswer (now (playlist .entry)))", "countedOut (countAnswer p)"),
-        ("nebosvar", "nebosvar_write_section", 1, "× (l ≡ playedBytes identifier playlist image place out)", "× (l ≡ playedBytes identifier playlist image 0 out)"),
-        ("nebosvar", "nebosvar_write_section", 1, "→ (r ≡ r′) × (l ≡ l′)", "→ r ≡ r′"),
-        ("nebosvar", "nebosvar_write_section", 0, "place (length (now (out .entry)))))", "place (length (now (image .entry)))))"),
+        ("carousel_step", "step_in", 0, "s.now image.old).state)", "s.now image.new).state)"),
+        ("carousel_step", "step_in", 1, "× (l ≡ image_of c s image)", "× (l ≡ image_of d s image)"),
+        ("carousel_step", "step_in", 0, "        × (image.new ≡ image_of c.old s.now image.old)\n", ""),
+        ("carousel_step", "step_in", 1, "(x ≡ stepped_of c s image) × (m ≡", "(x ≡ stepped_of c image s) × (m ≡"),
+        ("receiver", "run_in", 0, "budget).passage)", "(budget + 1)).passage)"),
+        ("receiver", "run_in", 1, "(d' ≡ (ran_of c s image budget).state)", "(d' ≡ (ran_of c s image 0).state)"),
+        ("nebosvar", "nebosvar_run", 1, "→ (r ≡ r') × (d ≡ d') × (l ≡ l')", "→ (r ≡ r') × (d ≡ d')"),
+        ("nebosvar", "nebosvar_missing", 1, "r ≡ lack_out (report_of c number)", "(r ≡ lack_out (report_of c number)) × (number ≡ 0)"),
+        ("nebosvar", "nebosvar_step", 0, "Rattle.carousel_step.specs.Step.{image_of}", "Rattle.carousel_step.specs.Other.{image_of}"),
+        ("nebosvar", "nebosvar_handout", 0, "part_out c.now image.now number)", "part_out c.now image.now 0)"),
+        ("nebosvar", "nebosvar_section_count", 0, "counted_out (count_answer playlist.now)", "counted_out (count_answer p)"),
+        ("nebosvar", "nebosvar_write_section", 1, "× (l ≡ played_bytes identifier playlist image place out)", "× (l ≡ played_bytes identifier playlist image 0 out)"),
+        ("nebosvar", "nebosvar_write_section", 1, "→ (r ≡ r') × (l ≡ l')", "→ r ≡ r'"),
+        ("nebosvar", "nebosvar_write_section", 0, "place (length out.old)))", "place (length image.old)))"),
     ):
         both = list(texts(crate))
         assert old in both[which], (crate, old)

@@ -1,9 +1,8 @@
 #!/usr/bin/env python3
 """Holds the sources to what a stranger may expect: within a crate no file goes in a circle with another; nothing stands on the demands; no name is defined in
-the specs/ of two crates; in proofs no chain of five and more `.before`, no comment that is a position in another file; in no source a line over 200
-characters; and the walks are what tools/walks.py writes."""
+the specs/ of two crates; in proofs no chain of `.before`, no walk by hand, no comment that is a position in another file; in no source a line over 200
+characters."""
 import re
-import subprocess
 import sys
 from pathlib import Path
 
@@ -44,15 +43,17 @@ def faults():
         round_trip = circles(crate)
         if round_trip:
             yield "%s: files in a circle: %s" % (crate.name, ", ".join(round_trip))
-        for path in sorted([*crate.rglob("*.antt"), *crate.rglob("*.rt")]):
+        for path in sorted(p for top in ("src", "specs", "proofs") for p in (crate / top).rglob("*.*t") if p.suffix in (".antt", ".rt")):
             text, where = path.read_text(), path.relative_to(ROOT)
             for i, line in enumerate(text.split("\n"), 1):
                 if len(line) > MOST:
                     yield "%s:%d has %d characters" % (where, i, len(line))
                 if re.search(r"^\s*-- (src/\S+:\d+|Assumes nothing)", line):
                     yield "%s:%d is a comment that says nothing" % (where, i)
-            if path.suffix == ".antt" and re.search(r"(\s\.before\b){5}", text):
-                yield "%s goes five and more places back without a name" % where
+            if path.suffix == ".antt" and re.search(r"(\.before\b){2}", text):
+                yield "%s goes places back without a name" % where
+            if path.name == "Proof.antt":
+                yield "%s walks the code by hand" % where
 
 
 def long_lines():
@@ -65,7 +66,5 @@ def long_lines():
 
 
 found = [*faults(), *long_lines()]
-if subprocess.run([sys.executable, ROOT / "tools" / "walks.py", "--check"]).returncode != 0:
-    found.append("tools/walks.py writes other walks")
 print("\n".join(found) or "house: no circle, nothing on the roof, no long way or line")
 sys.exit(bool(found))

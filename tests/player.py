@@ -18,7 +18,7 @@ is not read. A file that is larger than what is left of 262,144 bytes is 10.
 
     player.py          check the inputs, and compare crates/player/args, data/ and stdout with what this program makes
     player.py --write  check the inputs, and write the three
-    player.py built    the first, then run target/bin/player, which 'rt check player' builds, on every input and compare what it writes on
+    player.py built    the first, then run target/bin/player, which tools/build.sh builds, on every input and compare what it writes on
                        standard output and standard error, byte for byte; then its ends closed, broken and full
 """
 import itertools

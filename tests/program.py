@@ -8,7 +8,7 @@ words tell it, what must come out.
     program.py                 check the inputs, and compare crates/receive/stdin and stdout with the paper's printed example
     program.py sample          the same, but first write the two where they are not there
     program.py run CMD ARG...  run CMD on every input and compare what it prints, byte for byte; then its ends closed, broken, slow
-    program.py built           the same of target/bin/receive, which 'rt check receive' builds
+    program.py built           the same of target/bin/receive, which tools/build.sh builds
 """
 import fcntl
 import os

@@ -43,7 +43,7 @@ After the last section the stop, and what is announced, if anything is:
 
     test_inspect.py          compare crates/inspect/stdin and stdout with what this program makes
     test_inspect.py --write  write both
-    test_inspect.py built    run target/bin/inspect, which 'rt check inspect' builds, on every input and compare what it prints
+    test_inspect.py built    run target/bin/inspect, which tools/build.sh builds, on every input and compare what it prints
 """
 import random
 import sys

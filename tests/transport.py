@@ -16,7 +16,7 @@ status is 0 where there is such a line, or packets were written, and left open e
 
     transport.py          check the inputs, and compare args, stdin and stdout of both crates and examples/capture.ts with what is made here
     transport.py --write  check the inputs, and write them
-    transport.py built    the first, then run target/bin/sections and target/bin/packets, which 'rt check sections packets' builds, on every
+    transport.py built    the first, then run target/bin/sections and target/bin/packets, which tools/build.sh builds, on every
                           input and compare standard output and standard error, byte for byte; then their ends closed, broken and full
 """
 import itertools

@@ -4,7 +4,7 @@
     python3 tools/wrong_answers.py              all of them
     python3 tools/wrong_answers.py CRATE ..     those of these crates
 
-They are tried on a copy, in which they stand for the gate's own edits. The prover must refuse each; the log that tells why is named."""
+They are tried on a copy, in which they stand for the gate's own edits. The prover must refuse each, and says why."""
 import shutil
 import subprocess
 import sys
@@ -20,8 +20,7 @@ def lay_out(crates):
     shutil.rmtree(COPY, ignore_errors=True)
     COPY.mkdir(parents=True)
     shutil.copy(ROOT / "crates.txt", COPY)
-    shutil.copytree(ROOT / "crates", COPY / "crates", ignore=shutil.ignore_patterns("must-fail", "wrong-answers"))
-    shutil.copytree(ROOT / "target", COPY / "target", ignore=shutil.ignore_patterns("wrong-answers", "must-fail", "staticlib"), symlinks=True)
+    shutil.copytree(ROOT / "crates", COPY / "crates", ignore=shutil.ignore_patterns("must-fail", "wrong-answers"), symlinks=True)
     for crate in crates:
         shutil.copytree(ROOT / "crates" / crate / "wrong-answers", COPY / "crates" / crate / "must-fail")
 
@@ -32,10 +31,11 @@ def main():
     if not set(crates) <= set(having):
         sys.exit("no wrong-answers/ in: %s" % " ".join(sorted(set(crates) - set(having))))
     began = time.time()
-    subprocess.run(["rt", "check", *crates], cwd=ROOT, check=True, stdout=subprocess.DEVNULL)
+    for crate in crates:
+        subprocess.run(["rt", "check"], cwd=ROOT / "crates" / crate, check=True, stdout=subprocess.DEVNULL)
     lay_out(crates)
     verdict = subprocess.run(["rt", "must-fail", *crates], cwd=COPY).returncode
-    print("%d s; each refusal's reason is in %s" % (time.time() - began, COPY / "target" / "must-fail"))
+    print("%d s" % (time.time() - began))
     sys.exit(verdict)
 
 
