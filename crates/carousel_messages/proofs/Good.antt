@@ -24,7 +24,8 @@ use Rattle.carousel_messages.specs.declared.CarouselTable.TheVariants.{Announcem
 use Rattle.carousel_messages.specs.declared.Judged.{Judged}
 use Rattle.carousel_messages.specs.declared.Judged.TheVariants as judged
 use Rattle.carousel_messages.specs.Message.{message_of, message_identifier_of, adaptation_of, message_length_of, payload_of, wanted_of}
-use Rattle.carousel_messages.specs.Contents.{download_of, block_version_of, block_size_of, modules_start, modules_end, modules_of, module_size_of, announcement_framed, block_module_of, block_number_of}
+use Rattle.carousel_messages.specs.Contents.{download_of, block_version_of, block_size_of, modules_start, modules_end, modules_of, module_size_of, announcement_framed, block_module_of}
+use Rattle.carousel_messages.specs.Contents.{block_number_of}
 use Rattle.carousel_messages.specs.Limits.{largest_block, most_modules, most_blocks, most_bytes, bad_size, some_bad, total, beyond10, among, twice11}
 use Rattle.carousel_messages.specs.Refusals.{short7, meets8, message_framed, payload_framed, message_meets7, meets10, meets11, message_tests, message_refusal}
 use Rattle.carousel_messages.specs.Judged.{announcement_of, block_of, message_judged, judged_of, number_of_judged, carousel_table_in}

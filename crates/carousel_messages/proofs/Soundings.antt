@@ -49,7 +49,8 @@ announced n =
     ∷ 0 ∷ 0 ∷ 0 ∷ 2 ∷ 0 ∷ 7 ∷ 0 ∷ 0 ∷ 3 ∷ 0xE8 ∷ 1 ∷ 1 ∷ 0xCC ∷ 0 ∷ n ∷ 0 ∷ 0 ∷ 1 ∷ 0x90 ∷ 1 ∷ 0 ∷ 0 ∷ 0 ∷ []
 
 pub announcements : (message_refusal Announcements (headed 0) (announced 8) ≡ 0) × (message_refusal Announcements (headed 0) (announced 7) ≡ 11)
-unfolding message_refusal first_met short7 meets8 message_meets7 message_framed payload_framed announcement_framed framed items_in items end_of meets10 beyond10 some_bad total meets11 twice11 among field_at
+unfolding message_refusal first_met short7 meets8 message_meets7 message_framed payload_framed announcement_framed framed items_in
+    items end_of meets10 beyond10 some_bad total meets11 twice11 among field_at
 announcements = (refl, refl)
 
 -- an announcement of download 1, by L, the message length, blockSize, the modules after their count, and its CRC

@@ -77,4 +77,11 @@ said_announcement s = let p = payload_of (body_of s) in record { download = down
 
 -- "in the latter the identifier is the downloadId"
 abbrev pub said_block : List ℕ → Arrived
-said_block s = let p = payload_of (body_of s) in record { download = message_identifier_of (body_of s); number = block_module_of p; version = block_version_of p; block = block_number_of p; bytes = block_data_of p }
+said_block s = let p = payload_of (body_of s) in record {
+  download = message_identifier_of (body_of s);
+  number = block_module_of p;
+  version = block_version_of p;
+  block = block_number_of p;
+  bytes =
+      block_data_of p;
+}

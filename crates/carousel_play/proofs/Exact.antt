@@ -182,7 +182,8 @@ module _ (id : ℕ) (p : Playlist) (image : List ℕ) (k : ℕ) (out : List ℕ)
   unfolding play_answer played_bytes
   written_is h = rw (eq-eqb n 0 h) (refl, refl)
 
-pub count_answers : (p : Playlist) → (limit_refusal p ≡ 0 → count_answer p ≡ counted.Sections (section_count (to_play p))) × ((limit_refusal p ≡ 0 → ⊥) → count_answer p ≡ counted.Refused (limit_refusal p))
+pub count_answers : (p : Playlist) → (limit_refusal p ≡ 0 → count_answer p ≡ counted.Sections (section_count (to_play p))) × ((limit_refusal p ≡ 0 → ⊥) → count_answer p ≡ counted.Refused
+    (limit_refusal p))
 unfolding count_answer
 count_answers p = (λ h. rw (eq-eqb (limit_refusal p) 0 h), λ h. rw (ne_eqb (limit_refusal p) 0 h))
 

@@ -59,7 +59,8 @@ module _ (a : Announced) (n : ℕ) (d : Arrived) where
 -- no number of the table is 0
 section_numbered : (s : List ℕ) → Numbered (carousel_tests s)
 section_numbered s =
-    numbered-both (message_tests (carousel_table_in s) (header_of s) (body_of s)) (section_tests rules.Carousel s) (rising_numbered 0 (section_tests rules.Carousel s) (section.rising rules.Carousel s))
+    numbered-both (message_tests (carousel_table_in s) (header_of s) (body_of s)) (section_tests rules.Carousel s) (rising_numbered 0 (section_tests rules.Carousel s)
+    (section.rising rules.Carousel s))
     (go (carousel_table_in s))
   where
     go : (t : CarouselTable) → Numbered (message_tests t (header_of s) (body_of s))

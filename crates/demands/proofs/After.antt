@@ -235,7 +235,8 @@ module _ (x : Held) (k : ℕ) (em : Emptied x k) where
         let q = back b g.0 g.1 in
         h.2 ∙ agree b h.0 q.0 h.1 q.1 ∙ q.2 ∙ sym g.2
 
-    same_bytes : (b : ℕ) → cond (came_by x k b ss) (first_data x k ss b) (slot (saying x) (place_now x k) b).bytes ≡ cond (came_by x k b us) (first_data x k us b) (slot (saying x) (place_now x k) b).bytes
+    same_bytes : (b : ℕ) → cond (came_by x k b ss) (first_data x k ss b) (slot (saying x) (place_now x k) b).bytes ≡ cond (came_by x k b us) (first_data x k us b) (slot (saying x)
+        (place_now x k) b).bytes
     same_bytes b = rw (← both-came b) (go (came_by x k b ss) refl)
       where
         go : (t : Bool) → came_by x k b ss ≡ t → cond t (first_data x k ss b) (slot (saying x) (place_now x k) b).bytes ≡ cond t (first_data x k us b) (slot (saying x) (place_now x k) b).bytes

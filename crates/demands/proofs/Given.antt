@@ -22,7 +22,8 @@ use Rattle.carousel_record.specs.declared.Carousel.{Carousel}
 use Rattle.carousel_step.specs.declared.Answer.{Answer}
 use Rattle.carousel_step.specs.declared.Answer.TheVariants as answer
 use Rattle.carousel_record.specs.Record.{Record, announced_by, record_of, ruled_of}
-use Rattle.carousel_step.specs.Step.{StepOutcome, refusing, new, same, repeated, stored, same_announced, on_announced, on_heard, outcome_of, answer_of, carousel_after, image_after, stepped_of, image_of}
+use Rattle.carousel_step.specs.Step.{StepOutcome, refusing, new, same, repeated, stored, same_announced, on_announced, on_heard, outcome_of, answer_of, carousel_after, image_after, stepped_of}
+use Rattle.carousel_step.specs.Step.{image_of}
 use Rattle.carousel_step.specs.Matching.{heard_for}
 use Rattle.carousel_step.proofs.Views.{Held as Said, after, is_new as madeNew}
 use Rattle.carousel_step.proofs.View.{arrived_old}

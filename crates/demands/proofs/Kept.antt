@@ -155,7 +155,8 @@ block0 = record { download = 7; number = 3; version = 0; block = 0; bytes = repl
 -- "at the same places among that module's sections": a block before that announcement is stored, and after it refused with 15
 pub places_count : (answer_of (on_heard (starting alone clear) short (arrived block0)) ≡ answer.Stored)
     × (answer_of (on_heard (afresh (starting alone clear) more) short (arrived block0)) ≡ answer.Refused (refused 15))
-unfolding first_met meets12 meets13 meets14 meets15 meets16 total place_in blocks_of block_length_of is_marked on_heard on_arrived matched block_refusal afresh marks_kept words_from words_kept same_at sums
+unfolding first_met meets12 meets13 meets14 meets15 meets16 total place_in
+    blocks_of block_length_of is_marked on_heard on_arrived matched block_refusal afresh marks_kept words_from words_kept same_at sums
 places_count = (refl, refl)
 
 -- Matching is read at the call: the block does not match while the longer list is in force, and does when it comes after one that keeps the module and drops the byte

@@ -45,6 +45,7 @@ cut_of s w =
     record { headed = omega (arith, whole-three s z, w.0); exact = sym w.0 ∙ said s z; plain = λ e. z (whole_stuffing s e) }
 
 cuts_of : (ss : List (List ℕ)) → Wholes whole_at ss → (s : List ℕ) → Holds ss s → Cut s
+cuts_of [] w t x = elim x [ ]
 cuts_of (s ∷ ss) w t (Memᴰ.head e) = subst Cut (sym e) (cut_of s w.0)
 cuts_of (s ∷ ss) w t (Memᴰ.tail h) = cuts_of ss w.1 t h
 

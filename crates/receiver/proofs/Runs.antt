@@ -127,7 +127,8 @@ pub runs_rule : (budget : ℕ) (c : Carousel) (s image : List ℕ) → ruled_of 
 unfolding runs
 runs_rule zero c s image r = r
 runs_rule (suc budget) c s image r =
-    go (eqb (whole_at s) 0) (runs_rule budget (given_of c (take (whole_at s) s) image).state (drop (whole_at s) s) (image_given c (take (whole_at s) s) image) (given_rule c (take (whole_at s) s) image r))
+    go (eqb (whole_at s) 0) (runs_rule budget (given_of c (take (whole_at s) s) image).state (drop (whole_at s) s) (image_given c (take (whole_at s) s) image) (given_rule c
+    (take (whole_at s) s) image r))
   where
     go : (t : Bool) → ruled_of (runs budget (given_of c (take (whole_at s) s) image).state (drop (whole_at s) s) (image_given c (take (whole_at s) s) image)).state ≡ true
         → ruled_of (cond t (halted c image (stop_at s))

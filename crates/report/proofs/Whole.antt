@@ -90,7 +90,8 @@ fates-known (suc n) c s image =
   where
     go : (z : Bool) → Short (given_of c (take (whole_at s) s) image).fate
         → Known (fates_of n (given_of c (take (whole_at s) s) image).state (drop (whole_at s) s) (image_given c (take (whole_at s) s) image))
-        → Known (cond z [] ((given_of c (take (whole_at s) s) image).fate ∷ fates_of n (given_of c (take (whole_at s) s) image).state (drop (whole_at s) s) (image_given c (take (whole_at s) s) image)))
+        → Known (cond z [] ((given_of c (take (whole_at s) s) image).fate ∷ fates_of n (given_of c (take (whole_at s) s) image).state (drop (whole_at s) s) (image_given c
+        (take (whole_at s) s) image)))
     go true k ks = tt
     go false k ks = (k, ks)
 

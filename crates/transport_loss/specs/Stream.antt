@@ -85,7 +85,8 @@ is_lost (lost p x) = true
 abbrev pub WellSent : ℕ → ℕ → List ℕ → List Aired → Type 0
 WellSent pid c h [] = Unit {0}
 WellSent pid c h (a ∷ rs) =
-    (packet_refusal pid (aired_packet a) ≡ 0) × (view_of (aired_packet a) ≡ shown (turned c (sent_in a)) (sent_in a)) × Fits h (sent_in a) × WellSent pid (turned c (sent_in a)) (sent_so_far h (sent_in a)) rs
+    (packet_refusal pid (aired_packet a) ≡ 0) × (view_of (aired_packet a) ≡ shown (turned c (sent_in a)) (sent_in a)) × Fits h (sent_in a) × WellSent pid (turned c (sent_in a)) (sent_so_far h
+    (sent_in a)) rs
 
 -- the packets that come
 unfoldable pub came_in : List Aired → List (List ℕ)

@@ -36,7 +36,8 @@ pub overflow_cast-start : goal.overflow_cast-start
 overflow_cast-start c = omega (arith, (there (goal.at.overflow_cast-start c).In-At).1)
 
 -- an answer, with its number
-numbered : (s : List ℕ) (o : Scope) (j k m : ℕ) (r : ExtensionAnswer) → r ≡ extension_answer s o j k m → (r ≡ extension_answer s o j k m) × (number_of_extension r ≡ place_number s (extension_at o j k m s))
+numbered : (s : List ℕ) (o : Scope) (j k m : ℕ) (r : ExtensionAnswer) → r ≡ extension_answer s o j k m → (r ≡ extension_answer s o j k m) × (number_of_extension r ≡ place_number s
+    (extension_at o j k m s))
 numbered s o j k m r e = (e, ap number_of_extension e ∙ extension-number s o j k m)
 
 pub returns-in-Refused : goal.returns-in-Refused

@@ -45,15 +45,18 @@ returns-then-c-i c =
 
 pub returns-then-image-bytes_of : goal.returns-then-image-bytes_of
 returns-then-image-bytes_of c =
-    sym (out-15 c.args.c c.args.number c.args.image.now (ruled (goal.at.returns-then-image-bytes_of c).Else-not-is_ruled) (found (goal.at.returns-then-image-bytes_of c).Else-c-i) (omega (arith, c.bytes_of.ensures, c.if-image-bytes_of.true)))
+    sym (out-15 c.args.c c.args.number c.args.image.now (ruled (goal.at.returns-then-image-bytes_of c).Else-not-is_ruled) (found (goal.at.returns-then-image-bytes_of c).Else-c-i) (omega
+    (arith, c.bytes_of.ensures, c.if-image-bytes_of.true)))
 
 pub lack_of-requires : goal.lack_of-requires
 lack_of-requires c = (ruled (goal.at.lack_of-requires c).Else-not-is_ruled, omega (arith, c.if-c-i.false))
 
 pub returns-then-lack_of-ne0 : goal.returns-then-lack_of-ne0
 returns-then-lack_of-ne0 c =
-    sym (out-20 c.args.c c.args.number c.args.image.now (ruled (goal.at.returns-then-lack_of-ne0 c).Else-not-is_ruled) (found (goal.at.returns-then-lack_of-ne0 c).Else-c-i) (room (goal.at.returns-then-lack_of-ne0 c).Else-image-bytes_of) (λ z. c.if-lack_of-ne0.true (lack (goal.at.returns-then-lack_of-ne0 c).After-lack_of ∙ z)))
+    sym (out-20 c.args.c c.args.number c.args.image.now (ruled (goal.at.returns-then-lack_of-ne0 c).Else-not-is_ruled) (found (goal.at.returns-then-lack_of-ne0 c).Else-c-i) (room
+    (goal.at.returns-then-lack_of-ne0 c).Else-image-bytes_of) (λ z. c.if-lack_of-ne0.true (lack (goal.at.returns-then-lack_of-ne0 c).After-lack_of ∙ z)))
 
 pub returns : goal.returns
 returns c =
-    sym (out-0 c.args.c c.args.number c.args.image.now (ruled (goal.at.returns c).Else-not-is_ruled) (found (goal.at.returns c).Else-c-i) (room (goal.at.returns c).Else-image-bytes_of) (sym (lack (goal.at.returns c).After-lack_of) ∙ c.if-lack_of-ne0.false))
+    sym (out-0 c.args.c c.args.number c.args.image.now (ruled (goal.at.returns c).Else-not-is_ruled) (found (goal.at.returns c).Else-c-i) (room (goal.at.returns c).Else-image-bytes_of) (sym
+    (lack (goal.at.returns c).After-lack_of) ∙ c.if-lack_of-ne0.false))

@@ -73,5 +73,13 @@ unfolding module_part
 returns c =
     let z : handout_number c.args.c c.args.image.now c.args.number ≡ 0 = sym c.handout_number-refusal.ensures ∙ c.if-refusal-ne0.false in
     let o = out_part c.args.c c.args.number c.args.image.now z in
-    let l = place_part c.args.c c.args.number c.args.image.now z in
-    (rw (l, size_of_lem (goal.at.returns c).After-place_of, start_of (goal.at.returns c).After-place_of), inside (goal.at.returns c).After-place_of, rw (o, size_of_lem (goal.at.returns c).After-place_of, start_of (goal.at.returns c).After-place_of))
+    let l = place_part c.args.c c.args.number c.args.image.now z in (
+      rw (l, size_of_lem (goal.at.returns c).After-place_of, start_of (goal.at.returns c).After-place_of),
+      inside (goal.at.returns c).After-place_of,
+      rw (
+        o,
+        size_of_lem
+            (goal.at.returns c).After-place_of,
+        start_of (goal.at.returns c).After-place_of,
+      ),
+    )

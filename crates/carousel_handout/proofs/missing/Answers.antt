@@ -50,9 +50,11 @@ lack_of-lack-requires c = (ruled (goal.at.lack_of-lack-requires c).Else-not-is_r
 
 pub returns-then-lack-eq0 : goal.returns-then-lack-eq0
 returns-then-lack-eq0 c =
-    numbered _ _ _ (sym (report-is c.args.c c.args.number (ruled (goal.at.returns-then-lack-eq0 c).Else-not-is_ruled) (found (goal.at.returns-then-lack-eq0 c).Else-c-i) ∙ lack-whole _ (sym (ap (λ (l : Lack). l.count) (lack (goal.at.returns-then-lack-eq0 c).After-lack_of-lack)) ∙ c.if-lack-eq0.true)))
+    numbered _ _ _ (sym (report-is c.args.c c.args.number (ruled (goal.at.returns-then-lack-eq0 c).Else-not-is_ruled) (found (goal.at.returns-then-lack-eq0 c).Else-c-i) ∙ lack-whole _ (sym
+    (ap (λ (l : Lack). l.count) (lack (goal.at.returns-then-lack-eq0 c).After-lack_of-lack)) ∙ c.if-lack-eq0.true)))
 
 pub returns : goal.returns
 returns c =
-    let o = report-is c.args.c c.args.number (ruled (goal.at.returns c).Else-not-is_ruled) (found (goal.at.returns c).Else-c-i) ∙ lack-some _ (λ z. c.if-lack-eq0.false (ap (λ (l : Lack). l.count) (lack (goal.at.returns c).After-lack_of-lack) ∙ z)) in
+    let o = report-is c.args.c c.args.number (ruled (goal.at.returns c).Else-not-is_ruled) (found (goal.at.returns c).Else-c-i) ∙ lack-some _ (λ z. c.if-lack-eq0.false
+    (ap (λ (l : Lack). l.count) (lack (goal.at.returns c).After-lack_of-lack) ∙ z)) in
     numbered _ _ _ (rw (o, lack (goal.at.returns c).After-lack_of-lack))

@@ -121,7 +121,8 @@ module _ (s : List ℕ) (a : Announcement) (e : judged_of s ≡ judged.Announced
   -- ITS MODULES ARE THE MESSAGE'S, and as many as it says
   pub modules-said : list_of (span_of s a.start a.size) ≡ map listed_of (modules_of (payload_of (body_of s)))
   unfolding list_of
-  modules-said = ap (λ (l : List ℕ). map listed_of (items module_kind l)) span-is ∙ ap (map listed_of) (counted-items module_kind module_kind_lem (module_count_of p) from (drop from p) (framed-ends p framed))
+  modules-said = ap (λ (l : List ℕ). map listed_of (items module_kind l)) span-is ∙ ap (map listed_of) (counted-items module_kind module_kind_lem (module_count_of p) from (drop from p)
+      (framed-ends p framed))
 
   how-many : length (modules_of p) ≡ a.count
   unfolding announcement_of

@@ -80,7 +80,8 @@ nth (suc k) xs h =
     let q = nth k (drop (module_kind xs) xs) (omega arith) in
     let f : length (take (module_kind xs) xs) ≡ module_kind xs = length-take-le (module_kind xs) xs (module_kind_lem.fits xs) in
     let e = end_shift k (0 + length (take (module_kind xs) xs)) (items module_kind (drop (module_kind xs) xs)) (omega arith) in
-    let g : end_of k (0 + length (take (module_kind xs) xs)) (items module_kind (drop (module_kind xs) xs)) ≡ module_kind xs + end_of k 0 (items module_kind (drop (module_kind xs) xs)) = omega arith in
+    let g : end_of k (0 + length (take (module_kind xs) xs)) (items module_kind (drop (module_kind xs) xs)) ≡ module_kind xs + end_of k 0 (items module_kind (drop (module_kind xs) xs)) =
+    omega arith in
     let d = drop-drop (end_of k 0 (items module_kind (drop (module_kind xs) xs))) (module_kind xs) xs in
     rw (s, g, ← d) q
 
@@ -95,7 +96,8 @@ module _ (list : List ℕ) (k i : ℕ) (e : i ≡ end_of k 0 (items module_kind 
       let q = nth k list h in
       let l : 8 ≤ module_kind (drop i list) = rw e (framed-least 8 (λ x. byte_at x 7) (drop (end_of k 0 (items module_kind list)) list) q.1) in
       let g : get_or (items module_kind list) k [] ≡ take (module_kind (drop i list)) (drop i list) = rw e q.0 in
-      let n : sixteen_at (take (module_kind (drop i list)) (drop i list)) 0 ≡ sixteen_at list i = field_part 2 list i (module_kind (drop i list)) 0 (omega arith) ∙ ap (field_at 2 list) (omega arith) in
+      let n : sixteen_at (take (module_kind (drop i list)) (drop i list)) 0 ≡ sixteen_at list i = field_part 2 list i (module_kind (drop i list)) 0 (omega arith) ∙ ap (field_at 2 list)
+      (omega arith) in
       let z : thirty_two_at (take (module_kind (drop i list)) (drop i list)) 2 ≡ thirty_two_at list (i + 2) = field_part 4 list i (module_kind (drop i list)) 2 (omega arith) in
       let v : byte_at (take (module_kind (drop i list)) (drop i list)) 6 ≡ byte_at list (i + 6) =
       sym (field-one (take (module_kind (drop i list)) (drop i list)) 6) ∙ field_part 1 list i (module_kind (drop i list)) 6 (omega arith) ∙ field-one list (i + 6) in

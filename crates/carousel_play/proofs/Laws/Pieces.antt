@@ -64,7 +64,11 @@ module-step out end x xs rest out' end' e p =
 
 pub module-none : (out : List ℕ) (end : ℕ) (rest : List Listed) → rest ≡ [] → (sets out end (modules_bytes rest) ≡ out) × (reached end (length (modules_bytes rest)) (length out) ≡ end)
 unfolding joined
-module-none out end rest e = (ap (λ (l : List Listed). sets out end (modules_bytes l)) e, ap (λ (l : List Listed). reached end (length (modules_bytes l)) (length out)) e ∙ reached-none end (length out))
+module-none out end rest e = (
+  ap (λ (l : List Listed). sets out end (modules_bytes l)) e,
+  ap (λ (l : List Listed). reached end (length (modules_bytes l)) (length out)) e ∙ reached-none end
+      (length out),
+)
 
 -- THE PIECES OF AN ANNOUNCEMENT'S PAYLOAD, one after another
 pub list_pieces : (p : Playlist) → p.count ≡ length (to_play p).modules

@@ -58,7 +58,8 @@ module _ (p : Playlist) (n k : ℕ) where
   before-is = met_append 0 (limit_tests p) ((15, meets15 (to_play p) n) ∷ (19, not (ltb k (section_count (to_play p)))) ∷ []) (omega arith, (omega arith, tt))
 
   pub by_limits : (limit_refusal p ≡ 0 → ⊥) → limit_refusal p ≡ refusal_before p n k
-  by_limits h = sym (before-is ∙ ap (λ (t : Bool). cond t (first_met ((15, meets15 (to_play p) n) ∷ (19, not (ltb k (section_count (to_play p)))) ∷ [])) (limit_refusal p)) (ne_eqb (limit_refusal p) 0 h))
+  by_limits h = sym (before-is ∙ ap (λ (t : Bool). cond t (first_met ((15, meets15 (to_play p) n) ∷ (19, not (ltb k (section_count (to_play p)))) ∷ [])) (limit_refusal p)) (ne_eqb
+      (limit_refusal p) 0 h))
 
   module _ (e : limit_refusal p ≡ 0) where
     after_limits : refusal_before p n k ≡ first_met ((15, meets15 (to_play p) n) ∷ (19, not (ltb k (section_count (to_play p)))) ∷ [])

@@ -58,7 +58,8 @@ module _ (ms : List Module) (n : ℕ) (h : n ≤ length ms) where
       abbrev here : List ℕ
       here = take module_words (drop (module_words * i) ws)
 
-      pub place-off : clear_from (blocks_of bs (get_or ms i unused).size) here ≡ false → marks_within module_words (map (λ z. blocks_of bs z) (sizes_of (drop i listed))) (drop (module_words * i) ws) ≡ false
+      pub place-off : clear_from (blocks_of bs (get_or ms i unused).size) here ≡ false → marks_within module_words (map (λ z. blocks_of bs z) (sizes_of (drop i listed))) (drop
+          (module_words * i) ws) ≡ false
       unfolding marks_within
       place-off e = rw (next listed_in i l, e)
 

@@ -69,7 +69,13 @@ modules-next a ms i h k =
     let e = entry_at 0 ms i h in
     let z : 0 + before ms i ≡ before ms i = omega arith in
     let o : i ≡ 0 + i = omega arith in
-    let f : get_or (entries 0 ms) i unused ≡ record { number = (get_or ms i none_listed).number; size = (get_or ms i none_listed).size; version = (get_or ms i none_listed).version; start = before ms i } =
+    let f : get_or (entries 0 ms) i unused ≡ record {
+      number = (get_or ms i none_listed).number;
+      size = (get_or ms i none_listed).size;
+      version = (get_or ms i none_listed).version;
+      start =
+          before ms i;
+    } =
     e ∙ ap (λ (n : ℕ). record { number = (get_or ms i none_listed).number; size = (get_or ms i none_listed).size; version = (get_or ms i none_listed).version; start = n }) z in
     rw (add-one i) (ap (λ (x : Module). set (filled a ms i).modules i x) (sym f)
     ∙ ap (λ (n : ℕ). set (filled a ms i).modules n (get_or (entries 0 ms) i unused)) o

@@ -119,9 +119,11 @@ returns-in-Refused c =
 pub returns-in-Announced : goal.returns-in-Announced
 returns-in-Announced c =
     let s = c.args in
-    let p = stepped-is s.c s.s.now s.image.now _ (comes-announced s.c s.s.now s.image.now (ruled (goal.at.returns-in-Announced c).Else-not-is_ruled) (announced (goal.at.returns-in-Announced c).After-struct_known-1) (is-announced (goal.at.returns-in-Announced c).After-struct_known-1)) in
+    let p = stepped-is s.c s.s.now s.image.now _ (comes-announced s.c s.s.now s.image.now (ruled (goal.at.returns-in-Announced c).Else-not-is_ruled) (announced
+    (goal.at.returns-in-Announced c).After-struct_known-1) (is-announced (goal.at.returns-in-Announced c).After-struct_known-1)) in
     numbered _ _ _ _ _ (c.take_announcement.ensures
-    ∙ ap (λ (l : List ℕ). returning s.c (on_announced (record_of s.c) (announced_in (announced (goal.at.returns-in-Announced c).After-struct_known-1) l))) (list-is (goal.at.returns-in-Announced c).After-struct_known-1) ∙ sym p.0)
+    ∙ ap (λ (l : List ℕ). returning s.c (on_announced (record_of s.c) (announced_in (announced (goal.at.returns-in-Announced c).After-struct_known-1) l))) (list-is
+    (goal.at.returns-in-Announced c).After-struct_known-1) ∙ sym p.0)
     (sym (p.1 ∙ announced-image _ _ _))
 
 pub returns-in-Carried : goal.returns-in-Carried

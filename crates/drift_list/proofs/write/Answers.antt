@@ -34,7 +34,8 @@ pub returns-then-n-ne0 : goal.returns-then-n-ne0
 returns-then-n-ne0 c = let a = c.args in kept-is (draft a.issue a.count a.numbers.now) a.out.now _ c.write_refusal-n.ensures c.if-n-ne0.true
 
 pub overflow_mul-issue : goal.overflow_mul-issue
-overflow_mul-issue c = let i = issue-small (given (goal.at.overflow_mul-issue c).Else-n-ne0) (lent (goal.at.overflow_mul-issue c).Else-n-ne0) (accepted (goal.at.overflow_mul-issue c).Else-n-ne0) in record { fits = omega arith }
+overflow_mul-issue c = let i = issue-small (given (goal.at.overflow_mul-issue c).Else-n-ne0) (lent (goal.at.overflow_mul-issue c).Else-n-ne0) (accepted
+    (goal.at.overflow_mul-issue c).Else-n-ne0) in record { fits = omega arith }
 
 pub overflow_add-issue : goal.overflow_add-issue
 overflow_add-issue c =
@@ -49,10 +50,12 @@ pub loop-k-init : goal.loop-k-init
 loop-k-init c = (omega arith, refl, refl, none-begun _ _)
 
 pub slice_bounds-fields_in-count : goal.slice_bounds-fields_in-count
-slice_bounds-fields_in-count c = numbers_in (given ((goal.at.slice_bounds-fields_in-count c).Else-n-ne0)) (lent ((goal.at.slice_bounds-fields_in-count c).Else-n-ne0)) (accepted ((goal.at.slice_bounds-fields_in-count c).Else-n-ne0)) c.loop-k.k (among (goal.at.slice_bounds-fields_in-count c).In-loop-k)
+slice_bounds-fields_in-count c = numbers_in (given ((goal.at.slice_bounds-fields_in-count c).Else-n-ne0)) (lent ((goal.at.slice_bounds-fields_in-count c).Else-n-ne0)) (accepted
+    ((goal.at.slice_bounds-fields_in-count c).Else-n-ne0)) c.loop-k.k (among (goal.at.slice_bounds-fields_in-count c).In-loop-k)
 
 pub slice_bounds-fields_in-start : goal.slice_bounds-fields_in-start
-slice_bounds-fields_in-start c = numbers_in (given ((goal.at.slice_bounds-fields_in-start c).Else-n-ne0)) (lent ((goal.at.slice_bounds-fields_in-start c).Else-n-ne0)) (accepted ((goal.at.slice_bounds-fields_in-start c).Else-n-ne0)) c.loop-k.k (among (goal.at.slice_bounds-fields_in-start c).In-loop-k)
+slice_bounds-fields_in-start c = numbers_in (given ((goal.at.slice_bounds-fields_in-start c).Else-n-ne0)) (lent ((goal.at.slice_bounds-fields_in-start c).Else-n-ne0)) (accepted
+    ((goal.at.slice_bounds-fields_in-start c).Else-n-ne0)) c.loop-k.k (among (goal.at.slice_bounds-fields_in-start c).In-loop-k)
 
 pub put_fix-requires : goal.put_fix-requires
 put_fix-requires c =
@@ -61,8 +64,11 @@ put_fix-requires c =
     let a = accepted ((goal.at.put_fix-requires c).Else-n-ne0) in
     let p = place_in d (lent ((goal.at.put_fix-requires c).Else-n-ne0)) a l.k (among (goal.at.put_fix-requires c).In-loop-k) in
     let m = l.invariant.2 in
-    let r = room-kept (goal.at.put_fix-requires c).After-put_four in
-    (omega arith, subst FitsFix (sym (c.fields_in-f.ensures ∙ fix-rest d.numbers (5 * l.k))) (fits d (lent ((goal.at.put_fix-requires c).Else-n-ne0)) a l.k (among (goal.at.put_fix-requires c).In-loop-k)))
+    let r = room-kept (goal.at.put_fix-requires c).After-put_four in (
+      omega arith,
+      subst FitsFix (sym (c.fields_in-f.ensures ∙ fix-rest d.numbers (5 * l.k))) (fits d (lent ((goal.at.put_fix-requires c).Else-n-ne0)) a l.k
+          (among (goal.at.put_fix-requires c).In-loop-k)),
+    )
 
 pub loop-k-preserved : goal.loop-k-preserved
 loop-k-preserved c =
@@ -83,5 +89,8 @@ pub returns : goal.returns
 returns c =
     let l = c.loop-k in
     let k = l.invariant.0 in
-    let n = l.invariant.1 in
-    (answer-is (given (goal.at.returns c).Else-n-ne0) (lent (goal.at.returns c).Else-n-ne0) (accepted (goal.at.returns c).Else-n-ne0), left_is (given (goal.at.returns c).Else-n-ne0) (lent (goal.at.returns c).Else-n-ne0) (accepted (goal.at.returns c).Else-n-ne0) l.k _ _ (omega arith) c.put_four.ensures l.invariant.3)
+    let n = l.invariant.1 in (
+      answer-is (given (goal.at.returns c).Else-n-ne0) (lent (goal.at.returns c).Else-n-ne0) (accepted (goal.at.returns c).Else-n-ne0),
+      left_is (given (goal.at.returns c).Else-n-ne0) (lent
+          (goal.at.returns c).Else-n-ne0) (accepted (goal.at.returns c).Else-n-ne0) l.k _ _ (omega arith) c.put_four.ensures l.invariant.3,
+    )

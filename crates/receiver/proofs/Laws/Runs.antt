@@ -101,7 +101,14 @@ pub taken_is : (c : Carousel) (s image : List ℕ) (n w : ℕ) (g : Given) (x : 
 taken_is c s image n w g x e f h = rw (f, e) (sym h)
 
 -- what a run answers, from what it comes to
-pub ran-is : (c : Carousel) (s image : List ℕ) (budget : ℕ) (d : Carousel) (l : List ℕ) (t p : ℕ) (x : Stop) → run_of c s image budget ≡ record { state = d; image = l; taken = t; passed = p; stop = x }
+pub ran-is : (c : Carousel) (s image : List ℕ) (budget : ℕ) (d : Carousel) (l : List ℕ) (t p : ℕ) (x : Stop) → run_of c s image budget ≡ record {
+  state = d;
+  image = l;
+  taken = t;
+  passed =
+      p;
+  stop = x;
+}
     → (record { passage = record { taken = t; passed = p; stop = x }; state = d } ≡ ran_of c s image budget) × (l ≡ image_ran c s image budget)
 ran-is c s image budget d l t p x e =
     (ap (λ (o : RunOutcome). record { passage = record { taken = o.taken; passed = o.passed; stop = o.stop }; state = o.state }) (sym e), ap (λ (o : RunOutcome). o.image) (sym e))

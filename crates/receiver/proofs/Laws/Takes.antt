@@ -90,7 +90,8 @@ unfolding fates_of
 fates-none c s image = refl
 
 fates-next : (k : ℕ) (c : Carousel) (s image : List ℕ) → (whole_at s ≡ 0 → ⊥)
-    → fates_of (suc k) c s image ≡ (given_of c (take (whole_at s) s) image).fate ∷ fates_of k (given_of c (take (whole_at s) s) image).state (drop (whole_at s) s) (image_given c (take (whole_at s) s) image)
+    → fates_of (suc k) c s image ≡ (given_of c (take (whole_at s) s) image).fate ∷ fates_of k (given_of c (take (whole_at s) s) image).state (drop (whole_at s) s) (image_given c
+    (take (whole_at s) s) image)
 unfolding fates_of
 fates-next k c s image n = rw (ne_eqb (whole_at s) 0 n)
 

@@ -82,7 +82,8 @@ bytes c =
 
 judged-is : (c : After-hear-judged) → c.hear-judged.result ≡ judged_of (section-at (goal.at.After-hear-judged c).After-whole_at-n)
 judged-is c =
-    c.hear-judged.ensures ∙ ap (λ (g : ℕ). judged_by g (section-at (goal.at.After-hear-judged c).After-whole_at-n)) (lent _ (section-at (goal.at.After-hear-judged c).After-whole_at-n) _ c.tables-tables.ensures (bytes (goal.at.After-hear-judged c).After-whole_at-n) c.crc_by.ensures)
+    c.hear-judged.ensures ∙ ap (λ (g : ℕ). judged_by g (section-at (goal.at.After-hear-judged c).After-whole_at-n)) (lent _
+    (section-at (goal.at.After-hear-judged c).After-whole_at-n) _ c.tables-tables.ensures (bytes (goal.at.After-hear-judged c).After-whole_at-n) c.crc_by.ensures)
 
 -- the invariant after one section more: x is the record in its parts, l the image
 one_more_lem : (c : After-hear-judged) (h : Head) (ms : List Module) (numbers marks l : List ℕ) →
@@ -170,8 +171,11 @@ returns-then-n-eq0 c =
     let l = c.loop-taken in
     let z = sym (whole (goal.at.returns-then-n-eq0 c).After-whole_at-n) ∙ c.if-n-eq0.true in
     let e = run-of-parts (goal.at.returns-then-n-eq0 c).At-loop-taken ∙ sym l.invariant.4 ∙ ap (ahead l.taken l.passed) (runs-stop _ _ _ _ z) ∙ ahead-halted l.taken l.passed _ _ _ in
-    let p = ran-is s.c s.stretch.now s.image.now s.budget _ _ _ _ _ e in
-    (c.ended-then-n-eq0.ensures ∙ ap₂ (λ (d : Carousel) (x : Stop). ending d l.taken l.passed x) c.joined.ensures (c.stop_at.ensures ∙ ap stop_at (rest (goal.at.returns-then-n-eq0 c).At-loop-taken)) ∙ p.0, p.1)
+    let p = ran-is s.c s.stretch.now s.image.now s.budget _ _ _ _ _ e in (
+      c.ended-then-n-eq0.ensures ∙ ap₂ (λ (d : Carousel) (x : Stop). ending d l.taken l.passed x) c.joined.ensures (c.stop_at.ensures ∙ ap stop_at
+          (rest (goal.at.returns-then-n-eq0 c).At-loop-taken)) ∙ p.0,
+      p.1,
+    )
 
 pub slice_bounds-s-end : goal.slice_bounds-s-end
 slice_bounds-s-end c = sym (length-take-le _ _ c.whole_at-n.ensures.1)
@@ -185,18 +189,19 @@ section-long c = length-take-le _ _ c.whole_at-n.ensures.1
 sized : (c : After-whole_at-n) → c.whole_at-n.result < 18446744073709551616
 sized c = let f = fits c in omega arith
 
-less : (c : After-whole_at-n) → 
+less : (c : After-whole_at-n) →
     let b = c.args.budget in b - (c.loop-taken.taken + 1) < b - c.loop-taken.taken
 less c = omega arith
 
 pub loop-taken-preserved-in-Refused : goal.loop-taken-preserved-in-Refused
 loop-taken-preserved-in-Refused c =
     let l = c.loop-taken in
-    let g = given-refused (held (goal.at.loop-taken-preserved-in-Refused c).At-loop-taken) (section-at (goal.at.loop-taken-preserved-in-Refused c).After-whole_at-n) l.image l.invariant.3.3 _ (sym (judged-is (goal.at.loop-taken-preserved-in-Refused c).After-hear-judged) ∙ c.in-Refused.is) in
+    let g = given-refused (held (goal.at.loop-taken-preserved-in-Refused c).At-loop-taken) (section-at (goal.at.loop-taken-preserved-in-Refused c).After-whole_at-n) l.image l.invariant.3.3 _ (sym
+    (judged-is (goal.at.loop-taken-preserved-in-Refused c).After-hear-judged) ∙ c.in-Refused.is) in
     one_more_lem (goal.at.loop-taken-preserved-in-Refused c).After-hear-judged l.h l.ms l.numbers l.marks l.image refl l.invariant.3 (sym g.0) (sym g.1)
 
 -- A BLOCK, of the section in the bytes that it says
-carried : (c : After-struct_known-in-Carried-1) → 
+carried : (c : After-struct_known-in-Carried-1) →
     judged_of (section-at (goal.at.After-struct_known-in-Carried-1 c).After-whole_at-n) ≡ judged.Carried (block c)
 carried c =
     sym (judged-is (goal.at.After-struct_known-in-Carried-1 c).After-hear-judged) ∙ c.in-Carried.is
@@ -258,13 +263,15 @@ loop-taken-preserved c =
     let j = c.joined-in-Announced.ensures in
     let g = c.give-g.ensures in
     let e = ap (λ (y : Given). y.state) g.0 ∙ ap (λ (d : Carousel). (given_of d s l.image).state) j in
-    let a = apart _ _ _ c.head_of-h-in-Announced.ensures c.numbers_of-numbers-in-Announced.ensures (search rules) (ap ruled_of e ∙ given_rule (held (goal.at.loop-taken-preserved c).At-loop-taken) s l.image l.invariant.3.3) in
+    let a = apart _ _ _ c.head_of-h-in-Announced.ensures c.numbers_of-numbers-in-Announced.ensures (search rules) (ap ruled_of e ∙ given_rule
+    (held (goal.at.loop-taken-preserved c).At-loop-taken) s l.image l.invariant.3.3) in
     one_more_lem (goal.at.loop-taken-preserved c).After-hear-judged _ _ _ _ _ c.give-g.auto.image a.0 (a.1 ∙ e) (g.1 ∙ ap (λ (d : Carousel). image_given d s l.image) j)
 
 pub returns : goal.returns
 returns c =
     let s = c.args in
     let l = c.loop-taken in
-    let e = run-of-parts (goal.at.returns c).At-loop-taken ∙ sym l.invariant.4 ∙ ap (ahead l.taken l.passed) (runs_done (s.budget - l.taken) _ _ _ (omega arith)) ∙ ahead-halted l.taken l.passed _ _ _ in
+    let e = run-of-parts (goal.at.returns c).At-loop-taken ∙ sym l.invariant.4 ∙ ap (ahead l.taken l.passed) (runs_done (s.budget - l.taken) _ _ _ (omega arith))
+    ∙ ahead-halted l.taken l.passed _ _ _ in
     let p = ran-is s.c s.stretch.now s.image.now s.budget _ _ _ _ _ e in
     (c.ended-2.ensures ∙ ap₂ (λ (d : Carousel) (x : Stop). ending d l.taken l.passed x) c.joined-2.ensures (c.stop_at-2.ensures ∙ ap stop_at (rest (goal.at.returns c).At-loop-taken)) ∙ p.0, p.1)

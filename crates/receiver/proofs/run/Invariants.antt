@@ -39,7 +39,8 @@ invariant-loop-taken l =
     × (l.taken ≤ l.budget)
     × (length l.image ≡ length l.initial.image)
     × (Whole l.h l.ms l.numbers l.marks)
-    × (ahead l.taken l.passed (runs (l.budget - l.taken) (joined_of l.h l.ms l.marks) (drop l.passed l.stretch) l.image) ≡ runs l.budget (joined_of l.initial.h l.initial.ms l.initial.marks) l.stretch l.initial.image)
+    × (ahead l.taken l.passed (runs (l.budget - l.taken) (joined_of l.h l.ms l.marks) (drop l.passed l.stretch) l.image) ≡ runs l.budget
+    (joined_of l.initial.h l.initial.ms l.initial.marks) l.stretch l.initial.image)
 
 abbrev pub decreases-loop-taken : goal.decreases-loop-taken
 decreases-loop-taken l = l.budget - l.taken

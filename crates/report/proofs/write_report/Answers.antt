@@ -46,7 +46,8 @@ taken : (c : In-Taken) → let l = c.loop-stop in
     Turned (stretch-at (goal.at.In-Taken c).At-loop-stop) l.image l.c l.index l.passed c.in-Taken.section c.take-took.result.state c.take-took.new.image
 taken c =
     let l = c.loop-stop in
-    turned (stretch-at (goal.at.In-Taken c).At-loop-stop) l.image l.c l.index l.passed c.in-Taken.section _ _ l.invariant.4 l.invariant.0 (took (goal.at.In-Taken c).After-take-took) (left (goal.at.In-Taken c).After-take-took) c.in-Taken.is
+    turned (stretch-at (goal.at.In-Taken c).At-loop-stop) l.image l.c l.index l.passed c.in-Taken.section _ _ l.invariant.4 l.invariant.0 (took (goal.at.In-Taken c).After-take-took) (left
+    (goal.at.In-Taken c).After-take-took) c.in-Taken.is
 
 pub loop-stop-init : goal.loop-stop-init
 loop-stop-init c =

@@ -39,7 +39,8 @@ pub returns-then-not-has_table : goal.returns-then-not-has_table
 returns-then-not-has_table c = is3 _ _ _ (at2 (goal.at.returns-then-not-has_table c).Else-s-length) (other3 _ _ (sym c.has_table.ensures ∙ c.if-not-has_table.true))
 
 pub returns-then-not-is_framed : goal.returns-then-not-is_framed
-returns-then-not-is_framed c = is4 _ _ _ (at2 (goal.at.returns-then-not-is_framed c).Else-s-length) (at3 (goal.at.returns-then-not-is_framed c).Else-not-has_table) (frame4 _ _ (sym c.is_framed.ensures ∙ (ap not c.if-not-is_framed.true)))
+returns-then-not-is_framed c = is4 _ _ _ (at2 (goal.at.returns-then-not-is_framed c).Else-s-length) (at3 (goal.at.returns-then-not-is_framed c).Else-not-has_table) (frame4 _ _
+    (sym c.is_framed.ensures ∙ (ap not c.if-not-is_framed.true)))
 
 pub bounds-s-7 : goal.bounds-s-7
 bounds-s-7 c = omega (arith, whole (goal.at.bounds-s-7 c).Else-not-is_framed)
@@ -48,16 +49,20 @@ pub bounds-s-6 : goal.bounds-s-6
 bounds-s-6 c = omega (arith, whole (goal.at.bounds-s-6 c).Else-not-is_framed)
 
 pub returns-then-s : goal.returns-then-s
-returns-then-s c = is4 _ _ _ (at2 (goal.at.returns-then-s c).Else-s-length) (at3 (goal.at.returns-then-s c).Else-not-has_table) (above4 _ _ (at_f (goal.at.returns-then-s c).Else-not-is_framed) (omega arith))
+returns-then-s c = is4 _ _ _ (at2 (goal.at.returns-then-s c).Else-s-length) (at3 (goal.at.returns-then-s c).Else-not-has_table) (above4 _ _ (at_f (goal.at.returns-then-s c).Else-not-is_framed)
+    (omega arith))
 
 pub returns-then-register-ne0 : goal.returns-then-register-ne0
-returns-then-register-ne0 c = is5 _ _ _ (at2 (goal.at.returns-then-register-ne0 c).Else-s-length) (at3 (goal.at.returns-then-register-ne0 c).Else-not-has_table) (at4 (goal.at.returns-then-register-ne0 c).Else-s) (bad5 _ (λ e. omega (arith, c.if-register-ne0.true)))
+returns-then-register-ne0 c = is5 _ _ _ (at2 (goal.at.returns-then-register-ne0 c).Else-s-length) (at3 (goal.at.returns-then-register-ne0 c).Else-not-has_table) (at4
+    (goal.at.returns-then-register-ne0 c).Else-s) (bad5 _ (λ e. omega (arith, c.if-register-ne0.true)))
 
 pub bounds-s-5 : goal.bounds-s-5
 bounds-s-5 c = omega (arith, whole ((goal.at.bounds-s-5 c).Else-not-is_framed))
 
 pub returns-then-s-eq0 : goal.returns-then-s-eq0
-returns-then-s-eq0 c = is6 _ _ _ (at2 (goal.at.returns-then-s-eq0 c).Else-s-length) (at3 (goal.at.returns-then-s-eq0 c).Else-not-has_table) (at4 (goal.at.returns-then-s-eq0 c).Else-s) (past5 _ (omega arith)) (next6 _ (sym (masked_low 1 _) ∙ c.if-s-eq0.true))
+returns-then-s-eq0 c = is6 _ _ _ (at2 (goal.at.returns-then-s-eq0 c).Else-s-length) (at3 (goal.at.returns-then-s-eq0 c).Else-not-has_table) (at4 (goal.at.returns-then-s-eq0 c).Else-s) (past5 _
+    (omega arith)) (next6 _ (sym (masked_low 1 _) ∙ c.if-s-eq0.true))
 
 pub returns : goal.returns
-returns c = is0 _ _ _ (at2 (goal.at.returns c).Else-s-length) (at3 (goal.at.returns c).Else-not-has_table) (at4 (goal.at.returns c).Else-s) (past5 _ (omega arith)) (past6 _ (λ e. c.if-s-eq0.false (masked_low 1 _ ∙ e)))
+returns c = is0 _ _ _ (at2 (goal.at.returns c).Else-s-length) (at3 (goal.at.returns c).Else-not-has_table) (at4 (goal.at.returns c).Else-s) (past5 _ (omega arith)) (past6 _
+    (λ e. c.if-s-eq0.false (masked_low 1 _ ∙ e)))

@@ -24,5 +24,9 @@ loop-done-preserved g c =
     let room = length l.buf - l.done in
     let within = l.invariant.1 in
     let part = slice_range-put_mid l.done room c.in-Ok.n l.buf c.read.new.buf within c.in-Ok.ensures.bound.0 in
-    let joined = take_split l.done (l.done + c.in-Ok.n) l.buf (put_mid l.done room l.buf c.read.new.buf) (omega arith) (take-put_mid_below _ _ _ _ _ (le_refl _) within) in
-    (search rules, search rules, subst (Consumes _ _) (ap (λ l. take c.loop-done.done c.loop-done.buf ++ l) (sym part) ∙ joined) (Consumes-trans _ _ _ _ _ c.loop-done.invariant.2 c.in-Ok.ensures.bytes.0))
+    let joined = take_split l.done (l.done + c.in-Ok.n) l.buf (put_mid l.done room l.buf c.read.new.buf) (omega arith) (take-put_mid_below _ _ _ _ _ (le_refl _) within) in (
+      search rules,
+      search rules,
+      subst (Consumes _ _) (ap (λ l. take c.loop-done.done c.loop-done.buf ++ l) (sym part) ∙ joined)
+          (Consumes-trans _ _ _ _ _ c.loop-done.invariant.2 c.in-Ok.ensures.bytes.0),
+    )

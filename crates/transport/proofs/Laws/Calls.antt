@@ -445,7 +445,8 @@ gather-room pid s n xs = go (eqb (lent_refusal pid s n) 0) refl
     go false e = none_fit pid (state_in s) n
 
 -- the first bytes of the buffer are what was handed on
-pub gather-front : (pid : ℕ) (s xs out : List ℕ) → take (gather_answer pid s (length out) xs).size (gather_out pid s xs out) ≡ joined (handed_on pid (state_in s) (gathered_packets pid s (length out) xs))
+pub gather-front : (pid : ℕ) (s xs out : List ℕ) → take (gather_answer pid s (length out) xs).size (gather_out pid s xs out) ≡ joined (handed_on pid (state_in s)
+    (gathered_packets pid s (length out) xs))
 unfolding gather_answer gather_out
 gather-front pid s xs out = take_at (joined (handed_on pid (state_in s) (gathered_packets pid s (length out) xs))) _ _ refl
 

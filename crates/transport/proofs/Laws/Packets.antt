@@ -11,7 +11,8 @@ use borrow.Author.Tests.{eq-eqb, ne_eqb, lt-ltb, le-ltb, ltb-false, leb-false}
 use Rattle.wire.specs.Fields.{byte_at}
 use Rattle.wire.specs.Tests.{first_met}
 use Rattle.wire.proofs.Laws.Tests.{neither}
-use Rattle.transport.specs.Packet.{error_of, scrambling_of, pid_of, unit_start_of, has_field, has_payload, payload_at, payload_in, is_start, field_past, pointer_past, is_faulty, packet_refusal, view_of}
+use Rattle.transport.specs.Packet.{error_of, scrambling_of, pid_of, unit_start_of, has_field, has_payload, payload_at, payload_in, is_start, field_past, pointer_past, is_faulty, packet_refusal}
+use Rattle.transport.specs.Packet.{view_of}
 
 -- one of five tests
 last_of : (a b c d e : Bool) → a ≡ false → b ≡ false → c ≡ false → d ≡ false → (a || b || c || d || e) ≡ e

@@ -12,7 +12,8 @@ use Rattle.wire.specs.Items.{joined}
 use Rattle.section.specs.Whole.{whole_at}
 use Rattle.section.proofs.Laws.Whole.{whole-short}
 use Rattle.transport.specs.declared.Answer.TheVariants as answer
-use Rattle.transport.specs.Packet.{packet_length, error_of, unit_start_of, pid_of, scrambling_of, has_field, has_payload, counter_of, payload_at, payload_in, is_start, is_faulty, packet_refusal, view_of}
+use Rattle.transport.specs.Packet.{packet_length, error_of, unit_start_of, pid_of, scrambling_of, has_field, has_payload, counter_of, payload_at, payload_in, is_start, is_faulty, packet_refusal}
+use Rattle.transport.specs.Packet.{view_of}
 use Rattle.transport.specs.Feed.{ended, grown, hands_on, leaves}
 use Rattle.transport.specs.Pieces.{judged, Plain}
 use Rattle.transport.proofs.Laws.Packets.{faulty-pointer, not-refused}

@@ -56,7 +56,8 @@ untouched-none s u =
 pub untouched-says : (s : List ℕ) → byte_at s 0 ≡ 0 → is_untouched s ≡ true → state_in s ≡ record { last = []; hand = [] }
 unfolding state_in
 untouched-says s e u =
-    ap₂ (λ (a b : List ℕ). record { last = a; hand = b }) (ap (λ (t : Bool). cond t [] (take packet_length s)) (eq-eqb (byte_at s 0) 0 e)) (ap (λ (n : ℕ). take n (drop hand_at s)) (untouched-none s u))
+    ap₂ (λ (a b : List ℕ). record { last = a; hand = b }) (ap (λ (t : Bool). cond t [] (take packet_length s)) (eq-eqb (byte_at s 0) 0 e)) (ap (λ (n : ℕ). take n (drop hand_at s))
+    (untouched-none s u))
 
 pub good-says : (pid : ℕ) (s : List ℕ) → state_good pid s ≡ true → Good pid s
 unfolding state_good state_in state_ruled

@@ -1,15 +1,13 @@
 -- `transport_run::run_packets` meets its contract: a broken record, or the packets gathered and their sections run.
 use Prim.Native.Nat.{ℕ, ◌≤◌}
-use mathlib.Core.Path.{◌≡◌, sym, ap, ◌∙◌}
+use mathlib.Core.Path.{sym, ap, ◌∙◌}
 use mathlib.Core.List.{List}
 use native.Mathlib.Omega.{arith}
 use lib.ListN.{length}
 use lib.Seq.{length-take-le}
-use borrow.Author.Tests.{not-true, not-false}
 use Rattle.transport.specs.declared.Gathered.{Gathered}
 use Rattle.transport.proofs.Laws.Calls.{gather-room, gather-long}
 use Rattle.transport_run.proofs.Laws.Heard.{broken-leaves, heard-leaves}
-use borrow.Author.Rules.{rules}
 use Rattle.transport_run.proofs.run_packets.Goals as goal
 use Rattle.transport_run.proofs.run_packets.Goals.{After-gather-gathered}
 
@@ -28,10 +26,10 @@ returns-then-not-is_ruled c =
     (sym c.is_ruled.ensures ∙ c.if-not-is_ruled.true) _ c.none_gathered.ensures
 
 pub slice_bounds-run-end : goal.slice_bounds-run-end
-slice_bounds-run-end c = inside (goal.at.slice_bounds-run-end c).After-gather-gathered
+slice_bounds-run-end c = inside ((goal.at.slice_bounds-run-end c).After-gather-gathered)
 
 pub slice_bounds-run-end-2 : goal.slice_bounds-run-end-2
-slice_bounds-run-end-2 c = sym (length-take-le _ _ (inside (goal.at.slice_bounds-run-end-2 c).After-gather-gathered))
+slice_bounds-run-end-2 c = sym (length-take-le _ _ (inside ((goal.at.slice_bounds-run-end-2 c).After-gather-gathered)))
 
 pub returns : goal.returns
 returns c =

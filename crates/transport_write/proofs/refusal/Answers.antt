@@ -39,8 +39,16 @@ returns-then-room-packets_in c =
 pub returns-then-pid-gt8191 : goal.returns-then-pid-gt8191
 returns-then-pid-gt8191 c =
     let a = c.args in
-    sym ((twenty-five-exactly a.pid a.counter a.s.now a.room).1
-    (size-known ((goal.at.returns-then-pid-gt8191 c).Else-n-twelve_at), c.if-s.false, room-known (goal.at.returns-then-pid-gt8191 c).Else-room-packets_in, λ h. omega (arith, h.0, c.if-pid-gt8191.true)))
+    sym ((twenty-five-exactly a.pid a.counter a.s.now a.room).1 (
+      size-known ((goal.at.returns-then-pid-gt8191 c).Else-n-twelve_at),
+      c.if-s.false,
+      room-known (goal.at.returns-then-pid-gt8191 c).Else-room-packets_in,
+      λ h. omega (
+        arith,
+        h.0,
+        c.if-pid-gt8191.true,
+      ),
+    ))
 
 pub returns-then-counter-gt15 : goal.returns-then-counter-gt15
 returns-then-counter-gt15 c =

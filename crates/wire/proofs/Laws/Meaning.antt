@@ -1,4 +1,5 @@
--- What `fills`, `count`, `item_at` and `end_of` mean: the list is some whole items laid end to end; there is one way to see it so; these are their number, the place of each, and where the first n end.
+-- What `fills`, `count`, `item_at` and `end_of` mean: the list is some whole items laid end to end; there is one way to see it so; these are their number, the place of each, and where the first
+-- n end.
 use Prim.Native.Nat.{ℕ, zero, suc, ◌+◌, ◌≤◌, ◌<◌}
 use mathlib.Core.Path.{◌≡◌, refl, sym, ap, ◌∙◌}
 use mathlib.Core.Logic.{◌↔◌}

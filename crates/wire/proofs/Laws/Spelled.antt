@@ -32,7 +32,8 @@ reads-spelled (suc n) (x ∷ xs) b e =
     let s : List ℕ = x ∷ xs in
     let o : suc n ≡ 1 + n = omega arith in
     let r : AllBytes xs = λ k. b (suc k) in
-    let f : field_at (suc n) s 0 ≡ x * 256 ^ n + field_at n xs 0 = ap (λ (k : ℕ). field_at k s 0) o ∙ field-join 1 n s 0 ∙ ap₂ (λ (y z : ℕ). y * 256 ^ n + z) (field-one s 0) (sym (field_drop n s 1 0)) in
+    let f : field_at (suc n) s 0 ≡ x * 256 ^ n + field_at n xs 0 = ap (λ (k : ℕ). field_at k s 0) o ∙ field-join 1 n s 0 ∙ ap₂ (λ (y z : ℕ). y * 256 ^ n + z) (field-one s 0) (sym
+    (field_drop n s 1 0)) in
     let l : field_at n xs 0 < 256 ^ n = field_lt n xs 0 r in
     let h : (x * 256 ^ n + field_at n xs 0) / 256 ^ n % 256 ≡ x = ap (λ (y : ℕ). y % 256) (digits_div x l) ∙ mod-eq_of_lt (b zero) in
     rw f (ap₂ (λ (y : ℕ) (l : List ℕ). y ∷ l) h (shift n x (field_at n xs 0) ∙ reads-spelled n xs r (omega arith)))

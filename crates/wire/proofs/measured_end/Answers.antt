@@ -24,7 +24,8 @@ sized c =
 pub returns-then-n-eq0 : goal.returns-then-n-eq0
 returns-then-n-eq0 c =
     let l = c.loop-left in
-    end-stop (measured c.args.h c.args.at) (framed_kind _ _) c.args.s.now l.i _ (sized (goal.at.returns-then-n-eq0 c).After-measured_size-n) _ _ l.left (omega arith, l.invariant) c.if-n-eq0.true (λ z. omega (arith, z))
+    end-stop (measured c.args.h c.args.at) (framed_kind _ _) c.args.s.now l.i _ (sized (goal.at.returns-then-n-eq0 c).After-measured_size-n) _ _ l.left (omega arith, l.invariant) c.if-n-eq0.true
+    (λ z. omega (arith, z))
 
 pub overflow_add-i : goal.overflow_add-i
 overflow_add-i c =
@@ -39,7 +40,10 @@ loop-left-smaller c = omega arith
 pub loop-left-preserved : goal.loop-left-preserved
 loop-left-preserved c =
     let l = c.loop-left in
-    (end-turn (measured c.args.h c.args.at) (framed_kind _ _) c.args.s.now l.i _ (sized (goal.at.loop-left-preserved c).After-measured_size-n) _ _ l.left (omega arith, l.invariant) c.if-n-eq0.false (λ z. omega (arith, z))).1
+    (end-turn (measured c.args.h c.args.at) (framed_kind _ _) c.args.s.now l.i _ (sized (goal.at.loop-left-preserved c).After-measured_size-n) _ _ l.left (
+      omega arith,
+      l.invariant,
+    ) c.if-n-eq0.false (λ z. omega (arith, z))).1
 
 pub returns : goal.returns
 returns c = end-done (measured _ _) c.args.s.now _ _ c.loop-left.i c.loop-left.left c.loop-left.invariant (omega arith)

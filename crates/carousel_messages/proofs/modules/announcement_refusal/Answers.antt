@@ -21,7 +21,11 @@ framed : (c : Else-not-is_announcement) → announcement_framed (payload c) ≡ 
 framed c = sym c.is_announcement.ensures ∙ c.if-not-is_announcement.false
 
 starts : (c : After-modules_start-start) → c.modules_start-start.result ≤ length (payload (goal.at.After-modules_start-start c).Else-not-is_announcement)
-starts c = let l = framed-starts (payload (goal.at.After-modules_start-start c).Else-not-is_announcement) (framed (goal.at.After-modules_start-start c).Else-not-is_announcement) in omega (arith, l, c.modules_start-start.ensures.0)
+starts c = let l = framed-starts (payload (goal.at.After-modules_start-start c).Else-not-is_announcement) (framed (goal.at.After-modules_start-start c).Else-not-is_announcement) in omega (
+  arith,
+  l,
+  c.modules_start-start.ensures.0,
+)
 
 -- what is read are the announced modules
 are : (c : After-read_modules-ms) → take c.module_count-count.result c.read_modules-ms.result ≡ map listed_of (modules_of (payload (goal.at.After-read_modules-ms c).Else-not-is_announcement))
@@ -42,7 +46,9 @@ returns-then-not-is_announcement c = announcement_open _ c.args.p.now (sym c.is_
 
 pub returns-then-count-gt-MOST_MODULES : goal.returns-then-count-gt-MOST_MODULES
 returns-then-count-gt-MOST_MODULES c =
-    announcement-beyond _ (payload (goal.at.returns-then-count-gt-MOST_MODULES c).Else-not-is_announcement) (framed (goal.at.returns-then-count-gt-MOST_MODULES c).Else-not-is_announcement) (beyond-many (payload (goal.at.returns-then-count-gt-MOST_MODULES c).Else-not-is_announcement) (framed (goal.at.returns-then-count-gt-MOST_MODULES c).Else-not-is_announcement) (omega (arith, c.if-count-gt-MOST_MODULES.true, c.module_count-count.ensures.0)))
+    announcement-beyond _ (payload (goal.at.returns-then-count-gt-MOST_MODULES c).Else-not-is_announcement) (framed (goal.at.returns-then-count-gt-MOST_MODULES c).Else-not-is_announcement)
+    (beyond-many (payload (goal.at.returns-then-count-gt-MOST_MODULES c).Else-not-is_announcement) (framed (goal.at.returns-then-count-gt-MOST_MODULES c).Else-not-is_announcement) (omega
+    (arith, c.if-count-gt-MOST_MODULES.true, c.module_count-count.ensures.0)))
 
 pub slice_bounds-read_modules-count : goal.slice_bounds-read_modules-count
 slice_bounds-read_modules-count c = starts (goal.at.slice_bounds-read_modules-count c).After-modules_start-start
@@ -52,17 +58,23 @@ slice_bounds-read_modules-start c = starts (goal.at.slice_bounds-read_modules-st
 
 pub read_modules-ms-requires : goal.read_modules-ms-requires
 read_modules-ms-requires c =
-    let n = c.module_count-count in
-    (c.if-count-gt-MOST_MODULES.false, rw (tail (payload (goal.at.read_modules-ms-requires c).Else-not-is_announcement) c.modules_start-start.result) (list-long (payload (goal.at.read_modules-ms-requires c).Else-not-is_announcement) (framed (goal.at.read_modules-ms-requires c).Else-not-is_announcement) _ _ c.modules_start-start.ensures.0 n.ensures.0))
+    let n = c.module_count-count in (
+      c.if-count-gt-MOST_MODULES.false,
+      rw (tail (payload (goal.at.read_modules-ms-requires c).Else-not-is_announcement) c.modules_start-start.result) (list-long
+          (payload (goal.at.read_modules-ms-requires c).Else-not-is_announcement) (framed (goal.at.read_modules-ms-requires c).Else-not-is_announcement) _ _ c.modules_start-start.ensures.0 n.ensures.0),
+    )
 
 pub returns-then-is_beyond : goal.returns-then-is_beyond
 returns-then-is_beyond c =
-    announcement-beyond _ (payload (goal.at.returns-then-is_beyond c).Else-not-is_announcement) (framed (goal.at.returns-then-is_beyond c).Else-not-is_announcement) (sym (beyond (goal.at.returns-then-is_beyond c).After-is_beyond) ∙ c.if-is_beyond.true)
+    announcement-beyond _ (payload (goal.at.returns-then-is_beyond c).Else-not-is_announcement) (framed (goal.at.returns-then-is_beyond c).Else-not-is_announcement) (sym
+    (beyond (goal.at.returns-then-is_beyond c).After-is_beyond) ∙ c.if-is_beyond.true)
 
 pub returns-then-has_twice : goal.returns-then-has_twice
 returns-then-has_twice c =
-    announcement-twice _ (payload (goal.at.returns-then-has_twice c).Else-not-is_announcement) (framed (goal.at.returns-then-has_twice c).Else-not-is_announcement) (sym (beyond (goal.at.returns-then-has_twice c).After-is_beyond) ∙ c.if-is_beyond.false) (sym (twice (goal.at.returns-then-has_twice c).After-has_twice) ∙ c.if-has_twice.true)
+    announcement-twice _ (payload (goal.at.returns-then-has_twice c).Else-not-is_announcement) (framed (goal.at.returns-then-has_twice c).Else-not-is_announcement) (sym
+    (beyond (goal.at.returns-then-has_twice c).After-is_beyond) ∙ c.if-is_beyond.false) (sym (twice (goal.at.returns-then-has_twice c).After-has_twice) ∙ c.if-has_twice.true)
 
 pub returns : goal.returns
 returns c =
-    announcement-good _ (payload (goal.at.returns c).Else-not-is_announcement) (framed (goal.at.returns c).Else-not-is_announcement) (sym (beyond (goal.at.returns c).After-is_beyond) ∙ c.if-is_beyond.false) (sym (twice (goal.at.returns c).After-has_twice) ∙ c.if-has_twice.false)
+    announcement-good _ (payload (goal.at.returns c).Else-not-is_announcement) (framed (goal.at.returns c).Else-not-is_announcement) (sym (beyond (goal.at.returns c).After-is_beyond)
+    ∙ c.if-is_beyond.false) (sym (twice (goal.at.returns c).After-has_twice) ∙ c.if-has_twice.false)

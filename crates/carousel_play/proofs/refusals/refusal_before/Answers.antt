@@ -19,7 +19,8 @@ unfolding to_play
 sizes c = c.total.ensures
 
 pub returns-then-length-total : goal.returns-then-length-total
-returns-then-length-total c = let e = sizes (goal.at.returns-then-length-total c).After-total in short-image _ _ _ (no-limit (goal.at.returns-then-length-total c).Else-n-ne0) (omega (arith, c.if-length-total.true))
+returns-then-length-total c = let e = sizes (goal.at.returns-then-length-total c).After-total in short-image _ _ _ (no-limit (goal.at.returns-then-length-total c).Else-n-ne0) (omega
+    (arith, c.if-length-total.true))
 
 pub sections_in-requires : goal.sections_in-requires
 sections_in-requires c = (kept _ (no-limit (goal.at.sections_in-requires c).Else-n-ne0)).0
@@ -30,7 +31,8 @@ enough c = let e = sizes (goal.at.Else-length-total c).After-total in omega (ari
 pub returns-then-sections_in-place : goal.returns-then-sections_in-place
 returns-then-sections_in-place c =
     let f = c.sections_in.ensures in
-    no_place_lem _ _ _ (no-limit (goal.at.returns-then-sections_in-place c).Else-n-ne0) (enough (goal.at.returns-then-sections_in-place c).Else-length-total) (omega (arith, c.if-sections_in-place.true))
+    no_place_lem _ _ _ (no-limit (goal.at.returns-then-sections_in-place c).Else-n-ne0) (enough (goal.at.returns-then-sections_in-place c).Else-length-total) (omega
+    (arith, c.if-sections_in-place.true))
 
 pub returns : goal.returns
 returns c =

@@ -78,7 +78,8 @@ pub overflow_add-size : goal.overflow_add-size
 overflow_add-size c = let e = length-told c in let h = small (goal.at.overflow_add-size c).After-spot_at-spot in omega arith
 
 pub returns-then-out-size : goal.returns-then-out-size
-returns-then-out-size c = let e = length-told (goal.at.returns-then-out-size c).After-lesser-size in let l = long (goal.at.returns-then-out-size c).After-spot_at-spot in no_room _ _ (omega (arith, c.if-out-size.true))
+returns-then-out-size c = let e = length-told (goal.at.returns-then-out-size c).After-lesser-size in let l = long (goal.at.returns-then-out-size c).After-spot_at-spot in no_room _ _ (omega
+    (arith, c.if-out-size.true))
 
 pub overflow_add-from : goal.overflow_add-from
 overflow_add-from c = let h = small (goal.at.overflow_add-from c).After-spot_at-spot in omega arith
@@ -103,7 +104,9 @@ written : (c : After-lesser-last) → let x = m (goal.at.After-lesser-last c).Af
 unfolding to_play
 written c =
     let l = c.lesser-last.ensures ∙ ap (λ (n : ℕ). min 255 (n - 1)) c.blocks_of.ensures.0 in
-    section-is (said (goal.at.After-lesser-last c).After-spot_at-spot) c.requires.1 c.spot_at-spot.result.which (block (goal.at.After-lesser-last c).After-spot_at-spot) (there (goal.at.After-lesser-last c).After-spot_at-spot) c.spot_at-spot.ensures.1 (m (goal.at.After-lesser-last c).After-spot_at-spot) (is-module (goal.at.After-lesser-last c).After-spot_at-spot) 0 c.args.image.now c.args.place
+    section-is (said (goal.at.After-lesser-last c).After-spot_at-spot) c.requires.1 c.spot_at-spot.result.which (block (goal.at.After-lesser-last c).After-spot_at-spot) (there
+    (goal.at.After-lesser-last c).After-spot_at-spot) c.spot_at-spot.ensures.1 (m (goal.at.After-lesser-last c).After-spot_at-spot) (is-module
+    (goal.at.After-lesser-last c).After-spot_at-spot) 0 c.args.image.now c.args.place
     c.spot_at-spot.ensures.2 c.lesser-last.result l (data-cut c) (cut _ _ _ _ _ _ (length-told (goal.at.After-lesser-last c).After-lesser-size) c.spot_at-spot.ensures.3)
 
 pub overflow_sub-blocks_of : goal.overflow_sub-blocks_of

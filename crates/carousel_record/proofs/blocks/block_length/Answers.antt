@@ -25,7 +25,8 @@ sized s = block-sized (bs s) (size s) s.args.block s.requires
 
 pub returns-then-block-blocks_of : goal.returns-then-block-blocks_of
 returns-then-block-blocks_of c =
-    sym (inner_length (bs (goal.at.returns-then-block-blocks_of c).Start) (size (goal.at.returns-then-block-blocks_of c).Start) (sized (goal.at.returns-then-block-blocks_of c).Start) c.args.block (omega (arith, c.blocks_of.ensures.0)))
+    sym (inner_length (bs (goal.at.returns-then-block-blocks_of c).Start) (size (goal.at.returns-then-block-blocks_of c).Start) (sized (goal.at.returns-then-block-blocks_of c).Start) c.args.block
+    (omega (arith, c.blocks_of.ensures.0)))
 
 -- the last block begins before the module ends
 early : (c : Else-block-blocks_of) → c.args.block * bs (goal.at.Else-block-blocks_of c).Start < size (goal.at.Else-block-blocks_of c).Start

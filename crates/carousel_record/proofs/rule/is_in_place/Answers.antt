@@ -44,13 +44,17 @@ unfolding announced_by
 returns-then-not-is_clear_from c =
     let r = c.args.c in
     let l = c.loop-i in
-    sym (place-off r.modules r.count (enough (goal.at.returns-then-not-is_clear_from c).Start) l.i (omega arith) r.block_size r.marks (sym (here-is (goal.at.returns-then-not-is_clear_from c).After-is_clear_from) ∙ c.if-not-is_clear_from.true)) ∙ l.invariant.1
+    sym (place-off r.modules r.count (enough (goal.at.returns-then-not-is_clear_from c).Start) l.i (omega arith) r.block_size r.marks (sym
+    (here-is (goal.at.returns-then-not-is_clear_from c).After-is_clear_from) ∙ c.if-not-is_clear_from.true)) ∙ l.invariant.1
 
 pub loop-i-preserved : goal.loop-i-preserved
 loop-i-preserved c =
     let r = c.args.c in
-    let l = c.loop-i in
-    (omega arith, place_kept r.modules r.count (enough (goal.at.loop-i-preserved c).Start) l.i (omega arith) r.block_size r.marks (sym (here-is (goal.at.loop-i-preserved c).After-is_clear_from) ∙ c.if-not-is_clear_from.false) ∙ l.invariant.1)
+    let l = c.loop-i in (
+      omega arith,
+      place_kept r.modules r.count (enough (goal.at.loop-i-preserved c).Start) l.i (omega arith) r.block_size r.marks (sym (here-is (goal.at.loop-i-preserved c).After-is_clear_from)
+          ∙ c.if-not-is_clear_from.false) ∙ l.invariant.1,
+    )
 
 pub slice_bounds-is_clear_from-count-2 : goal.slice_bounds-is_clear_from-count-2
 slice_bounds-is_clear_from-count-2 c = let e = all_words (goal.at.slice_bounds-is_clear_from-count-2 c).Start in omega (arith, e, c.requires)

@@ -51,7 +51,12 @@ returns-then-not-is_within_limits c = rw (rest-is (goal.at.returns-then-not-is_w
 
 pub returns-then-not-is_running : goal.returns-then-not-is_running
 returns-then-not-is_running c =
-    rw (rest-is (goal.at.returns-then-not-is_running c).Else-not-all_unused, within (goal.at.returns-then-not-is_running c).Else-not-is_within_limits, sym c.is_running.ensures ∙ c.if-not-is_running.true)
+    rw (
+      rest-is (goal.at.returns-then-not-is_running c).Else-not-all_unused,
+      within (goal.at.returns-then-not-is_running c).Else-not-is_within_limits,
+      sym c.is_running.ensures
+          ∙ c.if-not-is_running.true,
+    )
 
 pub returns : goal.returns
 returns c =

@@ -29,7 +29,8 @@ here : (c : After-is_same_module) → let l = c.loop-i in
 here c =
     let l = c.loop-i in
     let e = reading-here c.args.list.now l.i l.at l.invariant.2 _ c.module_at.ensures in
-    rw (add-one l.i) (drop-cons (list (goal.at.After-is_same_module c).Start) l.i none_listed (omega (arith, c.requires.1)) ∙ ap (λ (x : Listed). x ∷ drop (suc l.i) (list (goal.at.After-is_same_module c).Start)) (sym e))
+    rw (add-one l.i) (drop-cons (list (goal.at.After-is_same_module c).Start) l.i none_listed (omega (arith, c.requires.1)) ∙ ap (λ (x : Listed). x ∷ drop (suc l.i)
+    (list (goal.at.After-is_same_module c).Start)) (sym e))
 
 pub loop-i-init : goal.loop-i-init
 loop-i-init c = (omega arith, refl, reading-none c.args.list.now)
@@ -37,7 +38,9 @@ loop-i-init c = (omega arith, refl, reading-none c.args.list.now)
 pub returns-then-not-is_same_module : goal.returns-then-not-is_same_module
 returns-then-not-is_same_module c =
     let l = c.loop-i in
-    sym (same-off (ms (goal.at.returns-then-not-is_same_module c).Start) c.args.n (enough (goal.at.returns-then-not-is_same_module c).Start) l.i (omega arith) _ (list (goal.at.returns-then-not-is_same_module c).Start) (here (goal.at.returns-then-not-is_same_module c).After-is_same_module) (sym c.is_same_module.ensures ∙ c.if-not-is_same_module.true)) ∙ l.invariant.1
+    sym (same-off (ms (goal.at.returns-then-not-is_same_module c).Start) c.args.n (enough (goal.at.returns-then-not-is_same_module c).Start) l.i (omega arith) _ (list
+    (goal.at.returns-then-not-is_same_module c).Start) (here (goal.at.returns-then-not-is_same_module c).After-is_same_module) (sym c.is_same_module.ensures ∙ c.if-not-is_same_module.true))
+    ∙ l.invariant.1
 
 -- the next module
 onward : (c : After-measured_size-at) → let l = c.loop-i in
@@ -53,7 +56,8 @@ pub loop-i-preserved : goal.loop-i-preserved
 loop-i-preserved c =
     let l = c.loop-i in (
       omega arith,
-      same_next (ms (goal.at.loop-i-preserved c).Start) c.args.n (enough (goal.at.loop-i-preserved c).Start) l.i (omega arith) _ (list (goal.at.loop-i-preserved c).Start) (here (goal.at.loop-i-preserved c).After-is_same_module) (sym c.is_same_module.ensures ∙ c.if-not-is_same_module.false) ∙ l.invariant.1,
+      same_next (ms (goal.at.loop-i-preserved c).Start) c.args.n (enough (goal.at.loop-i-preserved c).Start) l.i (omega arith) _ (list (goal.at.loop-i-preserved c).Start) (here
+          (goal.at.loop-i-preserved c).After-is_same_module) (sym c.is_same_module.ensures ∙ c.if-not-is_same_module.false) ∙ l.invariant.1,
       onward c,
     )
 

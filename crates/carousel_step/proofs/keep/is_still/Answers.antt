@@ -30,8 +30,19 @@ returns-then-m-k-2 c =
 
 pub returns-then-m-k-3 : goal.returns-then-m-k-3
 returns-then-m-k-3 c =
-    rw (lt-ltb _ _ (there (goal.at.returns-then-m-k-3 c).Else-n-i), eq-eqb _ _ (numbers (goal.at.returns-then-m-k-3 c).Else-m-k), eq-eqb _ _ (versions (goal.at.returns-then-m-k-3 c).Else-m-k-2), ne_eqb _ _ c.if-m-k-3.true) refl
+    rw (
+      lt-ltb _ _ (there (goal.at.returns-then-m-k-3 c).Else-n-i),
+      eq-eqb _ _ (numbers (goal.at.returns-then-m-k-3 c).Else-m-k),
+      eq-eqb _ _ (versions (goal.at.returns-then-m-k-3 c).Else-m-k-2),
+      ne_eqb _ _ c.if-m-k-3.true,
+    ) refl
 
 pub returns : goal.returns
 returns c =
-    rw (lt-ltb _ _ (there (goal.at.returns c).Else-n-i), eq-eqb _ _ (numbers (goal.at.returns c).Else-m-k), eq-eqb _ _ (versions (goal.at.returns c).Else-m-k-2), eq-eqb _ _ (sizes (goal.at.returns c).Else-m-k-3)) refl
+    rw (
+      lt-ltb _ _ (there (goal.at.returns c).Else-n-i),
+      eq-eqb _ _ (numbers (goal.at.returns c).Else-m-k),
+      eq-eqb _ _ (versions (goal.at.returns c).Else-m-k-2),
+      eq-eqb _ _ (sizes
+          (goal.at.returns c).Else-m-k-3),
+    ) refl

@@ -62,7 +62,8 @@ within c t =
 long : (c : At-loop-j) → length c.loop-j.marks ≡ mark_words
 long c =
     let l = c.loop-j in
-    ap length l.invariant.1 ∙ so_far_length (record_of c.args.c) (all_words (goal.at.At-loop-j c).Start) (few-before (goal.at.At-loop-j c).Start) (record_of c.args.next) l.j (omega (arith, c.requires.1))
+    ap length l.invariant.1 ∙ so_far_length (record_of c.args.c) (all_words (goal.at.At-loop-j c).Start) (few-before (goal.at.At-loop-j c).Start) (record_of c.args.next) l.j (omega
+    (arith, c.requires.1))
 
 pub returns-then-c-next : goal.returns-then-c-next
 unfolding announced_by
@@ -116,8 +117,10 @@ loop-j-preserved c =
       elim c.if-is_still.branch [
         | then-is_still w ↦
             kept_next (record_of c.args.c) (all_words (goal.at.loop-j-preserved c).Start) (few-before (goal.at.loop-j-preserved c).Start) (record_of c.args.next) l.j (omega (arith, c.requires.1))
-            l.marks _ c.place_in-i.result l.invariant.1 (was (goal.at.loop-j-preserved c).After-place_in-i) (sym (same (goal.at.loop-j-preserved c).After-is_still) ∙ w.if-is_still.true) (w.marks-is ∙ w.put_words.ensures)
-        | else-is_still w ↦ left-next (record_of c.args.c) (all_words (goal.at.loop-j-preserved c).Start) (few-before (goal.at.loop-j-preserved c).Start) (record_of c.args.next) l.j (omega (arith, c.requires.1))
+            l.marks _ c.place_in-i.result l.invariant.1 (was (goal.at.loop-j-preserved c).After-place_in-i) (sym (same (goal.at.loop-j-preserved c).After-is_still) ∙ w.if-is_still.true)
+            (w.marks-is ∙ w.put_words.ensures)
+        | else-is_still w ↦ left-next (record_of c.args.c) (all_words (goal.at.loop-j-preserved c).Start) (few-before (goal.at.loop-j-preserved c).Start) (record_of c.args.next) l.j (omega
+            (arith, c.requires.1))
             l.marks _ c.place_in-i.result l.invariant.1 (was (goal.at.loop-j-preserved c).After-place_in-i) (sym (same (goal.at.loop-j-preserved c).After-is_still) ∙ w.if-is_still.false) w.marks-is
       ],
     )

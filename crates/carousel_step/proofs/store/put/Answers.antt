@@ -39,14 +39,16 @@ pub returns-then-is_equal : goal.returns-then-is_equal
 returns-then-is_equal c =
     let a = c.args in
     let k = sym c.is_marked.ensures ∙ c.if-is_marked.true in
-    let o = put_same a.k a.at a.marks.now a.image.now a.bytes.now (room (goal.at.returns-then-is_equal c).Else-image-at-2) k (compared (goal.at.returns-then-is_equal c).Else-image-at-2 true (sym c.is_equal.ensures ∙ c.if-is_equal.true)) in
+    let o = put_same a.k a.at a.marks.now a.image.now a.bytes.now (room (goal.at.returns-then-is_equal c).Else-image-at-2) k (compared (goal.at.returns-then-is_equal c).Else-image-at-2 true
+    (sym c.is_equal.ensures ∙ c.if-is_equal.true)) in
     rw o (refl, refl, refl)
 
 pub returns-then-is_marked : goal.returns-then-is_marked
 returns-then-is_marked c =
     let a = c.args in
     let k = sym c.is_marked.ensures ∙ c.if-is_marked.true in
-    let o = put_other a.k a.at a.marks.now a.image.now a.bytes.now (room (goal.at.returns-then-is_marked c).Else-image-at-2) k (compared (goal.at.returns-then-is_marked c).Else-image-at-2 false (sym c.is_equal.ensures ∙ c.if-is_equal.false)) in
+    let o = put_other a.k a.at a.marks.now a.image.now a.bytes.now (room (goal.at.returns-then-is_marked c).Else-image-at-2) k (compared (goal.at.returns-then-is_marked c).Else-image-at-2 false
+    (sym c.is_equal.ensures ∙ c.if-is_equal.false)) in
     rw o (c.refuse-then-is_marked.ensures, refl, refl)
 
 pub returns : goal.returns

@@ -31,7 +31,8 @@ matches : (c : Else-not-is_block) → held_refusal c.args.h c.args.place c.args.
 unfolding arrived_in
 matches c =
     let a = c.args in
-    is-matching a.h a.place a.m (length a.image.now) (d (goal.at.Else-not-is_block c).Start) c.if-n-eq0.false (its (goal.at.Else-not-is_block c).Else-h-b) c.if-n-place.false (same (goal.at.Else-not-is_block c).Else-m-b) c.if-image-h.false
+    is-matching a.h a.place a.m (length a.image.now) (d (goal.at.Else-not-is_block c).Start) c.if-n-eq0.false (its (goal.at.Else-not-is_block c).Else-h-b) c.if-n-place.false (same
+    (goal.at.Else-not-is_block c).Else-m-b) c.if-image-h.false
     (sym c.is_block.ensures ∙ c.if-not-is_block.false)
 
 -- a refusal, with nothing changed
@@ -54,32 +55,37 @@ pub returns-then-h-b : goal.returns-then-h-b
 unfolding arrived_in
 returns-then-h-b c =
     let a = c.args in
-    refuses (goal.at.returns-then-h-b c).Start 11 _ c.refuse-then-h-b.ensures (is-12 a.h a.place a.m (length a.image.now) (d (goal.at.returns-then-h-b c).Start) c.if-n-eq0.false (λ z. omega (arith, z, c.if-h-b.true)))
+    refuses (goal.at.returns-then-h-b c).Start 11 _ c.refuse-then-h-b.ensures (is-12 a.h a.place a.m (length a.image.now) (d (goal.at.returns-then-h-b c).Start) c.if-n-eq0.false (λ z. omega
+    (arith, z, c.if-h-b.true)))
 
 pub returns-then-n-place : goal.returns-then-n-place
 returns-then-n-place c =
     let a = c.args in
-    refuses (goal.at.returns-then-n-place c).Start 12 _ c.refuse-then-n-place.ensures (is-13 a.h a.place a.m (length a.image.now) (d (goal.at.returns-then-n-place c).Start) c.if-n-eq0.false (its (goal.at.returns-then-n-place c).Else-h-b) c.if-n-place.true)
+    refuses (goal.at.returns-then-n-place c).Start 12 _ c.refuse-then-n-place.ensures (is-13 a.h a.place a.m (length a.image.now) (d (goal.at.returns-then-n-place c).Start) c.if-n-eq0.false (its
+    (goal.at.returns-then-n-place c).Else-h-b) c.if-n-place.true)
 
 pub returns-then-m-b : goal.returns-then-m-b
 unfolding arrived_in
 returns-then-m-b c =
     let a = c.args in
     refuses (goal.at.returns-then-m-b c).Start 13 _ c.refuse-then-m-b.ensures
-    (is-14 a.h a.place a.m (length a.image.now) (d (goal.at.returns-then-m-b c).Start) c.if-n-eq0.false (its (goal.at.returns-then-m-b c).Else-h-b) c.if-n-place.false (λ z. omega (arith, z, c.if-m-b.true)))
+    (is-14 a.h a.place a.m (length a.image.now) (d (goal.at.returns-then-m-b c).Start) c.if-n-eq0.false (its (goal.at.returns-then-m-b c).Else-h-b) c.if-n-place.false (λ z. omega
+    (arith, z, c.if-m-b.true)))
 
 pub returns-then-image-h : goal.returns-then-image-h
 returns-then-image-h c =
     let a = c.args in
     refuses (goal.at.returns-then-image-h c).Start 14 _ c.refuse-then-image-h.ensures
-    (is-15 a.h a.place a.m (length a.image.now) (d (goal.at.returns-then-image-h c).Start) c.if-n-eq0.false (its (goal.at.returns-then-image-h c).Else-h-b) c.if-n-place.false (same (goal.at.returns-then-image-h c).Else-m-b) c.if-image-h.true)
+    (is-15 a.h a.place a.m (length a.image.now) (d (goal.at.returns-then-image-h c).Start) c.if-n-eq0.false (its (goal.at.returns-then-image-h c).Else-h-b) c.if-n-place.false (same
+    (goal.at.returns-then-image-h c).Else-m-b) c.if-image-h.true)
 
 pub returns-then-not-is_block : goal.returns-then-not-is_block
 unfolding arrived_in
 returns-then-not-is_block c =
     let a = c.args in
     refuses (goal.at.returns-then-not-is_block c).Start 15 _ c.refuse-then-not-is_block.ensures
-    (is-16 a.h a.place a.m (length a.image.now) (d (goal.at.returns-then-not-is_block c).Start) c.if-n-eq0.false (its (goal.at.returns-then-not-is_block c).Else-h-b) c.if-n-place.false (same (goal.at.returns-then-not-is_block c).Else-m-b) c.if-image-h.false
+    (is-16 a.h a.place a.m (length a.image.now) (d (goal.at.returns-then-not-is_block c).Start) c.if-n-eq0.false (its (goal.at.returns-then-not-is_block c).Else-h-b) c.if-n-place.false (same
+    (goal.at.returns-then-not-is_block c).Else-m-b) c.if-image-h.false
     (sym c.is_block.ensures ∙ c.if-not-is_block.true))
 
 -- its distance from its module's start: both factors are of 16 bits

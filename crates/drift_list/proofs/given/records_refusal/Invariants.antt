@@ -7,7 +7,8 @@ use Rattle.drift_list.proofs.given.records_refusal.Given as goal
 
 abbrev pub invariant-loop-k : goal.invariant-loop-k
 invariant-loop-k l =
-    (l.k ≤ l.count) × (l.c ≡ l.count) × (l.last ≡ buoy_before (fix_given l.numbers) l.k) × (first_fault (l.count - l.k) l.k (refusal_at (fix_given l.numbers) (λ k. 0)) ≡ first_fault l.count 0 (refusal_at (fix_given l.numbers) (λ k. 0)))
+    (l.k ≤ l.count) × (l.c ≡ l.count) × (l.last ≡ buoy_before (fix_given l.numbers) l.k) × (first_fault (l.count - l.k) l.k (refusal_at (fix_given l.numbers) (λ k. 0)) ≡ first_fault l.count 0
+    (refusal_at (fix_given l.numbers) (λ k. 0)))
 
 abbrev pub decreases-loop-k : goal.decreases-loop-k
 decreases-loop-k l = l.count - l.k

@@ -6,7 +6,8 @@ use lib.Signed.{mag}
 use Rattle.drift_list.specs.Writing.{cell, outside}
 use Rattle.drift_list.proofs.Laws.Cells.{kept, wide-1, wide-2, wide-3, wide-4, wide-5}
 use Rattle.drift_list.proofs.given.wide.Goals as goal
-use Rattle.drift_list.proofs.given.wide.Goals.{After-is_outside, After-is_outside-2, After-magnitude, After-magnitude-2, Else-is_outside, Else-is_outside-2, Else-magnitude-ge134217728, Else-magnitude-ge67108864}
+use Rattle.drift_list.proofs.given.wide.Goals.{After-is_outside, After-is_outside-2, After-magnitude, After-magnitude-2, Else-is_outside, Else-is_outside-2, Else-magnitude-ge134217728}
+use Rattle.drift_list.proofs.given.wide.Goals.{Else-magnitude-ge67108864}
 
 -- what each number is known to be
 t1 : (c : After-is_outside) → c.is_outside.result ≡ outside (2 ^ 20) (cell c.args.numbers.now 0)
@@ -40,12 +41,16 @@ pub returns-then-is_outside-2 : goal.returns-then-is_outside-2
 returns-then-is_outside-2 c = wide-2 _ (n1 (goal.at.returns-then-is_outside-2 c).Else-is_outside) (sym (t2 (goal.at.returns-then-is_outside-2 c).After-is_outside-2) ∙ c.if-is_outside-2.true)
 
 pub returns-then-magnitude-ge134217728 : goal.returns-then-magnitude-ge134217728
-returns-then-magnitude-ge134217728 c = wide-3 _ (n1 (goal.at.returns-then-magnitude-ge134217728 c).Else-is_outside) (n2 (goal.at.returns-then-magnitude-ge134217728 c).Else-is_outside-2) (subst (λ (n : ℕ). 2 ^ 27 ≤ n) (t3 (goal.at.returns-then-magnitude-ge134217728 c).After-magnitude) c.if-magnitude-ge134217728.true)
+returns-then-magnitude-ge134217728 c = wide-3 _ (n1 (goal.at.returns-then-magnitude-ge134217728 c).Else-is_outside) (n2 (goal.at.returns-then-magnitude-ge134217728 c).Else-is_outside-2) (subst
+    (λ (n : ℕ). 2 ^ 27 ≤ n) (t3 (goal.at.returns-then-magnitude-ge134217728 c).After-magnitude) c.if-magnitude-ge134217728.true)
 
 pub returns-then-magnitude-ge67108864 : goal.returns-then-magnitude-ge67108864
 returns-then-magnitude-ge67108864 c =
-    wide-4 _ (n1 (goal.at.returns-then-magnitude-ge67108864 c).Else-is_outside) (n2 (goal.at.returns-then-magnitude-ge67108864 c).Else-is_outside-2) (n3 (goal.at.returns-then-magnitude-ge67108864 c).Else-magnitude-ge134217728) (subst (λ (n : ℕ). 2 ^ 26 ≤ n) (t4 (goal.at.returns-then-magnitude-ge67108864 c).After-magnitude-2) c.if-magnitude-ge67108864.true)
+    wide-4 _ (n1 (goal.at.returns-then-magnitude-ge67108864 c).Else-is_outside) (n2 (goal.at.returns-then-magnitude-ge67108864 c).Else-is_outside-2) (n3
+    (goal.at.returns-then-magnitude-ge67108864 c).Else-magnitude-ge134217728) (subst (λ (n : ℕ). 2 ^ 26 ≤ n) (t4
+    (goal.at.returns-then-magnitude-ge67108864 c).After-magnitude-2) c.if-magnitude-ge67108864.true)
 
 pub returns : goal.returns
 returns c =
-    c.is_outside-3.ensures ∙ ap (outside (2 ^ 14)) (kept _ _ c.cell_at-5.ensures) ∙ wide-5 _ (n1 (goal.at.returns c).Else-is_outside) (n2 (goal.at.returns c).Else-is_outside-2) (n3 (goal.at.returns c).Else-magnitude-ge134217728) (n4 (goal.at.returns c).Else-magnitude-ge67108864)
+    c.is_outside-3.ensures ∙ ap (outside (2 ^ 14)) (kept _ _ c.cell_at-5.ensures) ∙ wide-5 _ (n1 (goal.at.returns c).Else-is_outside) (n2 (goal.at.returns c).Else-is_outside-2) (n3
+    (goal.at.returns c).Else-magnitude-ge134217728) (n4 (goal.at.returns c).Else-magnitude-ge67108864)

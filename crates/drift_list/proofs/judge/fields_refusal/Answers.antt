@@ -55,8 +55,10 @@ returns-then-spare-gt0 c =
 
 pub returns-then-state_fault : goal.returns-then-state_fault
 returns-then-state_fault c =
-    is35 _ _ _ (x-in (goal.at.returns-then-state_fault c).Else-not-within) (y-in (goal.at.returns-then-state_fault c).Else-not-within-2) (omega arith) c.if-f-before.false c.if-spare-gt0.false (sym (state-tested (goal.at.returns-then-state_fault c).After-state_fault) ∙ c.if-state_fault.true)
+    is35 _ _ _ (x-in (goal.at.returns-then-state_fault c).Else-not-within) (y-in (goal.at.returns-then-state_fault c).Else-not-within-2) (omega arith) c.if-f-before.false c.if-spare-gt0.false (sym
+    (state-tested (goal.at.returns-then-state_fault c).After-state_fault) ∙ c.if-state_fault.true)
 
 pub returns : goal.returns
 returns c =
-    is0 _ _ _ (x-in (goal.at.returns c).Else-not-within) (y-in (goal.at.returns c).Else-not-within-2) (omega arith) c.if-f-before.false c.if-spare-gt0.false (sym (state-tested (goal.at.returns c).After-state_fault) ∙ c.if-state_fault.false)
+    is0 _ _ _ (x-in (goal.at.returns c).Else-not-within) (y-in (goal.at.returns c).Else-not-within-2) (omega arith) c.if-f-before.false c.if-spare-gt0.false (sym
+    (state-tested (goal.at.returns c).After-state_fault) ∙ c.if-state_fault.false)

@@ -8,7 +8,8 @@ use Rattle.drift_list.proofs.Exact.{refused_at}
 use Rattle.drift_list.proofs.judge.list_refusal.Given as goal
 
 abbrev pub invariant-loop-k : goal.invariant-loop-k
-invariant-loop-k l = (l.k ≤ l.count) × (l.count ≡ count_of l.s) × (length l.s ≡ 4 + 12 * l.count) × (l.last ≡ buoy_before (fix_at l.s) l.k) × (first_fault (l.count - l.k) l.k (refused_at l.s) ≡ read_refusal l.s)
+invariant-loop-k l = (l.k ≤ l.count) × (l.count ≡ count_of l.s) × (length l.s ≡ 4 + 12 * l.count) × (l.last ≡ buoy_before (fix_at l.s) l.k) × (first_fault (l.count - l.k) l.k
+    (refused_at l.s) ≡ read_refusal l.s)
 
 abbrev pub decreases-loop-k : goal.decreases-loop-k
 decreases-loop-k l = l.count - l.k

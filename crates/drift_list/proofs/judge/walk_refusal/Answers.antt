@@ -27,7 +27,8 @@ pub returns-then-s-count : goal.returns-then-s-count
 returns-then-s-count c = sym (walk-30 _ _ (λ e. c.if-s-count.true (e ∙ ap (λ (n : ℕ). 4 + 12 * n) (sym (counted (goal.at.returns-then-s-count c).After-sixteen_at-count)))))
 
 pub returns-then-count-k : goal.returns-then-count-k
-returns-then-count-k c = sym (walk-19 _ _ (exact (goal.at.returns-then-count-k c).Else-s-count) (subst (λ (m : ℕ). m ≤ c.args.k) (counted (goal.at.returns-then-count-k c).After-sixteen_at-count) c.if-count-k.true))
+returns-then-count-k c = sym (walk-19 _ _ (exact (goal.at.returns-then-count-k c).Else-s-count) (subst (λ (m : ℕ). m ≤ c.args.k)
+    (counted (goal.at.returns-then-count-k c).After-sixteen_at-count) c.if-count-k.true))
 
 pub buoy_before-before-requires : goal.buoy_before-before-requires
 buoy_before-before-requires c = within (goal.at.buoy_before-before-requires c).Else-count-k

@@ -42,5 +42,6 @@ pub returns : goal.returns
 returns c =
     let t = together (goal.at.returns c).Start in
     let n = said (goal.at.returns c).After-byte_of_both-3 in
-    let w = whole_is (parts (goal.at.returns c).Start) (three (goal.at.returns c).Else-there-lt3) (λ f. c.if-byte_of_both.false (c.byte_of_both.ensures.0 ∙ f)) (omega (arith, t, n, c.if-there-n.false)) in
+    let w = whole_is (parts (goal.at.returns c).Start) (three (goal.at.returns c).Else-there-lt3) (λ f. c.if-byte_of_both.false (c.byte_of_both.ensures.0 ∙ f)) (omega
+    (arith, t, n, c.if-there-n.false)) in
     (n ∙ sym w, c.if-there-n.false)

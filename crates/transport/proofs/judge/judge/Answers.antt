@@ -30,7 +30,8 @@ returns-then-last-packets c =
 
 pub returns-then-state-eq0 : goal.returns-then-state-eq0
 returns-then-state-eq0 c =
-    judged-first c.args.pid c.args.packets.now c.args.last c.args.state.now c.args.p.now (not-refused (goal.at.returns-then-state-eq0 c).Else-n-ne0) (omega (arith, c.if-last-packets.false)) c.if-state-eq0.true
+    judged-first c.args.pid c.args.packets.now c.args.last c.args.state.now c.args.p.now (not-refused (goal.at.returns-then-state-eq0 c).Else-n-ne0) (omega
+    (arith, c.if-last-packets.false)) c.if-state-eq0.true
 
 pub slice_bounds-judge_after-end-2 : goal.slice_bounds-judge_after-end-2
 slice_bounds-judge_after-end-2 c = sym (length-take-le packet_length c.args.state.now (omega (arith, c.requires.0)))

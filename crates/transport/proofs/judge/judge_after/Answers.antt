@@ -17,7 +17,8 @@ by-step s = cond (eqb (counter_of s.args.p.now) ((counter_of s.args.last.now + w
 
 pub returns-then-is_repeat : goal.returns-then-is_repeat
 returns-then-is_repeat c =
-    sym (after-some c.args.p.now c.args.last.now c.requires ∙ ap (λ (t : Bool). cond t answer.Repeated (by-step (goal.at.returns-then-is_repeat c).Start)) (sym c.is_repeat.ensures ∙ c.if-is_repeat.true))
+    sym (after-some c.args.p.now c.args.last.now c.requires ∙ ap (λ (t : Bool). cond t answer.Repeated (by-step (goal.at.returns-then-is_repeat c).Start)) (sym c.is_repeat.ensures
+    ∙ c.if-is_repeat.true))
 
 -- no repeat, and in step or not
 told : (c : After-is_in_step) → (t : Bool) → c.is_in_step.result ≡ t → cond t answer.Taken answer.Broken ≡ judged_after c.args.last.now c.args.p.now

@@ -36,7 +36,8 @@ returns-then-is_bare c = sym (faulty-empty (packet ((goal.at.returns-then-is_bar
 
 pub returns-then-p-at : goal.returns-then-p-at
 returns-then-p-at c =
-    sym (faulty-field (packet (goal.at.returns-then-p-at c).Start) (not-error (goal.at.returns-then-p-at c).Else-p-eq1) (not-scrambled (goal.at.returns-then-p-at c).Else-p-ne0) (not-bare (goal.at.returns-then-p-at c).Else-is_bare) c.requires
+    sym (faulty-field (packet (goal.at.returns-then-p-at c).Start) (not-error (goal.at.returns-then-p-at c).Else-p-eq1) (not-scrambled (goal.at.returns-then-p-at c).Else-p-ne0) (not-bare
+    (goal.at.returns-then-p-at c).Else-is_bare) c.requires
     (omega (arith, c.if-p-at.true, c.payload_at-at.ensures)))
 
 -- past the fourth, the pointer decides
@@ -47,7 +48,8 @@ pub returns-then-not-is_start : goal.returns-then-not-is_start
 returns-then-not-is_start c =
     let n = sym c.is_start.ensures ∙ c.if-not-is_start.true in
     sym
-    (faulty-pointer (packet (goal.at.returns-then-not-is_start c).Start) (not-error (goal.at.returns-then-not-is_start c).Else-p-eq1) (not-scrambled (goal.at.returns-then-not-is_start c).Else-p-ne0) (not-bare (goal.at.returns-then-not-is_start c).Else-is_bare) c.requires (inside (goal.at.returns-then-not-is_start c).Else-p-at)
+    (faulty-pointer (packet (goal.at.returns-then-not-is_start c).Start) (not-error (goal.at.returns-then-not-is_start c).Else-p-eq1) (not-scrambled
+    (goal.at.returns-then-not-is_start c).Else-p-ne0) (not-bare (goal.at.returns-then-not-is_start c).Else-is_bare) c.requires (inside (goal.at.returns-then-not-is_start c).Else-p-at)
     ∙ ap (λ (t : Bool). t && leb (length (payload_in (packet (goal.at.returns-then-not-is_start c).Start))) (byte_at (payload_in (packet (goal.at.returns-then-not-is_start c).Start)) 0)) n)
 
 pub returns : goal.returns
@@ -57,5 +59,6 @@ returns c =
     c.is_pointer_past.ensures
     ∙ ap (λ (l : List ℕ). leb (length l) (byte_at l 0)) part
     ∙ sym
-    (faulty-pointer (packet (goal.at.returns c).Start) (not-error (goal.at.returns c).Else-p-eq1) (not-scrambled (goal.at.returns c).Else-p-ne0) (not-bare (goal.at.returns c).Else-is_bare) c.requires (inside (goal.at.returns c).Else-p-at)
+    (faulty-pointer (packet (goal.at.returns c).Start) (not-error (goal.at.returns c).Else-p-eq1) (not-scrambled (goal.at.returns c).Else-p-ne0) (not-bare
+    (goal.at.returns c).Else-is_bare) c.requires (inside (goal.at.returns c).Else-p-at)
     ∙ ap (λ (t : Bool). t && leb (length (payload_in (packet (goal.at.returns c).Start))) (byte_at (payload_in (packet (goal.at.returns c).Start)) 0)) n)

@@ -25,7 +25,8 @@ returns-then-not-has_payload c =
 pub returns-then-not-is_start : goal.returns-then-not-is_start
 returns-then-not-is_start c =
     let n = sym c.is_start.ensures ∙ c.if-not-is_start.true in
-    let l = subst (λ (k : ℕ). Lies (packet (goal.at.returns-then-not-is_start c).Start) true false k (length (packet (goal.at.returns-then-not-is_start c).Start))) (sym c.payload_at-at.ensures) (lies-on (packet (goal.at.returns-then-not-is_start c).Start) c.requires.0 c.requires.1 (paid (goal.at.returns-then-not-is_start c).Else-not-has_payload) n) in
+    let l = subst (λ (k : ℕ). Lies (packet (goal.at.returns-then-not-is_start c).Start) true false k (length (packet (goal.at.returns-then-not-is_start c).Start))) (sym c.payload_at-at.ensures)
+    (lies-on (packet (goal.at.returns-then-not-is_start c).Start) c.requires.0 c.requires.1 (paid (goal.at.returns-then-not-is_start c).Else-not-has_payload) n) in
     (l.has, l.begins-one, l.order, l.inside, l.before-is, l.after_is)
 
 -- the payload lies in the packet

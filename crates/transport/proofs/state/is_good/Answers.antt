@@ -38,11 +38,13 @@ slice_bounds-packet_refusal-end c = sym (length-take-le packet_length (bytes ((g
 
 pub returns-then-packet_refusal-ne0 : goal.returns-then-packet_refusal-ne0
 returns-then-packet_refusal-ne0 c =
-    sym (good-refused c.args.pid (bytes (goal.at.returns-then-packet_refusal-ne0 c).Start) (omega arith) (not_zero (goal.at.returns-then-packet_refusal-ne0 c).Else-state-eq0) (λ z. c.if-packet_refusal-ne0.true (c.packet_refusal.ensures.0 ∙ z)))
+    sym (good-refused c.args.pid (bytes (goal.at.returns-then-packet_refusal-ne0 c).Start) (omega arith) (not_zero (goal.at.returns-then-packet_refusal-ne0 c).Else-state-eq0)
+    (λ z. c.if-packet_refusal-ne0.true (c.packet_refusal.ensures.0 ∙ z)))
 
 pub returns-then-held-gt-MOST_IN_HAND : goal.returns-then-held-gt-MOST_IN_HAND
 returns-then-held-gt-MOST_IN_HAND c =
-    sym (good-over c.args.pid (bytes (goal.at.returns-then-held-gt-MOST_IN_HAND c).Start) (omega arith) (not_zero (goal.at.returns-then-held-gt-MOST_IN_HAND c).Else-state-eq0) (sound (goal.at.returns-then-held-gt-MOST_IN_HAND c).Else-packet_refusal-ne0) (omega (arith, c.held_in-held.ensures.0, c.if-held-gt-MOST_IN_HAND.true)))
+    sym (good-over c.args.pid (bytes (goal.at.returns-then-held-gt-MOST_IN_HAND c).Start) (omega arith) (not_zero (goal.at.returns-then-held-gt-MOST_IN_HAND c).Else-state-eq0) (sound
+    (goal.at.returns-then-held-gt-MOST_IN_HAND c).Else-packet_refusal-ne0) (omega (arith, c.held_in-held.ensures.0, c.if-held-gt-MOST_IN_HAND.true)))
 
 pub returns : goal.returns
 returns c =
@@ -50,4 +52,5 @@ returns c =
     let n : hand_at + c.held_in-held.result - hand_at ≡ held_in (bytes (goal.at.returns c).Start) = omega (arith, h) in
     c.is_head.ensures
     ∙ ap (λ (k : ℕ). is_head (take k (drop hand_at (bytes (goal.at.returns c).Start)))) n
-    ∙ sym (good-head c.args.pid (bytes (goal.at.returns c).Start) (omega arith) (not_zero (goal.at.returns c).Else-state-eq0) (sound (goal.at.returns c).Else-packet_refusal-ne0) (omega (arith, h, c.if-held-gt-MOST_IN_HAND.false)))
+    ∙ sym (good-head c.args.pid (bytes (goal.at.returns c).Start) (omega arith) (not_zero (goal.at.returns c).Else-state-eq0) (sound (goal.at.returns c).Else-packet_refusal-ne0) (omega
+    (arith, h, c.if-held-gt-MOST_IN_HAND.false)))

@@ -84,7 +84,8 @@ ended c z r e =
 pub returns-then-out-size-lt-LEAST_ROOM : goal.returns-then-out-size-lt-LEAST_ROOM
 returns-then-out-size-lt-LEAST_ROOM c =
     let g = going (goal.at.returns-then-out-size-lt-LEAST_ROOM c).At-loop-passed in
-    ended (goal.at.returns-then-out-size-lt-LEAST_ROOM c).At-loop-passed (stops_full c.args.pid c.args.state.now c.args.out.now c.args.packets.now _ _ _ _ _ g (omega (arith, c.if-out-size-lt-LEAST_ROOM.true, g.as_long))) _ c.at_end.ensures
+    ended (goal.at.returns-then-out-size-lt-LEAST_ROOM c).At-loop-passed (stops_full c.args.pid c.args.state.now c.args.out.now c.args.packets.now _ _ _ _ _ g (omega
+    (arith, c.if-out-size-lt-LEAST_ROOM.true, g.as_long))) _ c.at_end.ensures
 
 pub overflow_sub-packets : goal.overflow_sub-packets
 overflow_sub-packets c = (going (goal.at.overflow_sub-packets c).At-loop-passed).inside
@@ -120,7 +121,8 @@ stepped k =
     let o = k.loop-passed.out in
     let r = k.take_packet-step.result in
     subst
-    (λ (p : List ℕ). Stepped k.args.pid (meant (goal.at.After-take_packet-step k).At-loop-passed) k.loop-passed.state k.loop-passed.held p (take (length o - k.loop-passed.size) (drop k.loop-passed.size o))
+    (λ (p : List ℕ). Stepped k.args.pid (meant (goal.at.After-take_packet-step k).At-loop-passed) k.loop-passed.state k.loop-passed.held p (take (length o - k.loop-passed.size)
+    (drop k.loop-passed.size o))
     r.answer r.size r.held k.take_packet-step.new.state k.take_packet-step.new.out)
     (same-piece k.args.packets.now k.loop-passed.passed k.lesser.result k.loop-passed-test.true k.lesser.ensures)
     k.take_packet-step.ensures
@@ -151,7 +153,8 @@ loop-passed-preserved c =
     let w = stepped (goal.at.loop-passed-preserved c).After-take_packet-step in
     let s' = c.take_packet-step.new.state in
     let h = c.take_packet-step.result.held in
-    let x = subst (λ (at : ℕ). (midway c.args.packets.now at h s' ≡ next_state c.args.pid (meant (goal.at.loop-passed-preserved c).At-loop-passed) (take packet_length (drop c.loop-passed.passed c.args.packets.now)))
+    let x = subst (λ (at : ℕ). (midway c.args.packets.now at h s' ≡ next_state c.args.pid (meant (goal.at.loop-passed-preserved c).At-loop-passed) (take packet_length
+    (drop c.loop-passed.passed c.args.packets.now)))
     × Midway c.args.pid c.args.packets.now at h s')
     (sym c.last_after-last.ensures)
     (midway-next c.args.pid c.args.packets.now c.loop-passed.last c.loop-passed.held c.loop-passed.state c.loop-passed.invariant.2 c.loop-passed.passed _ _ _ _ _ _ t w) in
@@ -168,4 +171,5 @@ loop-passed-preserved c =
 
 pub returns : goal.returns
 returns c =
-    ended (goal.at.returns c).At-loop-passed (stops_end c.args.pid c.args.state.now c.args.out.now c.args.packets.now _ _ _ _ _ (going (goal.at.returns c).At-loop-passed) (omega arith)) _ c.at_end-2.ensures
+    ended (goal.at.returns c).At-loop-passed (stops_end c.args.pid c.args.state.now c.args.out.now c.args.packets.now _ _ _ _ _ (going (goal.at.returns c).At-loop-passed)
+    (omega arith)) _ c.at_end-2.ensures

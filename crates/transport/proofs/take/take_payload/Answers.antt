@@ -37,7 +37,8 @@ held s = let e = held-there s in omega (arith, e, s.requires.2)
 
 -- what the section in hand came to
 given : (c : After-hand_on-n) →
-    (c.hand_on-n.result ≡ length (joined (ended (hand (goal.at.After-hand_on-n c).Start) (view (goal.at.After-hand_on-n c).Start).before))) × (c.hand_on-n.new.out ≡ laid_first (joined (ended (hand (goal.at.After-hand_on-n c).Start) (view (goal.at.After-hand_on-n c).Start).before)) c.args.out.now)
+    (c.hand_on-n.result ≡ length (joined (ended (hand (goal.at.After-hand_on-n c).Start) (view (goal.at.After-hand_on-n c).Start).before))) × (c.hand_on-n.new.out ≡ laid_first
+    (joined (ended (hand (goal.at.After-hand_on-n c).Start) (view (goal.at.After-hand_on-n c).Start).before)) c.args.out.now)
 given c = given_as _ _ _ _ _ _ _ (same_part c.args.state.now 190 c.args.held) c.parts_of-v.ensures.4 c.hand_on-n.ensures
 
 -- it has room
@@ -47,7 +48,15 @@ brings s = brings-most s.args.p.now s.requires.0
 few : (c : After-hand_on-n) → c.hand_on-n.result + length (view ((goal.at.After-hand_on-n c).Start)).after ≤ length c.args.out.now
 few c =
     let g = (given c).0 in
-    omega (arith, g, ended-most (hand (goal.at.After-hand_on-n c).Start) (view (goal.at.After-hand_on-n c).Start).before, held (goal.at.After-hand_on-n c).Start, brings (goal.at.After-hand_on-n c).Start, c.requires.5)
+    omega (
+      arith,
+      g,
+      ended-most (hand (goal.at.After-hand_on-n c).Start) (view (goal.at.After-hand_on-n c).Start).before,
+      held (goal.at.After-hand_on-n c).Start,
+      brings
+          (goal.at.After-hand_on-n c).Start,
+      c.requires.5,
+    )
 
 as_long : (c : After-hand_on-n) → length c.hand_on-n.new.out ≡ length c.args.out.now
 as_long c =
@@ -87,13 +96,34 @@ begin-b-requires c =
     let o = c.hand_on-n.new.out in
     let a = ap (λ (x : List ℕ). length x) (tail c.args.p.now c.parts_of-v.result.mid ∙ c.parts_of-v.ensures.5) in
     let r = ap (λ (x : List ℕ). length x) (tail o c.hand_on-n.result) in
-    let d = length-drop c.hand_on-n.result o in
-    (omega (arith, a, brings (goal.at.begin-b-requires c).Start), c.requires.3, omega (arith, a, r, d, few (goal.at.begin-b-requires c).After-hand_on-n, as_long (goal.at.begin-b-requires c).After-hand_on-n))
+    let d = length-drop c.hand_on-n.result o in (
+      omega (arith, a, brings (goal.at.begin-b-requires c).Start),
+      c.requires.3,
+      omega (
+        arith,
+        a,
+        r,
+        d,
+        few (goal.at.begin-b-requires c).After-hand_on-n,
+        as_long
+            (goal.at.begin-b-requires c).After-hand_on-n,
+      ),
+    )
 
 pub overflow_add-result : goal.overflow_add-result
 overflow_add-result c =
     let m = c.begin-b.ensures.0 ∙ ap (λ (x : List ℕ). length (joined (items whole_at x))) (after (goal.at.overflow_add-result c).After-begin-b) in
-    let l : c.hand_on-n.result + c.begin-b.result.size ≤ 4465 = omega (arith, (given (goal.at.overflow_add-result c).After-hand_on-n).0, ended-most (hand (goal.at.overflow_add-result c).Start) (view (goal.at.overflow_add-result c).Start).before, held (goal.at.overflow_add-result c).Start, brings (goal.at.overflow_add-result c).Start, m, items-most (view (goal.at.overflow_add-result c).Start).after) in
+    let l : c.hand_on-n.result + c.begin-b.result.size ≤ 4465 = omega (
+      arith,
+      (given (goal.at.overflow_add-result c).After-hand_on-n).0,
+      ended-most (hand (goal.at.overflow_add-result c).Start)
+          (view (goal.at.overflow_add-result c).Start).before,
+      held (goal.at.overflow_add-result c).Start,
+      brings (goal.at.overflow_add-result c).Start,
+      m,
+      items-most (view
+          (goal.at.overflow_add-result c).Start).after,
+    ) in
     omega (arith, l)
 
 pub returns-then-v : goal.returns-then-v
@@ -104,13 +134,15 @@ returns-then-v c =
     let o = c.hand_on-n.new.out in
     let n = c.hand_on-n.result in
     let l : n ≤ length c.args.out.now = omega (arith, few (goal.at.returns-then-v c).After-hand_on-n) in
-    let h : head_in _ ≡ leaves (hand (goal.at.returns-then-v c).Start) (view (goal.at.returns-then-v c).Start) = ap head_in (after (goal.at.returns-then-v c).After-begin-b) ∙ sym (start_hands (hand (goal.at.returns-then-v c).Start) (view (goal.at.returns-then-v c).Start) p t).1 in
+    let h : head_in _ ≡ leaves (hand (goal.at.returns-then-v c).Start) (view (goal.at.returns-then-v c).Start) = ap head_in (after (goal.at.returns-then-v c).After-begin-b) ∙ sym (start_hands
+    (hand (goal.at.returns-then-v c).Start) (view (goal.at.returns-then-v c).Start) p t).1 in
     let r = c.begin-b.ensures.3 ∙ ap₂ (λ (x y : List ℕ). laid_first (joined (items whole_at x)) y) (after (goal.at.returns-then-v c).After-begin-b) (tail o n) in (
       started-size (hand (goal.at.returns-then-v c).Start) c.args.out.now (view (goal.at.returns-then-v c).Start) p t n c.begin-b.result.size (given (goal.at.returns-then-v c).After-hand_on-n).0 m,
       c.begin-b.ensures.1 ∙ ap (λ (x : List ℕ). length x) h,
       c.begin-b.ensures.2 c.args.p.now c.requires.0
           ∙ ap (λ (x : List ℕ). laid_first (state_bytes (record { last = c.args.p.now; hand = x })) c.args.state.now) h,
-      put-behind n o _ (omega (arith, l, as_long (goal.at.returns-then-v c).After-hand_on-n)) ∙ started_out (hand (goal.at.returns-then-v c).Start) c.args.out.now (view (goal.at.returns-then-v c).Start) p t o _ n (given (goal.at.returns-then-v c).After-hand_on-n).0 (given (goal.at.returns-then-v c).After-hand_on-n).1 r l,
+      put-behind n o _ (omega (arith, l, as_long (goal.at.returns-then-v c).After-hand_on-n)) ∙ started_out (hand (goal.at.returns-then-v c).Start) c.args.out.now (view
+          (goal.at.returns-then-v c).Start) p t o _ n (given (goal.at.returns-then-v c).After-hand_on-n).0 (given (goal.at.returns-then-v c).After-hand_on-n).1 r l,
     )
 
 pub go_on-requires : goal.go_on-requires
