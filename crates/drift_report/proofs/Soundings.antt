@@ -3,7 +3,6 @@ use mathlib.Core.Path.{◌≡◌, refl}
 use lib.IntN.{pos, negsuc}
 use Rattle.text.specs.Text.{codes, digits_in}
 use Rattle.text.specs.Digits.{all_digits, value_from}
-use Rattle.drift_list.specs.declared.Fix.{Fix}
 use Rattle.drift_list.specs.declared.State.TheVariants as state
 use Rattle.drift_report.specs.declared.Asked.TheVariants as asked
 use Rattle.drift_report.specs.Lines.{state_name, signed_decimal, padded, side_of, position, fix_line}

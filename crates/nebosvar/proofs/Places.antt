@@ -38,7 +38,6 @@ use Rattle.carousel_step.proofs.Told.{step-told}
 use Rattle.receiver.specs.declared.Fate.{Fate}
 use Rattle.receiver.specs.declared.Fate.TheVariants as fate
 use Rattle.receiver.specs.declared.Stop.TheVariants as stop
-use Rattle.receiver.specs.declared.What.{What}
 use Rattle.receiver.specs.declared.What.TheVariants as what
 use Rattle.section.specs.Whole.{whole_at}
 use Rattle.receiver.specs.Run.{rules_of, stop_at, given_of, stopped_by, number_of_fate, place_of_fate, carousel_fate, took_of}

@@ -3,7 +3,7 @@
 use Prim.Native.Nat.{ℕ}
 use mathlib.Core.Path.{◌≡◌, refl, sym, ap, ◌∙◌}
 use mathlib.Core.Bool.{Bool, true, false, cond}
-use mathlib.Core.List.{List, [], ◌∷◌, ◌++◌}
+use mathlib.Core.List.{List, [], ◌++◌}
 use native.Mathlib.Omega.{arith}
 use lib.Dec.{eqb}
 use lib.ListN.{length}
@@ -15,7 +15,7 @@ use Rattle.wire.proofs.Laws.Tests.{met_append}
 use Rattle.transport.specs.declared.Answer.{Answer}
 use Rattle.transport.specs.declared.Answer.TheVariants as answer
 use Rattle.transport.specs.Packet.{view_of, packet_tests, packet_refusal}
-use Rattle.transport.specs.Feed.{State, Fed, is_repeat, in_step, kept_hand, hands_on, leaves, passed_over, fed, answers_of}
+use Rattle.transport.specs.Feed.{Fed, is_repeat, in_step, kept_hand, hands_on, leaves, passed_over, fed, answers_of}
 use Rattle.transport.specs.State.{state_in}
 use Rattle.transport.specs.Calls.{
   lent_tests,

@@ -116,7 +116,7 @@ nebosvar-write-packets-left : (κs : Lfts 2) (a : Dens κs nebosvar-write-packet
     → nebosvar-write-packets-reads.Post κs a x s → nebosvar-write-packets-reads.Post κs a y t → s.1.1.1.0.now ≡ t.1.1.1.0.now
 nebosvar-write-packets-left κs a x y s t p q = p.1 ∙ sym q.1
 
--- The entries behind a pointer. Their proofs are walks by hand, for which the prover has no reading of the kind above; these are over the equations of their contracts.
+-- The entries behind a pointer, over the equations of their contracts.
 module _ (c : Carousel) (s image : List ℕ) (d d' : Carousel) (l l' : List ℕ) where
   pub nebosvar-step : (r r' : FateOut) → (r ≡ (step_out c s image).answer) × (d ≡ (step_out c s image).state) × (l ≡ image_of c s image)
       → (r' ≡ (step_out c s image).answer) × (d' ≡ (step_out c s image).state) × (l' ≡ image_of c s image) → (r ≡ r') × (d ≡ d') × (l ≡ l')

@@ -4,6 +4,7 @@
 // Nothing is decided here. Each call is one of the library's, its answer laid out as a struct of
 // numbers; specs/Box.antt says how, of the drift list specs/Drift.antt, of the shore player
 // specs/Play.antt, of packets specs/Packets.antt, and of tables the specs/ of crate `ait_numbers`.
+#![tactic(auto)]
 
 mod drift;
 mod packets;

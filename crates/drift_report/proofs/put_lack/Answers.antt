@@ -3,7 +3,6 @@ use mathlib.Core.Path.{ap, sym}
 use Rattle.text.specs.Text.{codes, decimal}
 use Rattle.drift_report.specs.Page.{lack_text}
 use Rattle.text.proofs.Laws.Written.{first, then, said, nothing}
-use borrow.Author.Rules.{rules}
 use Rattle.drift_report.proofs.put_lack.Goals as goal
 
 pub returns-in-Refused : goal.returns-in-Refused

@@ -6,7 +6,6 @@ use lib.ListN.{take, drop}
 use Rattle.drift_report.specs.Lines.{list_text}
 use Rattle.text.proofs.Laws.Written.{first, said}
 use Rattle.drift_report.proofs.Laws.Pages.{place-number, module-refused, module-listed}
-use borrow.Author.Rules.{rules}
 use Rattle.drift_report.proofs.put_module.Goals as goal
 
 pub returns-then-n-ne0 : goal.returns-then-n-ne0

@@ -5,7 +5,6 @@ use Rattle.carousel_handout.specs.Calls.{report_of}
 use Rattle.drift_report.specs.Page.{lack_text}
 use Rattle.text.proofs.Laws.Written.{first, then, then_as, said}
 use Rattle.drift_report.proofs.Laws.Pages.{refused-other, refused_twenty}
-use borrow.Author.Rules.{rules}
 use Rattle.drift_report.proofs.put_refused.Goals as goal
 
 pub returns-then-n-ne20 : goal.returns-then-n-ne20

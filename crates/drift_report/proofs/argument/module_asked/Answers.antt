@@ -1,7 +1,6 @@
 -- `drift_report::argument::module_asked` meets its contract: it asks for what the digits say.
 use mathlib.Core.Path.{sym, ap, ◌∙◌}
 use native.Mathlib.Omega.{arith}
-use borrow.Author.Rules.{rules}
 use Rattle.text.proofs.Laws.Said.{said-most}
 use Rattle.drift_report.proofs.Laws.Asked.{asked_by, asked-said}
 use Rattle.drift_report.proofs.argument.module_asked.Goals as goal

@@ -3,7 +3,6 @@ use Prim.Native.Nat.{◌/◌, ◌%◌}
 use Rattle.text.specs.Text.{codes}
 use Rattle.drift_report.specs.Lines.{padded}
 use Rattle.text.proofs.Laws.Written.{first, then}
-use borrow.Author.Rules.{rules}
 use Rattle.drift_report.proofs.lines.put_angle.Goals as goal
 
 pub returns : goal.returns

@@ -5,7 +5,6 @@ use mir.ValLaws.{to_z-of_z}
 use Rattle.text.specs.Text.{codes}
 use Rattle.drift_report.specs.Lines.{signed_decimal}
 use Rattle.text.proofs.Laws.Written.{first_as, then, then_as}
-use borrow.Author.Rules.{rules}
 use Rattle.drift_report.proofs.lines.put_coordinates.Goals as goal
 
 pub returns : goal.returns

@@ -3,7 +3,6 @@ use mathlib.Core.List.{◌++◌}
 use Rattle.text.specs.Text.{codes, decimal}
 use Rattle.drift_report.specs.Lines.{state_name, signed_decimal, position, week_time, fix_line}
 use Rattle.text.proofs.Laws.Written.{first, then, then-four}
-use borrow.Author.Rules.{rules}
 use Rattle.drift_report.proofs.lines.put_fix.Goals as goal
 
 pub returns : goal.returns

@@ -1,25 +1,18 @@
 -- `drift_report::lines::put_fixes` meets its contract. The invariant: the lines of the records that are left, put from here on, leave what all of them leave.
-use borrow.Author.Rules.{rules}
-use Prim.Native.Nat.{ℕ, ◌+◌, ◌-◌, ◌≤◌, ◌<◌}
+use Prim.Native.Nat.{◌+◌, ◌-◌, ◌<◌}
 use mathlib.Core.Path.{◌≡◌, refl, sym, ap, ◌∙◌}
-use mathlib.Core.List.{List}
 use native.Mathlib.Omega.{arith}
-use lib.ListN.{length}
-use Rattle.drift_list.specs.declared.Fix.{Fix}
 use Rattle.drift_list.specs.declared.FixAnswer.TheVariants as answer
-use Rattle.drift_list.specs.Values.{fix_of}
-use Rattle.drift_list.specs.Reading.{count_of, fix_at}
-use Rattle.text.proofs.Laws.Puts.{puts-same, Writing, writing-on, writing-done}
+use Rattle.drift_list.specs.Reading.{count_of}
+use Rattle.text.proofs.Laws.Puts.{puts-same, writing-on, writing-done}
 use Rattle.drift_list.proofs.Walk.{walk-found}
 use Rattle.drift_report.specs.Lines.{fix_line, fix_lines}
 use Rattle.text.proofs.Laws.Written.{starts}
 use Rattle.drift_list.proofs.Answers.{found-not-refused, found-same}
 use Rattle.drift_report.proofs.Laws.Lines.{lines-all, lines-done, lines-on}
+use Rattle.drift_report.proofs.lines.put_fixes.Invariants.{fixes}
 use Rattle.drift_report.proofs.lines.put_fixes.Goals as goal
 use Rattle.drift_report.proofs.lines.put_fixes.Goals.{After-walk_at}
-
-abbrev fixes : List ℕ → ℕ → Fix
-fixes s k = fix_of (fix_at s k)
 
 -- the walk finds the record
 found : (c : After-walk_at) → c.walk_at.result ≡ answer.Found (fixes c.args.list.now c.loop-k.k)

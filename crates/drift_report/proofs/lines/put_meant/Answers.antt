@@ -5,7 +5,6 @@ use mir.ValLaws.{to_z-of_z}
 use Rattle.text.specs.Text.{codes}
 use Rattle.drift_report.specs.Lines.{position, week_time}
 use Rattle.text.proofs.Laws.Written.{first_as, then}
-use borrow.Author.Rules.{rules}
 use Rattle.drift_report.proofs.lines.put_meant.Goals as goal
 
 pub returns : goal.returns

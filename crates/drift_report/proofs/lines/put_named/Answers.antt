@@ -5,7 +5,6 @@ use Rattle.text.specs.Text.{codes, word_at, decimal}
 use Rattle.drift_report.specs.Lines.{state_name}
 use Rattle.text.proofs.Laws.Written.{first, then, then_as}
 use Rattle.drift_report.proofs.Laws.Lines.{state-word}
-use borrow.Author.Rules.{rules}
 use Rattle.drift_report.proofs.lines.put_named.Goals as goal
 
 pub returns : goal.returns

@@ -8,7 +8,6 @@ use Rattle.drift_report.specs.Lines.{angle, side_of, position}
 use Rattle.text.proofs.Laws.Written.{first_as, then, then_as, said, nothing}
 use Rattle.drift_report.proofs.Laws.Numbers.{kept_abs}
 use Rattle.drift_report.proofs.Laws.Lines.{position-none, position_some}
-use borrow.Author.Rules.{rules}
 use Rattle.drift_report.proofs.lines.put_position.Goals as goal
 
 pub returns-then-state_number-eq0 : goal.returns-then-state_number-eq0

@@ -2,7 +2,6 @@
 use Rattle.wire.proofs.Laws.Signed.{below-told, above-told}
 use Rattle.text.proofs.Laws.Written.{first, said}
 use Rattle.drift_report.proofs.Laws.Numbers.{below_side, above_side}
-use borrow.Author.Rules.{rules}
 use Rattle.drift_report.proofs.lines.put_side.Goals as goal
 
 pub returns-then-z-lt0 : goal.returns-then-z-lt0

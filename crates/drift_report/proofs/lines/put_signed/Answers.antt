@@ -5,7 +5,6 @@ use Rattle.text.specs.Text.{codes, decimal}
 use Rattle.wire.proofs.Laws.Signed.{below-told, above-told}
 use Rattle.text.proofs.Laws.Written.{first, then_as, said}
 use Rattle.drift_report.proofs.Laws.Numbers.{kept_abs, below-decimal, above-decimal}
-use borrow.Author.Rules.{rules}
 use Rattle.drift_report.proofs.lines.put_signed.Goals as goal
 
 pub returns-then-z-lt0 : goal.returns-then-z-lt0
