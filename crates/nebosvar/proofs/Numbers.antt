@@ -45,7 +45,8 @@ use Rattle.ait_read.specs.Places.{application_at, descriptor_at, repeated_at, ex
 use Rattle.ait_read.specs.Labels.{label_at}
 use Rattle.ait_read.specs.Acceptance.{application_tests}
 use Rattle.ait_read.proofs.Laws.Exact.{rising}
-use Rattle.ait_read.specs.Answers.{read_answer, application_answer, descriptor_answer, extension_answer, resolve_answer, read_number, place_number, number_of_read, number_of_application, number_of_descriptor, number_of_item, number_of_extension, number_of_resolved}
+use Rattle.ait_read.specs.Answers.{read_answer, application_answer, descriptor_answer, extension_answer, resolve_answer, read_number, place_number, number_of_read, number_of_application}
+use Rattle.ait_read.specs.Answers.{number_of_descriptor, number_of_item, number_of_extension, number_of_resolved}
 use Rattle.ait_read.proofs.Laws.Told.{read_told}
 use Rattle.ait_read.proofs.Laws.Numbers.{read_number_lem, application-number, descriptor-number, item-number, extension-number, resolve-number}
 use Rattle.receiver.specs.declared.Fate.{Fate}

@@ -61,7 +61,8 @@ read_modules-ms-requires c =
     let n = c.module_count-count in (
       c.if-count-gt-MOST_MODULES.false,
       rw (tail (payload (goal.at.read_modules-ms-requires c).Else-not-is_announcement) c.modules_start-start.result) (list-long
-          (payload (goal.at.read_modules-ms-requires c).Else-not-is_announcement) (framed (goal.at.read_modules-ms-requires c).Else-not-is_announcement) _ _ c.modules_start-start.ensures.0 n.ensures.0),
+          (payload (goal.at.read_modules-ms-requires c).Else-not-is_announcement) (framed
+          (goal.at.read_modules-ms-requires c).Else-not-is_announcement) _ _ c.modules_start-start.ensures.0 n.ensures.0),
     )
 
 pub returns-then-is_beyond : goal.returns-then-is_beyond

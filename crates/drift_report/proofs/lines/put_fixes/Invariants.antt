@@ -15,7 +15,8 @@ abbrev pub fixes : List ℕ → ℕ → Fix
 fixes s k = fix_of (fix_at s k)
 
 abbrev pub invariant-loop-k : goal.invariant-loop-k
-invariant-loop-k l = (length l.out ≡ length l.initial.out) × (l.k ≤ l.count) × Writing l.out l.end (fix_lines (l.count - l.k) l.k (fixes l.list)) l.initial.out l.at (fix_lines l.count 0 (fixes l.list))
+invariant-loop-k l = (length l.out ≡ length l.initial.out) × (l.k ≤ l.count) × Writing l.out l.end (fix_lines (l.count - l.k) l.k (fixes l.list)) l.initial.out l.at (fix_lines l.count 0
+    (fixes l.list))
 
 abbrev pub decreases-loop-k : goal.decreases-loop-k
 decreases-loop-k l = l.count - l.k
