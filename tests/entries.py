@@ -87,7 +87,8 @@ def faults(crate, name, source, theorems):
     if sorted(same) != ["%s ≡ %s'" % (v, v) for v in after]:
         yield "%s: not all that the premises tell is the same" % call
     there, here = homes(source), homes(theorems)
-    yield from ("%s: %s is not that of the contract" % (call, n) for n in here if there.get(n, "Rattle.std.").startswith("Rattle.std.") is False and here[n] != there[n] and re.search(r"\b%s\b" % n, " ".join(one)))
+    own = [n for n in here if not there.get(n, "Rattle.std.").startswith("Rattle.std.")]
+    yield from ("%s: %s is not that of the contract" % (call, n) for n in own if here[n] != there[n] and re.search(r"\b%s\b" % n, " ".join(one)))
     if theorem == "in_place":
         value = re.search(r"\bfn %s\(.*?= (\w+)\(\*c," % name, source, re.S)[1]
         (entry, by_value), _ = statement(theorems, "in-place-by-value")
