@@ -1,7 +1,7 @@
 #!/usr/bin/env python3
 """python3 tools/laws.py DIR CRATE..: copies the tree to DIR, and leaves these crates their types, definitions and laws, but no function.
 
-What stands above them can be tried there with `rt dev` before their functions are proved, in seconds. Nothing that is proved there
+What stands above them can be tried there with `rt check` before their functions are proved, in seconds. Nothing that is proved there
 says anything of the code: whatever comes of it is copied back, and proved over the functions.
 """
 

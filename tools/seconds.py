@@ -1,7 +1,7 @@
 #!/usr/bin/env python3
 """seconds.py CRATE [N]: where a crate's check spends its time.
 
-Checks the crate from nothing with `rt dev`, which saves each module as soon as it is checked; the time between one file and the
+Checks the crate from nothing with `rt check`, which saves each module as soon as it is checked; the time between one file and the
 next is the later one's. Prints the N dearest modules (default 30), and the seconds by the modules' last names.
 """
 import shutil
@@ -13,9 +13,9 @@ from pathlib import Path
 ROOT = Path(__file__).resolve().parent.parent
 crate = sys.argv[1]
 shown = int(sys.argv[2]) if len(sys.argv) > 2 else 30
-folder = ROOT / "target" / "inc" / crate
+folder = ROOT / "crates" / crate / "out" / "incremental"
 shutil.rmtree(folder, ignore_errors=True)
-subprocess.run(["rt", "dev", crate], cwd=ROOT, stdout=subprocess.DEVNULL)
+subprocess.run(["rt", "check"], cwd=ROOT / "crates" / crate, stdout=subprocess.DEVNULL)
 saved = sorted((p.stat().st_mtime_ns, p.stem) for p in folder.glob("antt-checked*/*.oantt"))
 if not saved:
     sys.exit("seconds.py: rt dev %s saved no module" % crate)

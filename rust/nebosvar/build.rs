@@ -12,7 +12,7 @@ fn main() {
     println!("cargo:rerun-if-changed={}", archive.display());
     if !archive.is_file() {
         println!(
-            "cargo:warning=there is no {}: run `rt staticlib nebosvar` at the repository's root",
+            "cargo:warning=there is no {}: run `make` at the repository's root",
             archive.display()
         );
     }

@@ -69,7 +69,11 @@ one_call x c = go (ruled_of x.state) refl
     go true r = ruled_call x c r
     go false r = broken_call x r c ∙ sym (broken-walk x r (took_one c))
 
-pub called_walks : (x : Held) (cs : List Call) → called x cs ≡ walk x (took_by cs)
+pub called_walks_any : (x : Held) (cs : List Call) → called x cs ≡ walk x (took_by cs)
 unfolding called took_by walk
-called_walks x [] = refl
-called_walks x (c ∷ cs) = called_walks (left_after x c) cs ∙ ap (λ (y : Held). walk y (took_by cs)) (one_call x c) ∙ sym (walk-both x (took_one c) (took_by cs))
+called_walks_any x [] = refl
+called_walks_any x (c ∷ cs) = called_walks_any (left_after x c) cs ∙ ap (λ (y : Held). walk y (took_by cs)) (one_call x c) ∙ sym (walk-both x (took_one c) (took_by cs))
+
+-- of a record that keeps its rule
+pub called_walks : (x : Held) (cs : List Call) → ruled_of x.state ≡ true → called x cs ≡ walk x (took_by cs)
+called_walks x cs r = called_walks_any x cs

@@ -36,7 +36,7 @@ use Rattle.demands.proofs.Given.{saying, given-says, new-says, renewal}
 use Rattle.demands.proofs.Lists.{joined_ext}
 use Rattle.demands.proofs.Walks.{next_rule, old_fixed, also-new, keeps-parts, stays-there, one-long, came_by}
 use Rattle.demands.proofs.After.{emptied-ruled, came_means}
-use Rattle.demands.proofs.Three.{handed_out_lem, content-handed_out, calls-walk}
+use Rattle.demands.proofs.Three.{handed_out_lem, content-handed_out, calls-walk_any}
 
 module _ (x : Held) (k : ℕ) (start : Emptied x k) (ss : List (List ℕ)) (keeps : Keeps x k ss) where
   abbrev y : Held
@@ -170,6 +170,6 @@ module _ (x : Held) (k : ℕ) (start : Emptied x k) (cs : List Call) (keeps : Ke
   pub position-heard_of-calls : (n : ℕ) (f : Fix) → fix_answer (handed_of (called x cs) k) n ≡ answer.Found f
       → ((b : ℕ) → b < blocks x k → Came x k b (took_by cs)) × (f ≡ fix_of (fix_at (heard_module x k (took_by cs)) n))
   position-heard_of-calls n f e =
-      let c = calls-walk x cs in
+      let c = calls-walk_any x cs in
       let r = position-heard x k start (took_by cs) keeps n f (ap (λ (y : Held). fix_answer (handed_of y k) n) (sym c) ∙ e) in
       (r.0, r.3)

@@ -47,7 +47,7 @@ use Rattle.drift_list.proofs.Round.{written_list, written-then-read}
 use Rattle.demands.specs.Demand.{fates, told, matches_at, section_data, same_in, Call, running, called, took_by}
 use Rattle.demands.specs.Quiet.{NoNew, Holds}
 use Rattle.demands.specs.Shore.{Ends, HasShores, Widths, sent_by}
-use Rattle.demands.proofs.Three.{calls-walk}
+use Rattle.demands.proofs.Three.{calls-walk_any}
 use Rattle.demands.proofs.Played.{Played, emptied-none, played-complete, played-bytes, played-handed_out, own-quiet, own-told, own_agree}
 use Rattle.demands.proofs.Taken.{again-same, block-again, block-first, rotation-fates}
 use Rattle.demands.proofs.Stretches.{Cut, joined-run, joined-sections}
@@ -140,7 +140,7 @@ module _ (id : ℕ) (a : Announced) (ok : Playable a) (image : List ℕ) (holds 
     -- THE SAME OVER THE BOX'S CALLS, of any kind and mixed (`step`, `take`, `run` and the entries in place), that took these sections, however they were grouped in stretches
     module _ (ss : List (List ℕ)) (i : ℕ) (ends : Ends a image (walk y (announcement_bytes id a ∷ ss)) i) where
       pub of_calls : (cs : List Call) → took_by cs ≡ announcement_bytes id a ∷ ss → Ends a image (called y cs) i
-      of_calls cs e = subst (λ (x : Held). Ends a image x i) (sym (calls-walk y cs ∙ ap (walk y) e)) ends
+      of_calls cs e = subst (λ (x : Held). Ends a image x i) (sym (calls-walk_any y cs ∙ ap (walk y) e)) ends
 
   -- THEOREM 2: "Played from the empty record into an image at least as long as the sizes together, one rotation is taken without refusal", "new" once and then "stored" for each
   -- block, "and leaves every module complete and equal to the shore's"

@@ -45,7 +45,7 @@ use Rattle.demands.proofs.Given.{saying, for_fate}
 use Rattle.demands.proofs.Alike.{Alike, alike_sym, alike_trans, alike-bytes, alike_missing}
 use Rattle.demands.proofs.Walks.{kept_in, alone}
 use Rattle.demands.proofs.After.{emptied-ruled, stays, complete-came, complete-bytes, handed-came, handed-bytes, same_content}
-use Rattle.demands.proofs.Calls.{called_walks}
+use Rattle.demands.proofs.Calls.{called_walks_any}
 
 -- the front of a run that keeps the module keeps it
 pub keeps-front : (x : Held) (k : ℕ) (us rest : List (List ℕ)) → Keeps x k (us ++ rest) → Keeps x k us
@@ -188,8 +188,11 @@ module _ (x : Held) (k : ℕ) (start : Emptied x k) where
 
 -- ONCE MORE, OVER CALLS OF ANY KIND, mixed in any order: `step` and `step_in`, `take`, `run` and `run_in`. What they leave, one after another, is what one-section calls
 -- leave over the sections that they took; so each theorem above holds of them. The record may be any, one that breaks its rule too.
-pub calls-walk : (x : Held) (cs : List Call) → called x cs ≡ walk x (took_by cs)
-calls-walk x cs = called_walks x cs
+pub calls-walk_any : (x : Held) (cs : List Call) → called x cs ≡ walk x (took_by cs)
+calls-walk_any x cs = called_walks_any x cs
+
+pub calls-walk : (x : Held) → ruled_of x.state ≡ true → (cs : List Call) → called x cs ≡ walk x (took_by cs)
+calls-walk x r cs = calls-walk_any x cs
 
 -- a section that is for an announced module is answered by the step as by the receiver; and both answer "new" to the same sections (Two.antt, `kind-new`)
 pub steps-answer : (x : Held) (k : ℕ) (s : List ℕ) → is_for x k s ≡ true → fate_of x s ≡ carousel_fate (stepped_of x.state s x.image).answer
@@ -197,7 +200,7 @@ steps-answer x k s e = for_fate x.state s x.image (told x) (place_now x k) e
 
 module _ (x : Held) (k : ℕ) (start : Emptied x k) where
   same-walk : (cs : List Call) → called x cs ≡ walk x (took_by cs)
-  same-walk cs = calls-walk x cs
+  same-walk cs = calls-walk_any x cs
 
   pub isolation_of-calls : (cs ds : List Call) → Keeps x k (took_by cs) → Keeps x k (took_by ds) → trace x k (took_by cs) ≡ trace x k (took_by ds)
       → (answers_for x k (took_by cs) ≡ answers_for x k (took_by ds)) × (bytes_in (called x cs) k ≡ bytes_in (called x ds) k) × (missing_in (called x cs) k ≡ missing_in (called x ds) k)

@@ -28,7 +28,7 @@ use Rattle.demands.specs.Quiet.{Holds}
 use Rattle.demands.specs.Transport.{Lending, heard_by, gathers, runs_over, Lendable}
 use Rattle.demands.proofs.Calls.{broken-walk}
 use Rattle.demands.proofs.Stretches.{Cut, joined-sections}
-use Rattle.demands.proofs.Three.{calls-walk, isolation, completeness}
+use Rattle.demands.proofs.Three.{calls-walk_any, isolation, completeness}
 
 said : (s : List ℕ) → (whole_at s ≡ 0 → ⊥) → whole_at s ≡ said_length s
 unfolding whole_at
@@ -103,12 +103,16 @@ module _ (x : Held) (r : ruled_of x.state ≡ false) (pid : ℕ) (s : List ℕ) 
   broken-heard (k ∷ ks) = rw r (broken-heard ks)
 
 -- CALLS OVER PACKETS LEAVE WHAT THE SECTIONS HANDED ON LEAVE, of any record
-pub packets-walk : (pid : ℕ) (ks : List Lending) (x : Held) (s : List ℕ) → Lendable ks → heard_by pid x s ks ≡ walk x (all_given pid s (gathers ks))
-packets-walk pid ks x s l = go (ruled_of x.state) refl
+pub packets-walk_any : (pid : ℕ) (ks : List Lending) (x : Held) (s : List ℕ) → Lendable ks → heard_by pid x s ks ≡ walk x (all_given pid s (gathers ks))
+packets-walk_any pid ks x s l = go (ruled_of x.state) refl
   where
     go : (t : Bool) → ruled_of x.state ≡ t → heard_by pid x s ks ≡ walk x (all_given pid s (gathers ks))
-    go true r = heard-called pid ks x s r ∙ calls-walk x (runs_over pid s ks) ∙ ap (walk x) (took-sections pid s ks l)
+    go true r = heard-called pid ks x s r ∙ calls-walk_any x (runs_over pid s ks) ∙ ap (walk x) (took-sections pid s ks l)
     go false r = broken-heard x r pid s ks ∙ sym (broken-walk x r (all_given pid s (gathers ks)))
+
+-- of a record that keeps its rule
+pub packets-walk : (pid : ℕ) (ks : List Lending) (x : Held) (s : List ℕ) → ruled_of x.state ≡ true → Lendable ks → heard_by pid x s ks ≡ walk x (all_given pid s (gathers ks))
+packets-walk pid ks x s r l = packets-walk_any pid ks x s l
 
 -- and so demand 3, word for word, of the sections handed on
 module _ (x : Held) (k : ℕ) (start : Emptied x k) (pid : ℕ) (s : List ℕ) where
@@ -116,7 +120,7 @@ module _ (x : Held) (k : ℕ) (start : Emptied x k) (pid : ℕ) (s : List ℕ) w
   heard ks = all_given pid s (gathers ks)
 
   same-walk : (ks : List Lending) → Lendable ks → heard_by pid x s ks ≡ walk x (heard ks)
-  same-walk ks l = packets-walk pid ks x s l
+  same-walk ks l = packets-walk_any pid ks x s l
 
   pub isolation_of-packets : (ks js : List Lending) → Lendable ks → Lendable js → Keeps x k (heard ks) → Keeps x k (heard js) → trace x k (heard ks) ≡ trace x k (heard js)
       → (answers_for x k (heard ks) ≡ answers_for x k (heard js))

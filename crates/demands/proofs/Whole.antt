@@ -37,9 +37,9 @@ use Rattle.demands.specs.Shore.{Ends}
 use Rattle.demands.specs.Transport.{Lending, heard_by, gathers, Lendable}
 use Rattle.demands.specs.Whole.{StaysWhole, HandsOutAgain, full_image, Undone, Unfinished, AnswersUnfinished, AtSomePoint, CompletesAll}
 use Rattle.demands.proofs.Calls.{walk_rule, broken-walk}
-use Rattle.demands.proofs.Three.{keeps-front, calls-walk}
+use Rattle.demands.proofs.Three.{keeps-front, calls-walk_any}
 use Rattle.demands.proofs.Quiet.{quiet_keeps}
-use Rattle.demands.proofs.Transport.{packets-walk}
+use Rattle.demands.proofs.Transport.{packets-walk_any}
 use Rattle.demands.proofs.Played.{no-new}
 use Rattle.demands.proofs.Player.{own-one, one-rotation, rotation-told}
 use Rattle.demands.proofs.Completed.{ends-complete, any_box}
@@ -57,10 +57,10 @@ module _ (x : Held) (k : ℕ) (u : Announces x k) where
 
   -- for calls of `step`, `step_in`, `take`, `run` and `run_in`, mixed in any order; and over packets
   pub stays-whole_of-calls : (cs : List Call) → Keeps x k (took_by cs) → StaysWhole x k (called x cs)
-  stays-whole_of-calls cs n = subst (StaysWhole x k) (sym (calls-walk x cs)) (stays-whole (took_by cs) n)
+  stays-whole_of-calls cs n = subst (StaysWhole x k) (sym (calls-walk_any x cs)) (stays-whole (took_by cs) n)
 
   pub stays-whole_of-packets : (pid : ℕ) (s : List ℕ) (ks : List Lending) → Lendable ks → Keeps x k (all_given pid s (gathers ks)) → StaysWhole x k (heard_by pid x s ks)
-  stays-whole_of-packets pid s ks l n = subst (StaysWhole x k) (sym (packets-walk pid ks x s l)) (stays-whole (all_given pid s (gathers ks)) n)
+  stays-whole_of-packets pid s ks l n = subst (StaysWhole x k) (sym (packets-walk_any pid ks x s l)) (stays-whole (all_given pid s (gathers ks)) n)
 
 -- WHAT IS HANDED OUT STAYS THE SAME BYTES. "From the first hand-out on, as long as the module is kept, every later hand-out is equal to it, or is refused with 15."
 module _ (x : Held) (k : ℕ) (handed : handout_of x k ≡ 0) where
@@ -68,10 +68,10 @@ module _ (x : Held) (k : ℕ) (handed : handout_of x k ≡ 0) where
   hands_out-again ss n = handed-again x k handed ss n
 
   pub hands_out-again_of-calls : (cs : List Call) → Keeps x k (took_by cs) → HandsOutAgain x k (called x cs)
-  hands_out-again_of-calls cs n = subst (HandsOutAgain x k) (sym (calls-walk x cs)) (hands_out-again (took_by cs) n)
+  hands_out-again_of-calls cs n = subst (HandsOutAgain x k) (sym (calls-walk_any x cs)) (hands_out-again (took_by cs) n)
 
   pub hands_out-again_of-packets : (pid : ℕ) (s : List ℕ) (ks : List Lending) → Lendable ks → Keeps x k (all_given pid s (gathers ks)) → HandsOutAgain x k (heard_by pid x s ks)
-  hands_out-again_of-packets pid s ks l n = subst (HandsOutAgain x k) (sym (packets-walk pid ks x s l)) (hands_out-again (all_given pid s (gathers ks)) n)
+  hands_out-again_of-packets pid s ks l n = subst (HandsOutAgain x k) (sym (packets-walk_any pid ks x s l)) (hands_out-again (all_given pid s (gathers ks)) n)
 
 -- A POSITION THAT IS DRAWN LATER IS THE POSITION THAT WAS DRAWN FIRST: where the box answers 15 it hands out nothing, and nothing is read (30)
 pub position-again : (x y : Held) (k : ℕ) → HandsOutAgain x k y → (n : ℕ) (f : Fix) → fix_answer (handed_of y k) n ≡ answer.Found f → fix_answer (handed_of x k) n ≡ answer.Found f
@@ -102,7 +102,7 @@ module _ (x : Held) (k : ℕ) (u : Announces x k) (whole : is_complete x k ≡ t
   ]
 
   pub only_if_of-calls : (cs : List Call) → AnswersUnfinished k (called x cs) → Undone x k (took_by cs)
-  only_if_of-calls cs e = only_if (took_by cs) (subst (AnswersUnfinished k) (calls-walk x cs) e)
+  only_if_of-calls cs e = only_if (took_by cs) (subst (AnswersUnfinished k) (calls-walk_any x cs) e)
 
   -- "EXACTLY WHEN IT CAN BECOME UNFINISHED": a run at some point of which the module is dropped or lacks a block is a run with such a call
   pub exactly_when : (ss : List (List ℕ)) → AtSomePoint (Unfinished k) x ss ↔ Undone x k ss
