@@ -13,7 +13,7 @@ HEAD = re.compile(r"^ *(?:#\[unsafe\(no_mangle\)\]\s*)?pub (?:extern \"C\" )?fn 
 
 
 def faults():
-    listed = {l.split(":")[0] for l in (ROOT / "crates.txt").read_text().splitlines() if ":" in l and l[0] != "#"}
+    listed = {l.split(":")[0].split()[0] for l in (ROOT / "crates.txt").read_text().splitlines() if ":" in l and l[0] != "#"}
     for crate in sorted(p for p in (ROOT / "crates").iterdir() if p.is_dir()):
         if crate.name not in listed:
             yield "%s is not in crates.txt" % crate.name
