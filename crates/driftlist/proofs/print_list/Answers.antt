@@ -1,5 +1,5 @@
 -- `print_list` lends what it may. What is written is whole by drift_report's `never-cut`.
-use Rattle.std.proofs.Common.{ℕ, ◌≡◌, ◌≤◌, arith, sym, length}
+use Rattle.std.proofs.Common.{ℕ, ◌≡◌, ◌≤◌, arith, sym}
 use lib.Seq.{length-take-le}
 use Rattle.text.specs.Text.{reached}
 use Rattle.text.proofs.Laws.Puts.{reached-most}
