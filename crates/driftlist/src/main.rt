@@ -8,10 +8,9 @@ ghost use Rattle.std.specs.Prelude.{◌≡◌, length};
 
 use drift_report::Asked;
 use std::env::Env;
-use std::io;
 use std::io::Read;
 
-fn main(rt: HostRuntime) -> io::Result<()> {
+fn main(rt: HostRuntime) {
     match asked(&rt) {
         Asked::Nothing => usage(&rt.stderr()),
         Asked::Module(number) => print_list(&mut rt.stdin(), &rt, number),
@@ -30,17 +29,17 @@ fn asked(env: &impl Env) -> Asked {
     }
 }
 
-fn usage(log: &impl Print) -> io::Result<()> {
-    log.write_all(b"usage: driftlist MODULE\n")
+fn usage(log: &impl Print) {
+    let _ = log.write_all(b"usage: driftlist MODULE\n");
 }
 
-fn print_list<R: Read, P: Print>(input: &mut R, output: &P, number: u16) -> io::Result<()> {
+fn print_list<R: Read, P: Print>(input: &mut R, output: &P, number: u16) {
     let mut stretch = streams::large_buffer();
     let n = streams::read_full(input, &mut stretch);
     let mut image = streams::large_buffer();
     let mut out = room();
     let size = drift_report::write_page(&stretch[..n], &mut image, number, &mut out);
-    output.write_all(&out[..size])
+    let _ = output.write_all(&out[..size]);
 }
 
 // Zeros for the text. The `ensures` gives only the length, which lending the array needs.

@@ -8,7 +8,6 @@
 ghost use Rattle.std.specs.Prelude.{◌*◌, ◌≤◌, length};
 
 use std::env::Env;
-use std::io;
 use std::io::Read;
 use text::Said;
 use transport_write::{MOST_PACKETS, PACKET_LENGTH, Packed};
@@ -29,13 +28,10 @@ struct Packaged {
 }
 
 // No greater number is said than the most: the remainder only spares the proof of that.
-fn main(rt: HostRuntime) -> io::Result<()> {
+fn main(rt: HostRuntime) {
     match asked(&rt) {
         Said::Nothing => usage(&rt.stderr()),
-        Said::Number(n) => {
-            pack(&mut rt.stdin(), &rt, (n % (MOST_PID + 1)) as u16);
-            Ok(())
-        }
+        Said::Number(n) => pack(&mut rt.stdin(), &rt, (n % (MOST_PID + 1)) as u16),
     }
 }
 
@@ -51,8 +47,8 @@ fn asked(env: &impl Env) -> Said {
     }
 }
 
-fn usage(log: &impl Print) -> io::Result<()> {
-    log.write_all(b"usage: packets PID\n")
+fn usage(log: &impl Print) {
+    let _ = log.write_all(b"usage: packets PID\n");
 }
 
 // Fills a buffer, writes the whole sections at its front, and keeps the rest for the next turn. A proved

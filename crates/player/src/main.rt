@@ -14,22 +14,23 @@ use arguments::{are_good, module_count, value};
 use carousel_play::{Counted, LARGEST_SECTION, Played, Playlist};
 use files::{Loaded, load};
 use std::env::Env;
-use std::io;
 use wire::lesser;
 
-fn main(rt: HostRuntime) -> io::Result<()> {
+fn main(rt: HostRuntime) {
     let count = streams::argument_count(&rt);
     if !are_good(&rt, count) {
-        return rt.stderr().write_all(
+        let _ = rt.stderr().write_all(
             b"usage: player DOWNLOAD BLOCKSIZE IDENTIFIER NUMBER VERSION FILE [NUMBER VERSION FILE ...]\n",
         );
+        return;
     }
     let n = module_count(count);
     let mut image = room();
     let loaded = load(&rt, n, &mut image);
     let missing = loaded.missing;
     if missing != 0 {
-        return tell_missing(&rt, &rt.stderr(), missing);
+        tell_missing(&rt, &rt.stderr(), missing);
+        return;
     }
     play(
         &rt,
@@ -59,19 +60,12 @@ fn playlist(env: &impl Env, loaded: Loaded, n: usize) -> Playlist {
 }
 
 // The rotation, or its refusal.
-fn play(
-    env: &impl Env,
-    output: &impl Print,
-    log: &impl Print,
-    p: Playlist,
-    image: &[u8],
-) -> io::Result<()> {
+fn play(env: &impl Env, output: &impl Print, log: &impl Print, p: Playlist, image: &[u8]) {
     match carousel_play::section_count(p) {
         Counted::Refused(n) => tell_refused(log, n),
         Counted::Sections(n) => {
             let mut out = streams::large_buffer();
             write_rotation(env, output, p, image, n, &mut out);
-            Ok(())
         }
     }
 }
@@ -111,14 +105,14 @@ fn put_section(p: Playlist, image: &[u8], identifier: u32, place: usize, out: &m
     }
 }
 
-fn tell_missing(env: &impl Env, log: &impl Print, k: usize) -> io::Result<()> {
+fn tell_missing(env: &impl Env, log: &impl Print, k: usize) {
     let mut name = streams::buffer();
     let n = streams::argument(env, k, &mut name).unwrap_or(0);
-    log.write_all(b"no file ")?;
-    log.write_all(&name[..n])?;
-    log.write_all(b"\n")
+    let _ = log.write_all(b"no file ");
+    let _ = log.write_all(&name[..n]);
+    let _ = log.write_all(b"\n");
 }
 
-fn tell_refused(log: &impl Print, n: u8) -> io::Result<()> {
-    println!(log; "refused,{n}")
+fn tell_refused(log: &impl Print, n: u8) {
+    let _ = println!(log; "refused,{n}");
 }

@@ -10,7 +10,6 @@ mod totals;
 ghost use Rattle.std.specs.Prelude.{◌≡◌, ◌≤◌, length};
 
 use std::env::Env;
-use std::io;
 use std::io::Read;
 use text::Said;
 use totals::{KINDS, add, tell};
@@ -26,7 +25,7 @@ const STRETCH: usize = 65_612;
 const ROOM: usize = 131_072;
 
 // No greater number is said than the most: the remainder only spares the proof of that.
-fn main(rt: HostRuntime) -> io::Result<()> {
+fn main(rt: HostRuntime) {
     match asked(&rt) {
         Said::Nothing => usage(&rt.stderr()),
         Said::Number(n) => {
@@ -48,18 +47,13 @@ fn asked(env: &impl Env) -> Said {
     }
 }
 
-fn usage(log: &impl Print) -> io::Result<()> {
-    log.write_all(b"usage: sections PID\n")
+fn usage(log: &impl Print) {
+    let _ = log.write_all(b"usage: sections PID\n");
 }
 
 // A proved loop has to end, and nothing says that the input does: it counts its turns down from a number
 // that no run uses up.
-fn take_apart<R: Read, P: Print, L: Print>(
-    input: &mut R,
-    output: &P,
-    log: &L,
-    pid: u16,
-) -> io::Result<()> {
+fn take_apart<R: Read, P: Print, L: Print>(input: &mut R, output: &P, log: &L, pid: u16) {
     let mut stretch = stretch_room();
     let mut state = first_state();
     let mut out = out_room();
@@ -75,14 +69,14 @@ fn take_apart<R: Read, P: Print, L: Print>(
             &mut out,
             &mut counts,
         ) {
-            return Ok(());
+            return;
         }
         if n < STRETCH {
-            return tell(log, &counts);
+            tell(log, &counts);
+            return;
         }
         turns -= 1;
     }
-    Ok(())
 }
 
 // Passes a whole stretch, and answers whether it could. By `gather`'s contract each turn passes some of it;

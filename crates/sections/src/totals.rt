@@ -1,5 +1,4 @@
 // How many packets had which answer, over the whole input; and the line that tells it.
-use std::io;
 use transport::Counts;
 
 pub const KINDS: usize = 7;
@@ -34,7 +33,7 @@ fn sum(m: usize, n: usize) -> usize {
 }
 
 // One line, in one write, on standard error.
-pub fn tell(log: &impl Print, counts: &[usize]) -> io::Result<()> {
+pub fn tell(log: &impl Print, counts: &[usize]) {
     let mut line = [0u8; LINE];
     let mut end: usize = 0;
     let mut i: usize = 0;
@@ -44,7 +43,7 @@ pub fn tell(log: &impl Print, counts: &[usize]) -> io::Result<()> {
     }
     end = text::put(&mut line, end, b"\n");
     let size = wire::lesser(end, LINE);
-    log.write_all(&line[..size])
+    let _ = log.write_all(&line[..size]);
 }
 
 fn put_count(line: &mut [u8], at: usize, i: usize, count: usize) -> usize {
