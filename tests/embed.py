@@ -8,7 +8,6 @@ sections that tests/player.py makes.
     embed.py          compare the declarations
     embed.py run      the same, then `make install` into a folder of its own, compile the programs with what pkg-config says of it, and run them"""
 import os
-import platform
 import random
 import re
 import subprocess
@@ -303,25 +302,11 @@ def asked_of(prefix, what):
 
 
 def compile_strictly(source, prefix, made):
-    """Compiles a program with every warning an error, and gives the command that runs it. Where the machine is no x86-64, gcc
-    looks at it, and the kit's own compiler makes it for the kit's emulator, with the machine's C headers."""
+    """Compiles a program with every warning an error, and gives the command that runs it."""
     strict = ["-Wall", "-Wextra", "-Werror", *asked_of(prefix, "--cflags")]
     subprocess.run(["g++", *strict, "-fsyntax-only", "-x", "c++", prefix / "include" / "nebosvar.h"], check=True)
-    if platform.machine() == "x86_64":
-        subprocess.run(["gcc", *strict, source, *asked_of(prefix, "--libs"), "-o", made], check=True)
-        return [made]
-    subprocess.run(["gcc", *strict, "-fsyntax-only", source], check=True)
-    asked = [subprocess.run(["gcc", w], check=True, capture_output=True, text=True).stdout.strip() for w in ("-print-file-name=include", "-dumpmachine")]
-    headers = ["-nostdinc", "-isystem", asked[0], "-isystem", "/usr/include/" + asked[1], "-isystem", "/usr/include"]
-    object_ = made.with_suffix(".o")
-    clang, lld = (program.kit() / "bin" / f for f in ("clang", "ld.lld"))
-    subprocess.run([clang, "--target=x86_64-unknown-linux-gnu", *strict, *headers, "-c", source, "-o", object_], check=True)
-    first, last = (
-        [program.kit() / "lib" / f for f in files]
-        for files in (("Scrt1.o", "crti.o", "crtbeginS.o"), ("libc.so.6", "libc_nonshared.a", "libgcc.a", "crtendS.o", "crtn.o"))
-    )
-    subprocess.run([lld, "-pie", "--dynamic-linker", "/lib64/ld-linux-x86-64.so.2", *first, object_, *asked_of(prefix, "--libs"), *last, "-o", made], check=True)
-    return program.under_the_kit(made)
+    subprocess.run(["gcc", *strict, source, *asked_of(prefix, "--libs"), "-o", made], check=True)
+    return [made]
 
 
 def install(prefix):

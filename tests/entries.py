@@ -87,7 +87,8 @@ def faults(crate, name, source, theorems):
     if sorted(same) != ["%s ≡ %s'" % (v, v) for v in after]:
         yield "%s: not all that the premises tell is the same" % call
     there, here = homes(source), homes(theorems)
-    own = [n for n in here if not there.get(n, "Rattle.std.").startswith("Rattle.std.")]
+    kit = re.compile(r"Rattle\.std\.|mathlib\.|lib\.|Prim\.|native\.")
+    own = [n for n in here if n in there and not (kit.match(there[n]) and kit.match(here[n]))]
     yield from ("%s: %s is not that of the contract" % (call, n) for n in own if here[n] != there[n] and re.search(r"\b%s\b" % n, " ".join(one)))
     if theorem == "in_place":
         value = re.search(r"\bfn %s\(.*?= (\w+)\(\*c," % name, source, re.S)[1]

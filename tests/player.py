@@ -9,7 +9,8 @@ decimal, 1 to 4,096 digits with leading zeros among them, and names of files, of
 could not be told). A module's bytes are its file's whole content. One of these:
 
     usage: player DOWNLOAD ...     on standard error, where the arguments are not as above; no file is opened before that is known
-    no file NAME                   on standard error, for the first file that cannot be read; the name as it was given
+    no file NAME                   on standard error, for the first file that cannot be read; the name as it was given. A name that is no UTF-8
+                                   names no file that can be read: the kit opens files by text
     refused,N                      on standard error, where the call refuses: 10 or 11, once all files were read
     one rotation                   on standard output else: the announcement with that identifier, then each block
 
@@ -139,6 +140,13 @@ def understood(arguments):
     return None if None in head or any(None in m or len(m[2]) > 4096 for m in modules) else (*head, modules)
 
 
+def is_text(name):
+    try:
+        return name.decode() is not None
+    except UnicodeDecodeError:
+        return False
+
+
 def content(folder, name):
     """What the file has; None where it cannot be read."""
     try:
@@ -154,7 +162,7 @@ def printed(arguments, folder):
     if found is None:
         return b"", USAGE
     download, size, identifier, modules = found
-    files = [content(folder, name) for _, _, name in modules]
+    files = [content(folder, name) if is_text(name) else None for _, _, name in modules]
     if None in files:
         return b"", b"no file %s\n" % modules[files.index(None)][2]
     a = Announced(download, size, [Module(n, len(data), v) for (n, v, _), data in zip(modules, files)])
@@ -407,7 +415,8 @@ def good_files():
         b"b": b"buoy",
     }
     for name in [*odd, b"./b", b"folder/../b", b"folder//inner///a"]:
-        yield Input("the file %s" % driftlist.shown(name), "Any name.", given(1, 4, 2, (1, 0, name)), odd, ROTATION)
+        wanted = ROTATION if is_text(name) else b"no file %s\n" % name
+        yield Input("the file %s" % driftlist.shown(name), "Any name that is text.", given(1, 4, 2, (1, 0, name)), odd, wanted)
     every = {b"all": bytes(range(256)), b"ff": b"\xff" * 300, b"zero": bytes(300), b"crlf": b"\r\n\x1a\0" * 9}
     for name in every:
         yield Input("bytes %s" % name.decode(), "Any byte is data.", given(1, 7, 2, (1, 0, name)), every, ROTATION)

@@ -12,7 +12,6 @@ words tell it, what must come out.
 """
 import fcntl
 import os
-import platform
 import random
 import shutil
 import signal
@@ -756,14 +755,13 @@ def check_time(command):
 
 
 def kit():
-    """The kit's compiler and C library for x86-64 and, where the machine is another, its emulator."""
-    return Path(shutil.which("rt")).resolve().parents[1] / "on" / platform.machine() / "toolchain"
+    """The kit's compiler and C library."""
+    return Path(shutil.which("rt")).resolve().parents[1] / "toolchain"
 
 
 def under_the_kit(path):
-    """The command that runs an x86-64 program as rt does: under the kit's loader, and its emulator where the machine is no x86-64."""
-    emulator = kit() / "bin" / "qemu-x86_64"
-    return [emulator] * emulator.exists() + [kit() / "lib" / "ld-linux-x86-64.so.2", "--library-path", kit() / "lib", path]
+    """The command that runs a program under the kit's loader."""
+    return [kit() / "lib" / "ld-linux-x86-64.so.2", "--library-path", kit() / "lib", path]
 
 
 def built():

@@ -11,20 +11,29 @@ import sys
 from pathlib import Path
 
 TYPE = re.compile(r"pub (?:struct|enum|const) (\w+)")
-USE = re.compile(r"(pub )?use [\w:]+::(\w+);")
+USE = re.compile(r"(pub )?use [\w:]+::(\w+|\{[\w, ]+\});")
 MOD = re.compile(r"(?:pub )?mod (\w+);")
 
 
 def without_functions(text):
     lines, kept, within = text.split("\n"), [], False
     for line in lines:
-        if re.match(r'(pub )?(extern "C" )?fn ', line):
+        if re.match(r'(pub )?(extern "C" )?fn |#\[(tactic|unsafe)', line):
             within = True
         if not within and not line.startswith("ghost use"):
             kept.append(line)
         if line == "}":
             within = False
     return kept
+
+
+def reduced(line, types, body):
+    """A line that brings names in, with those that are still needed; nothing where none is."""
+    m = USE.match(line)
+    if not m:
+        return line
+    names = [n for n in re.findall(r"\w+", m[2]) if (n in types if m[1] else re.search(rf"\b{n}\b", body))]
+    return line.replace(m[2], names[0] if len(names) == 1 else "{%s}" % ", ".join(names)) if names else None
 
 
 def reduce(crate):
@@ -36,8 +45,7 @@ def reduce(crate):
             path.unlink()
             continue
         body = "\n".join(line for line in lines if not USE.match(line) and not MOD.match(line))
-        used = lambda m: m[2] in types if m[1] else re.search(rf"\b{m[2]}\b", body)
-        lines = [line for line in lines if not (m := USE.match(line)) or used(m)]
+        lines = [kept for line in lines if (kept := reduced(line, types, body)) is not None]
         path.write_text("\n".join(line for line in lines if not (m := MOD.match(line)) or m[1] in holding))
     for path in (crate / "proofs").iterdir():
         if path.is_dir() and path.name != "Laws":
