@@ -124,27 +124,28 @@ heard-both x z k b r q u v e l (s ∷ ss) n m =
 -- LAST WEEK'S BYTES DON'T MATTER: from two starts with the same announcement and images of one length, whatever bytes and marks were in them before, the same run reads the same
 module _ (x z : Held) (k : ℕ) (start : Emptied x k) (other : Emptied z k) (same : told x ≡ told z) (long : length x.image ≡ length z.image)
     (ss : List (List ℕ)) (keeps : Keeps x k ss) (kept : Keeps z k ss) where
-  heard : (b : ℕ) → (first_data x k ss b ≡ first_data z k ss b) × (came_by x k b ss ≡ came_by z k b ss) × (told (walk x ss) ≡ told (walk z ss)) × (length (walk x ss).image ≡ length (walk z ss).image)
-  heard b = heard-both x z k b (emptied-ruled x k start) (emptied-ruled z k other) start.announces other.announces same long ss keeps kept
-
-  blocks-alike : blocks x k ≡ blocks z k
-  blocks-alike = ap (λ (a : Announced). block_count a (place_of a k)) same
-
-  came-there : (b : ℕ) → Came x k b ss → Came z k b ss
-  came-there b c = (came_means z k b ss).0 (sym (heard b).1 ∙ (came_means x k b ss).1 c)
-
-  came-back : (b : ℕ) → Came z k b ss → Came x k b ss
-  came-back b c = (came_means x k b ss).0 ((heard b).1 ∙ (came_means z k b ss).1 c)
-
-  room : HasRoom (walk x ss) ≡ HasRoom (walk z ss)
-  room = ap₂ (λ (a : Announced) (n : ℕ). bytes_of a ≤ n) (heard 0).2 (heard 0).3
-
-  heard-alike : heard_module x k ss ≡ heard_module z k ss
-  heard-alike = joined_ext (blocks x k) _ _ (λ b l. (heard b).0) ∙ ap (λ (n : ℕ). joined_blocks n (λ b. first_data z k ss b)) blocks-alike
-
   pub old-bytes-never : handed_of (walk x ss) k ≡ handed_of (walk z ss) k
   old-bytes-never = go (eqb (handout_of (walk x ss) k) 0) refl
     where
+      heard : (b : ℕ) → (first_data x k ss b ≡ first_data z k ss b) × (came_by x k b ss ≡ came_by z k b ss) × (told (walk x ss) ≡ told (walk z ss)) × (length (walk x ss).image ≡ length
+          (walk z ss).image)
+      heard b = heard-both x z k b (emptied-ruled x k start) (emptied-ruled z k other) start.announces other.announces same long ss keeps kept
+
+      blocks-alike : blocks x k ≡ blocks z k
+      blocks-alike = ap (λ (a : Announced). block_count a (place_of a k)) same
+
+      came-there : (b : ℕ) → Came x k b ss → Came z k b ss
+      came-there b c = (came_means z k b ss).0 (sym (heard b).1 ∙ (came_means x k b ss).1 c)
+
+      came-back : (b : ℕ) → Came z k b ss → Came x k b ss
+      came-back b c = (came_means x k b ss).0 ((heard b).1 ∙ (came_means z k b ss).1 c)
+
+      room : HasRoom (walk x ss) ≡ HasRoom (walk z ss)
+      room = ap₂ (λ (a : Announced) (n : ℕ). bytes_of a ≤ n) (heard 0).2 (heard 0).3
+
+      heard-alike : heard_module x k ss ≡ heard_module z k ss
+      heard-alike = joined_ext (blocks x k) _ _ (λ b l. (heard b).0) ∙ ap (λ (n : ℕ). joined_blocks n (λ b. first_data z k ss b)) blocks-alike
+
       at_x : (handout_of (walk x ss) k ≡ 0) ↔ (HasRoom (walk x ss) × ((b : ℕ) → b < blocks x k → Came x k b ss))
       at_x = handed_out_lem x k start ss keeps
 

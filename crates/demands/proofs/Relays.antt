@@ -48,8 +48,9 @@ module _ (x : Held) (ruled : ruled_of x.state ≡ true) (s : List ℕ) (formed :
 
   -- the receiver answers the same
   pub stale-taken : (given_of x.state s x.image).fate ≡ fate.Refused (refused 9)
-  unfolding carousel_fate
-  stale-taken = fate-other x.state s x.image (rw formed.table) ∙ ap (λ (a : Stepped). carousel_fate a.answer) stale-refused.0
+  unfolding carousel_fate stepped_of
+  stale-taken =
+      fate-other x.state s x.image (rw formed.table) ∙ ap (λ (a : Stepped). carousel_fate a.answer) (ap (λ (o : StepOutcome). returning x.state o) comes_to_nine)
 
   -- IT IS FOR NO MODULE: demand 3 passes over it
   pub stale_for-none : (k : ℕ) → is_for x k s ≡ false
