@@ -18,7 +18,7 @@ shutil.rmtree(folder, ignore_errors=True)
 subprocess.run(["rt", "check"], cwd=ROOT / "crates" / crate, stdout=subprocess.DEVNULL)
 saved = sorted((p.stat().st_mtime_ns, p.stem) for p in folder.glob("antt-checked*/*.oantt"))
 if not saved:
-    sys.exit("seconds.py: rt dev %s saved no module" % crate)
+    sys.exit("seconds.py: rt check in %s saved no module" % crate)
 took = Counter({name: (time - before) / 1e9 for (before, _), (time, name) in zip(saved, saved[1:])})
 kinds = Counter()
 for name, seconds in took.items():
