@@ -140,8 +140,8 @@ def variants(prefix, told):
 
 
 def matched(path, function):
-    """A function that is a match with a number for each case."""
-    return re.findall(r"\w+::(\w+)[^=]*=> (\d+),", body(path, function))
+    """A function that is a match with a number for each case; of a case within another the inner name, REFUSED for an `Err`."""
+    return [(v or "Refused", n) for v, n in re.findall(r"(?:Err\(\w+\)|\w+::(\w+)\)*) => (\d+),", body(path, function))]
 
 
 def kind_told(path, builder):
@@ -155,7 +155,7 @@ def descriptor_kinds(path):
 
 def item_kinds(path):
     """By what is asked for, which must be what is told."""
-    asked = [(v, k) for k, v in re.findall(r"(\d+) => Asked::Items\(Repeated::(\w+)s\),", body(path, "asked_by"))]
+    asked = [(v, k) for k, v in re.findall(r"(\d+) => Some\(Repeated::(\w+)s\),", body(path, "asked_by"))]
     told = {(v, kind_told(path, f)) for v, f in re.findall(r"Item::(\w+)\(\w+\) => (\w+)\(", body(path, "found_out"))}
     assert set(asked) == told, (asked, told)
     return asked
@@ -194,9 +194,10 @@ def rust_words():
 def source_constants():
     box, numbers = SOURCES[0], SOURCES[1].parent
     receiver = CRATES / "receiver" / "src" / "lib.rt"
-    taken = re.search(r"What::Taken.*\bstop: (\d+)", body(box, "what_out"), re.S)[1]
-    found = re.findall(r"Resolved::(\w+)[^=]*=> LabelOut \{[^}]*found: (\d+)", body(numbers, "label"))
-    assert found[0] == ("Refused", "0")
+    taken = re.search(r"Ok\(section\).*\bstop: (\d+)", body(box, "what_out"), re.S)[1]
+    label = body(numbers, "label")
+    found = [(v or "Unresolved", n) for v, n in re.findall(r"Ok\((?:Some\(Resolved::(\w+)[^=]*|None\)) => LabelOut \{[^}]*found: (\d+)", label)]
+    assert re.search(r"Err\(r\) => LabelOut \{[^}]*\.\.LabelOut::default\(\)\s*\}", label), "what a refused label says of where it was found"
     places = re.findall(r"const (COMMON|NOWHERE): usize = (\w+);", SOURCES[1].read_text())
     assert [name for name, _ in places] == ["COMMON", "NOWHERE"], places
     return [
@@ -208,7 +209,7 @@ def source_constants():
         variants("CONTROL", matched(numbers, "control_number")),
         variants("DESCRIPTOR", descriptor_kinds(numbers)),
         variants("ITEM", item_kinds(numbers)),
-        variants("FOUND", found[1:]),
+        variants("FOUND", found),
         variants("STATE", matched(DRIFT, "state_number")),
         transport_limits("".join(p.read_text() for p in TRANSPORT)),
         variants("FED", matched(PACKETS, "kind_number")),

@@ -2,61 +2,59 @@
 #![tactic(auto)]
 
 ghost use Rattle.std.specs.Prelude.{◌≡◌};
+ghost use Rattle.wire.specs.Outcomes.{passed};
 ghost use Rattle.ait_body.specs.Body.{own_refusal, applications_refusal, body_refusal};
 
-use ait_descriptors::{Kind, Walked, size_of, walk_loop};
+use ait_descriptors::{Kind, size_of, walk_loop};
 
-// 0 where a body is accepted, else 7 or 18.
-pub fn body_refusal(b: &[u8]) -> u8
-    ensures { result ≡ body_refusal b.now }
+// Accepts a body, or refuses it with 7 or 18.
+pub fn body_refusal(b: &[u8]) -> Result<(), u8>
+    ensures { result ≡ passed (body_refusal b.now) }
 {
     let n = wire::twelve_at(b, 0);
     let end = 2 + n;
     let at = 4 + n;
     if at + wire::twelve_at(b, end) != b.len() {
-        return 7;
+        return Err(7);
     }
     match walk_loop(&b[2..end]) {
-        Walked::Malformed => 7,
-        Walked::WellMade(_) => applications_refusal(&b[at..]),
+        None => Err(7),
+        Some(_) => applications_refusal(&b[at..]),
     }
 }
 
 // The same of an application loop alone. A 7 is answered where it is met; an 18 is kept, since a 7 may
 // stand after it.
-fn applications_refusal(s: &[u8]) -> u8
-    ensures { result ≡ applications_refusal s.now }
+fn applications_refusal(s: &[u8]) -> Result<(), u8>
+    ensures { result ≡ passed (applications_refusal s.now) }
 {
-    let mut number: u8 = 0;
+    let mut answer = Ok(());
     let mut i = 0;
-    while i < s.len() {
-        let n = size_of(Kind::Application, &s[i..]);
-        if n == 0 {
-            return 7;
-        }
+    while let Some(n) = size_of(Kind::Application, &s[i..]) {
         let own = i + 9;
         let e = i + n;
-        let k = own_refusal(&s[own..e]);
-        if k == 7 {
-            return 7;
-        }
-        if k == 18 {
-            number = 18;
+        match own_refusal(&s[own..e]) {
+            Err(7) => return Err(7),
+            Err(k) => answer = Err(k),
+            Ok(()) => {}
         }
         i = e;
     }
-    number
+    if i != s.len() {
+        return Err(7);
+    }
+    answer
 }
 
 // The same of one application's own loop.
-fn own_refusal(l: &[u8]) -> u8
-    ensures { result ≡ own_refusal l.now }
+fn own_refusal(l: &[u8]) -> Result<(), u8>
+    ensures { result ≡ passed (own_refusal l.now) }
 {
-    let Walked::WellMade(m) = walk_loop(l) else {
-        return 7;
+    let Some(m) = walk_loop(l) else {
+        return Err(7);
     };
     if m != 1 {
-        return 18;
+        return Err(18);
     }
-    0
+    Ok(())
 }

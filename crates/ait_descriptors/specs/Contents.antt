@@ -1,6 +1,6 @@
 -- Descriptors by their tag, a line for each tag in each definition; what a tag's line says is in its own file, `Tag00` and so on.
 -- "Known contents must be well formed; other tags are kept raw." 01, "The application section".
-use Rattle.std.specs.Prelude.{ℕ, Bool, true, not, cond, ◌&&◌, List, eqb}
+use Rattle.std.specs.Prelude.{Option, Some, None, ℕ, Bool, true, not, cond, ◌&&◌, List, eqb}
 use Rattle.wire.specs.Fields.{byte_at}
 use Rattle.wire.specs.Items.{items, fills, every, number}
 use Rattle.wire.specs.Places.{Finder}
@@ -8,8 +8,6 @@ use Rattle.ait_descriptors.specs.declared.Kind.{Kind}
 use Rattle.ait_descriptors.specs.declared.Kind.TheVariants as kind
 use Rattle.ait_descriptors.specs.declared.Test.{Test}
 use Rattle.ait_descriptors.specs.declared.Test.TheVariants.{Malformed, Tagged, Labelled}
-use Rattle.ait_descriptors.specs.declared.Walked.{Walked}
-use Rattle.ait_descriptors.specs.declared.Walked.TheVariants as walked
 use Rattle.ait_descriptors.specs.declared.Repeated.{Repeated}
 use Rattle.ait_descriptors.specs.declared.Repeated.TheVariants.{Profiles, Labels, Names, Bases, Identifiers}
 use Rattle.ait_descriptors.specs.declared.Raw.{Raw}
@@ -89,8 +87,8 @@ test_of (Tagged t) d = eqb (tag_of d) t
 test_of (Labelled l) d = labelled l d
 
 -- what one walk over a loop finds: where descriptors end exactly with it, each well made, how many of them have the tag 0x00
-unfoldable pub walked_of : List ℕ → Walked
+unfoldable pub walked_of : List ℕ → Option ℕ
 walked_of l =
     cond (fills descriptor l && every well_made (items descriptor l))
-    (walked.WellMade (number (λ d. eqb (tag_of d) 0x00) (items descriptor l)))
-    walked.Malformed
+    (Some (number (λ d. eqb (tag_of d) 0x00) (items descriptor l)))
+    None

@@ -1,10 +1,9 @@
 -- A descriptor, whatever its tag: "tag, length, that many bytes." 01, "The application section". Each tag that is known has a file of its own, `Tag00` and so on.
-use Rattle.std.specs.Prelude.{ℕ, ◌+◌, ◌-◌, cond, List, eqb, length, drop}
-use Rattle.wire.specs.declared.Place.TheVariants.{Nothing}
+use Rattle.std.specs.Prelude.{None, ℕ, ◌+◌, ◌-◌, cond, List, eqb, length, drop}
 use Rattle.wire.specs.Fields.{byte_at}
 use Rattle.wire.specs.Items.{Size, measured}
 use Rattle.wire.specs.Places.{Finder, after}
-use Rattle.ait_descriptors.specs.declared.Span.{Span}
+use Rattle.wire.specs.declared.Span.{Span}
 
 abbrev pub descriptor : Size
 descriptor = measured 2 1
@@ -18,7 +17,7 @@ contents_of d = drop 2 d
 
 -- what follows the first a bytes of a descriptor with the tag t: nothing in any other
 unfoldable pub tagged_rest : (t a : ℕ) → Finder
-tagged_rest t a d = cond (eqb (tag_of d) t) (after a d) Nothing
+tagged_rest t a d = cond (eqb (tag_of d) t) (after a d) None
 
 -- what follows the first h bytes of a thing x that begins at a
 abbrev pub rest_of : (h : ℕ) → List ℕ → ℕ → Span

@@ -1,10 +1,9 @@
 -- The kinds of item that repeat in an application section, a line each. 01, "The application section"; 001, 5.3.4.6, 5.3.5 and 5.3.6.
 -- "'Repeated' means none or more, ending exactly": see wire, `Items`.
 use Rattle.std.specs.Prelude.{ℕ, List}
-use Rattle.wire.specs.declared.Place.{Place}
 use Rattle.wire.specs.Fields.{twelve_at}
 use Rattle.wire.specs.Items.{Size, framed, count}
-use Rattle.wire.specs.Places.{part_at}
+use Rattle.wire.specs.Places.{Place, part_at}
 use Rattle.ait_descriptors.specs.declared.Kind.{Kind}
 use Rattle.ait_descriptors.specs.declared.Kind.TheVariants.{Application, Descriptor, Profile, Label, Name, Base, Extension, Identifier}
 use Rattle.ait_descriptors.specs.Descriptor.{descriptor}

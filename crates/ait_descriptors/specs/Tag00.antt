@@ -1,7 +1,6 @@
 -- 0x00, the application descriptor. 01, "The application section"; 001, 5.3.5.3, table 20:
 -- "profile length P, a multiple of 5; profiles (16, 8, 8, 8 bits); bound flag 1, visibility 2, reserved 5; priority 8; the rest are transport labels"
-use Rattle.std.specs.Prelude.{ℕ, ◌+◌, ◌%◌, Bool, cond, ◌&&◌, List, leb, eqb, length}
-use Rattle.wire.specs.declared.Place.TheVariants.{Nothing}
+use Rattle.std.specs.Prelude.{None, ℕ, ◌+◌, ◌%◌, Bool, cond, ◌&&◌, List, leb, eqb, length}
 use Rattle.wire.specs.Fields.{byte_at, sixteen_at, bits}
 use Rattle.wire.specs.Items.{Size, fixed, count}
 use Rattle.wire.specs.Places.{Finder, bytes, part_at}
@@ -26,7 +25,7 @@ label = fixed 1
 
 -- where they lie in the descriptor: after tag, length, P; then after a byte of flags and the priority
 unfoldable pub profiles_in : Finder
-profiles_in d = cond (eqb (tag_of d) 0x00) (bytes 3 (byte_at d 2) d) Nothing
+profiles_in d = cond (eqb (tag_of d) 0x00) (bytes 3 (byte_at d 2) d) None
 
 unfoldable pub labels_in : Finder
 labels_in d = tagged_rest 0x00 (5 + byte_at d 2) d

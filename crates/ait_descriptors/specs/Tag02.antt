@@ -1,10 +1,9 @@
 -- 0x02, the transport protocol descriptor. 01, "The application section"; 001, 5.3.6, tables 28 to 32: "protocol 16, label 8, selector"
-use Rattle.std.specs.Prelude.{ℕ, ◌+◌, Bool, true, cond, ◌&&◌, List, leb, eqb, length, drop}
-use Rattle.wire.specs.declared.Place.TheVariants.{Nothing}
+use Rattle.std.specs.Prelude.{None, ℕ, ◌+◌, Bool, true, cond, ◌&&◌, List, leb, eqb, length, drop}
 use Rattle.wire.specs.Fields.{byte_at, sixteen_at, bits}
 use Rattle.wire.specs.Items.{Size, measured, items, end_of, fills, count}
 use Rattle.wire.specs.Places.{Finder, after, part_at}
-use Rattle.ait_descriptors.specs.declared.Span.{Span}
+use Rattle.wire.specs.declared.Span.{Span}
 use Rattle.ait_descriptors.specs.declared.tag02.Base.{Base}
 use Rattle.ait_descriptors.specs.declared.tag02.Local.{Local}
 use Rattle.ait_descriptors.specs.declared.tag02.Remote.{Remote}
@@ -55,7 +54,7 @@ good02 c = leb 3 (length c) && selector (protocol_of c) (drop 3 c)
 
 -- where its items lie: after tag, length, protocol 3 and label; "extensions within their base": after base length, base and extension count
 unfoldable pub bases_in : Finder
-bases_in d = cond (eqb (sixteen_at d 2) 3) (tagged_rest 0x02 5 d) Nothing
+bases_in d = cond (eqb (sixteen_at d 2) 3) (tagged_rest 0x02 5 d) None
 
 unfoldable pub extensions_in : Finder
 extensions_in x = after (2 + byte_at x 0) x

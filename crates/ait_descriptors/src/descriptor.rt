@@ -9,8 +9,8 @@ use crate::tag01::*;
 use crate::tag02::*;
 use crate::tag05::*;
 use crate::tag15::described_15;
-use crate::{Described, Item, Kind, Raw, Repeated, Test};
-use wire::{Place, byte_at};
+use crate::{Described, Item, Kind, Raw, Repeated, Span, Test};
+use wire::byte_at;
 
 // Whether the contents that go with a tag are well formed.
 fn is_good(tag: u8, c: &[u8]) -> bool
@@ -51,7 +51,7 @@ fn raw_of(d: &[u8], a: u16) -> Raw
 }
 
 // Where the items of a sort lie in a descriptor; nothing where it has none of that sort.
-pub fn list_in(d: &[u8], what: Repeated) -> Place
+pub fn list_in(d: &[u8], what: Repeated) -> Option<Span>
     ensures { result ≡ list_in what d.now }
 {
     match what {

@@ -1,7 +1,7 @@
-// Items of every kind: the size of the one that a slice begins with, 0 where it begins with no whole
+// Items of every kind: the size of the one that a slice begins with, none where it begins with no whole
 // one; whether items fill a slice, and how many there are.
-ghost use Rattle.std.specs.Prelude.{◌≡◌, cond, ◌+◌, ◌≤◌, leb, length, drop};
-ghost use Rattle.wire.specs.Items.{fills, count};
+ghost use Rattle.std.specs.Prelude.{◌≡◌, cond, ◌+◌, ◌≤◌, ◌<◌, leb, length, drop, IfSome};
+ghost use Rattle.wire.specs.Items.{sized, fills, count};
 ghost use Rattle.ait_descriptors.specs.Kinds.{size_of};
 
 use crate::Kind;
@@ -9,8 +9,8 @@ use crate::tag02_size::base_size;
 
 // One line for each kind: the bytes of its header, and how many more there are, or which byte of
 // the header says it.
-pub fn size_of(kind: Kind, s: &[u8]) -> usize
-    ensures { result ≡ size_of kind s.now }
+pub fn size_of(kind: Kind, s: &[u8]) -> Option<usize>
+    ensures { result ≡ sized (size_of kind s.now) }
 {
     match kind {
         Kind::Application => framed_size(s, 9, wire::twelve_at(s, 7)),
@@ -25,9 +25,9 @@ pub fn size_of(kind: Kind, s: &[u8]) -> usize
 }
 
 // The size of the item at byte i. It ends within the slice.
-pub fn size_at(kind: Kind, s: &[u8], i: usize) -> usize
+pub fn size_at(kind: Kind, s: &[u8], i: usize) -> Option<usize>
     requires { i ≤ length s.now }
-    ensures { (result ≡ size_of kind (drop i s.now)) × (i + result ≤ length s.now) }
+    ensures { (result ≡ sized (size_of kind (drop i s.now))) × IfSome result (λ n. i + n ≤ length s.now) }
 {
     size_of(kind, &s[i..])
 }
@@ -37,14 +37,10 @@ pub fn fills(kind: Kind, s: &[u8]) -> bool
     ensures { result ≡ fills (size_of kind) s.now }
 {
     let mut i = 0;
-    while i < s.len() {
-        let n = size_at(kind, s, i);
-        if n == 0 {
-            return false;
-        }
+    while let Some(n) = size_at(kind, s, i) {
         i += n;
     }
-    true
+    i == s.len()
 }
 
 // How many items a list begins with.
@@ -53,11 +49,7 @@ pub fn count(kind: Kind, s: &[u8]) -> usize
 {
     let mut m: usize = 0;
     let mut i = 0;
-    while i < s.len() {
-        let n = size_at(kind, s, i);
-        if n == 0 {
-            return m;
-        }
+    while let Some(n) = size_at(kind, s, i) {
         m += 1;
         i += n;
     }
@@ -65,14 +57,12 @@ pub fn count(kind: Kind, s: &[u8]) -> usize
 }
 
 // A header of `h` bytes and `m` bytes more, where they are all there.
-fn framed_size(s: &[u8], h: usize, m: usize) -> usize
-    ensures { result ≡ cond (leb (h + m) (length s.now)) (h + m) 0 }
+fn framed_size(s: &[u8], h: usize, m: usize) -> Option<usize>
+    requires { 0 < h }
+    ensures { result ≡ sized (cond (leb (h + m) (length s.now)) (h + m) 0) }
 {
-    if s.len() < h {
-        return 0;
+    if s.len().checked_sub(h)? < m {
+        return None;
     }
-    if s.len() - h < m {
-        return 0;
-    }
-    h + m
+    Some(h + m)
 }

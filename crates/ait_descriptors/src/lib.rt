@@ -26,6 +26,7 @@ pub use tag00::{ApplicationDescriptor, Profile};
 pub use tag01::Name;
 pub use tag02::{Base, Bases, Local, Remote, Selector, extension_of, extensions_in};
 pub use tag05::Identifier;
+pub use wire::Span;
 
 // The kinds of item that repeat.
 #[derive(Clone, Copy)]
@@ -49,14 +50,6 @@ pub enum Test {
     Labelled(u8),
 }
 
-// What one walk over the descriptors of a loop finds: they do not end with it, or one is malformed; or
-// each is well made, and so many have the tag 0x00.
-#[derive(Clone, Copy)]
-pub enum Walked {
-    Malformed,
-    WellMade(usize),
-}
-
 // What is repeated within a descriptor.
 #[derive(Clone, Copy)]
 pub enum Repeated {
@@ -65,13 +58,6 @@ pub enum Repeated {
     Names,
     Bases,
     Identifiers,
-}
-
-// A part of the section that a descriptor lies in.
-#[derive(Clone, Copy)]
-pub struct Span {
-    pub start: usize,
-    pub size: usize,
 }
 
 // A descriptor whose tag is not known.

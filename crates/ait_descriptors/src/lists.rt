@@ -7,67 +7,53 @@ ghost use Rattle.ait_descriptors.specs.Contents.{test_of, walked_of};
 
 use crate::descriptor::meets_at;
 use crate::kinds::size_at;
-use crate::{Kind, Test, Walked};
-use wire::{Hit, Place};
+use crate::{Kind, Span, Test};
 
 // Where item k lies, from 0.
-pub fn item_place(kind: Kind, s: &[u8], k: usize) -> Place
+pub fn item_place(kind: Kind, s: &[u8], k: usize) -> Option<Span>
     ensures { result ≡ item_at (size_of kind) k s.now }
 {
-    let mut left = k;
     let mut i = 0;
-    while i < s.len() {
-        let n = size_at(kind, s, i);
-        if n == 0 {
-            return Place::Nothing;
-        }
-        if left == 0 {
-            return Place::At { start: i, size: n };
-        }
-        i += n;
-        left -= 1;
+    for passed in 0..k {
+        i += size_at(kind, s, i)?;
     }
-    Place::Nothing
+    let size = size_at(kind, s, i)?;
+    Some(Span { start: i, size })
 }
 
-// Whether descriptors end exactly with `l`, each well made, and how many of them have the tag 0x00.
-pub fn walk_loop(l: &[u8]) -> Walked
+// How many descriptors with the tag 0x00 there are, where descriptors end exactly with `l`, each well made.
+pub fn walk_loop(l: &[u8]) -> Option<usize>
     ensures { result ≡ walked_of l.now }
 {
     let mut m: usize = 0;
     let mut i = 0;
-    while i < l.len() {
-        let n = size_at(Kind::Descriptor, l, i);
-        if n == 0 {
-            return Walked::Malformed;
-        }
+    while let Some(n) = size_at(Kind::Descriptor, l, i) {
         if meets_at(Test::Malformed, l, i, n) {
-            return Walked::Malformed;
+            return None;
         }
         if meets_at(Test::Tagged(0x00), l, i, n) {
             m += 1;
         }
         i += n;
     }
-    Walked::WellMade(m)
+    if i != l.len() {
+        return None;
+    }
+    Some(m)
 }
 
 // Which item is the first to meet a test, from 0.
-pub fn find(kind: Kind, test: Test, s: &[u8]) -> Hit
+pub fn find(kind: Kind, test: Test, s: &[u8]) -> Option<usize>
     ensures { result ≡ first (test_of test) (items (size_of kind) s.now) }
 {
     let mut k: usize = 0;
     let mut i = 0;
-    while i < s.len() {
-        let n = size_at(kind, s, i);
-        if n == 0 {
-            return Hit::Missing;
-        }
+    while let Some(n) = size_at(kind, s, i) {
         if meets_at(test, s, i, n) {
-            return Hit::Item(k);
+            return Some(k);
         }
         i += n;
         k += 1;
     }
-    Hit::Missing
+    None
 }

@@ -5,31 +5,27 @@ ghost use Rattle.ait_descriptors.specs.Kinds.{count_at};
 
 use crate::kinds::count;
 use crate::{Kind, Span};
-use wire::{Place, byte_at};
+use wire::byte_at;
 
 // How many items of a kind lie at a place.
-pub fn count_within(s: &[u8], p: Place, kind: Kind) -> usize
+pub fn count_within(s: &[u8], p: Option<Span>, kind: Kind) -> usize
     ensures { result ≡ count_at kind p s.now }
 {
-    let Place::At { start: a, size: n } = p else {
+    let Some(Span { start, size }) = p else {
         return 0;
     };
-    if s.len() < a {
+    let Some(from) = s.get(start..) else {
         return 0;
-    }
-    if s.len() - a < n {
-        return count(kind, &s[a..]);
-    }
-    let e = a + n;
-    count(kind, &s[a..e])
+    };
+    count(kind, &from[..size.min(from.len())])
 }
 
 // What follows the first `at` bytes of a descriptor with a tag.
-pub fn tagged_rest(d: &[u8], tag: u8, at: usize) -> Place
+pub fn tagged_rest(d: &[u8], tag: u8, at: usize) -> Option<Span>
     ensures { result ≡ tagged_rest tag at d.now }
 {
     if byte_at(d, 0) != tag {
-        return Place::Nothing;
+        return None;
     }
     wire::rest(d, at)
 }

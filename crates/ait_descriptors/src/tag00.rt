@@ -3,8 +3,8 @@ ghost use Rattle.std.specs.Prelude.{◌≡◌};
 ghost use Rattle.ait_descriptors.specs.Tag00.{good00, profiles_in, labels_in, profile_of, described00};
 
 use crate::parts::{count_within, tagged_rest};
-use crate::{Described, Kind};
-use wire::{Place, byte_at, eight_at, sixteen_at};
+use crate::{Described, Kind, Span};
+use wire::{byte_at, eight_at, sixteen_at};
 
 #[derive(Clone, Copy)]
 pub struct Profile {
@@ -34,16 +34,16 @@ pub fn is_good00(c: &[u8]) -> bool
     3 + p <= c.len()
 }
 
-pub fn profiles_in(d: &[u8]) -> Place
+pub fn profiles_in(d: &[u8]) -> Option<Span>
     ensures { result ≡ profiles_in d.now }
 {
     if byte_at(d, 0) != 0x00 {
-        return Place::Nothing;
+        return None;
     }
     wire::bytes_at(d, 3, eight_at(d, 2))
 }
 
-pub fn labels_in(d: &[u8]) -> Place
+pub fn labels_in(d: &[u8]) -> Option<Span>
     ensures { result ≡ labels_in d.now }
 {
     tagged_rest(d, 0x00, 5 + eight_at(d, 2))

@@ -5,7 +5,7 @@ ghost use Rattle.ait_descriptors.specs.Tag01.{good01, names_in, name_of, describ
 use crate::kinds::fills;
 use crate::parts::{count_within, rest_of, tagged_rest};
 use crate::{Described, Kind, Span};
-use wire::{Place, byte_at};
+use wire::byte_at;
 
 // A name, and the three bytes of its language.
 #[derive(Clone, Copy)]
@@ -22,7 +22,7 @@ pub fn is_good01(c: &[u8]) -> bool
     fills(Kind::Name, c)
 }
 
-pub fn names_in(d: &[u8]) -> Place
+pub fn names_in(d: &[u8]) -> Option<Span>
     ensures { result ≡ names_in d.now }
 {
     tagged_rest(d, 0x01, 2)

@@ -5,7 +5,7 @@ ghost use Rattle.ait_descriptors.specs.Tag02.{selector1, selector, good02, bases
 use crate::kinds::fills;
 use crate::parts::{count_within, rest_of, tagged_rest};
 use crate::{Described, Kind, Span};
-use wire::{Place, byte_at, eight_at, sixteen_at};
+use wire::{byte_at, eight_at, sixteen_at};
 
 // Protocol 1, a carousel, without a remote connection and with one.
 #[derive(Clone, Copy)]
@@ -72,17 +72,17 @@ fn is_selector1(c: &[u8]) -> bool
     c.len() == 2
 }
 
-pub fn bases_in(d: &[u8]) -> Place
+pub fn bases_in(d: &[u8]) -> Option<Span>
     ensures { result ≡ bases_in d.now }
 {
     if sixteen_at(d, 2) != 3 {
-        return Place::Nothing;
+        return None;
     }
     tagged_rest(d, 0x02, 5)
 }
 
 // The extensions of a base: after its length, its bytes and their count.
-pub fn extensions_in(x: &[u8]) -> Place
+pub fn extensions_in(x: &[u8]) -> Option<Span>
     ensures { result ≡ extensions_in x.now }
 {
     wire::rest(x, 2 + eight_at(x, 0))

@@ -4,8 +4,8 @@ ghost use Rattle.ait_descriptors.specs.Tag05.{good05, identifiers_in, identifier
 
 use crate::kinds::fills;
 use crate::parts::{count_within, tagged_rest};
-use crate::{Described, Kind};
-use wire::{Place, byte_at, sixteen_at, thirty_two_at};
+use crate::{Described, Kind, Span};
+use wire::{byte_at, sixteen_at, thirty_two_at};
 
 #[derive(Clone, Copy)]
 pub struct Identifier {
@@ -20,7 +20,7 @@ pub fn is_good05(c: &[u8]) -> bool
     fills(Kind::Identifier, c)
 }
 
-pub fn identifiers_in(d: &[u8]) -> Place
+pub fn identifiers_in(d: &[u8]) -> Option<Span>
     ensures { result ≡ identifiers_in d.now }
 {
     tagged_rest(d, 0x05, 2)

@@ -2,17 +2,15 @@
 use Prim.Native.Nat.{ℕ, zero, suc, ◌+◌, ◌-◌, ◌*◌, ◌≤◌}
 use mathlib.Core.Path.{◌≡◌, refl, sym, ap, subst, ◌∙◌}
 use mathlib.Core.List.{List, [], ◌∷◌, map}
+use Rattle.std.proofs.Common.{Ok}
 use native.Mathlib.Omega.{arith}
 use lib.ListN.{length, take, drop, length-map, length-append}
-use Rattle.wire.specs.declared.Place.{Place}
-use Rattle.wire.specs.declared.Place.TheVariants.{At}
 use Rattle.wire.specs.Items.{count, items}
-use Rattle.wire.specs.Places.{after, in_part, part_at}
+use Rattle.wire.specs.Places.{Place, At, after, in_part, part_at}
 use Rattle.wire.proofs.Laws.Finders.{after-at}
 use Rattle.wire.proofs.Laws.Loops.{tail}
 use Rattle.wire.proofs.Laws.Parts.{part-at, part-within}
 use Rattle.wire.proofs.Laws.Frames.{framed_kind}
-use Rattle.section.specs.declared.Checked.TheVariants.{Accepted}
 use Rattle.section.specs.Header.{header_of, body_of}
 use Rattle.ait_descriptors.specs.declared.Kind.TheVariants as kind
 use Rattle.ait_descriptors.specs.Kinds.{application, size_of, count_at}
@@ -24,22 +22,17 @@ use Rattle.ait_descriptors.specs.Tag05.{identifier}
 use Rattle.ait_descriptors.proofs.Laws.Kinds.{application_kind, extension_kind, kind_of_lem}
 use Rattle.ait_read.specs.declared.Scope.{Scope}
 use Rattle.ait_read.specs.declared.Scope.TheVariants as scope
-use Rattle.ait_read.specs.declared.ApplicationAnswer.TheVariants as application-answer
-use Rattle.ait_read.specs.declared.DescriptorAnswer.TheVariants as descriptor-answer
 use Rattle.ait_descriptors.specs.declared.Repeated.{Repeated}
 use Rattle.ait_descriptors.specs.declared.Repeated.TheVariants.{Profiles, Labels, Names, Bases, Identifiers}
 use Rattle.ait_descriptors.specs.declared.Item.TheVariants as item
-use Rattle.ait_read.specs.declared.ItemAnswer.TheVariants as item-answer
-use Rattle.ait_read.specs.declared.ExtensionAnswer.TheVariants as extension-answer
-use Rattle.ait_read.specs.declared.steps.Step.TheVariants.{Extensions}
 use Rattle.ait_read.specs.Acceptance.{table_judged}
-use Rattle.ait_read.specs.Places.{common_at, loop_at, application_at, own_at, scope_at, descriptor_at, list_at, repeated_at, extensions_at, extension_at, step_in}
+use Rattle.ait_read.specs.Places.{common_at, loop_at, application_at, own_at, scope_at, descriptor_at, list_at, repeated_at, extensions_at, extension_at}
 use Rattle.ait_descriptors.specs.Contents.{list_in, kind_of, item_of}
 use Rattle.ait_read.specs.Records.{application_of, class_of, control_of}
 use Rattle.ait_read.specs.Answers.{application_answer, descriptor_answer, item_answer, extension_answer, read_table}
 use Rattle.ait_read.proofs.Laws.Exact as reading
 use Rattle.ait_read.proofs.Laws.Acceptance.{located-at}
-use Rattle.ait_read.proofs.Laws.Places.{sound_loop, sound_scope, sound-descriptor, sound-list_at, sound_repeated, sound-extensions, sound-step}
+use Rattle.ait_read.proofs.Laws.Places.{sound_loop, sound_scope, sound-descriptor, sound-list_at, sound_repeated, sound-extensions, sound-extensions_in}
 use Rattle.ait_descriptors.proofs.Laws.Lists.{sound-list}
 use Rattle.ait_read.proofs.Laws.Made.{common_part, loop_part, own_part}
 use Rattle.ait_body.specs.Body.{WellFormed, own_loop}
@@ -116,7 +109,7 @@ module _ (s : List ℕ) (g : GoodTable s) where
   abbrev t : TableValue
   t = g.table
 
-  accepted : table_judged s ≡ Accepted (header_of s)
+  accepted : table_judged s ≡ Ok (header_of s)
   accepted = (reading.accepted-exactly s).1 (good-formed s g)
 
   sized : 12 ≤ length s
@@ -157,12 +150,12 @@ module _ (s : List ℕ) (g : GoodTable s) where
     found = value_found spell_application application application_kind t.applications apart i v e (loop_at s) s (sound_loop s) loop-spelled
 
     -- `application_at` SHOWS THE VALUE
-    pub application-shown : application_answer s i ≡ application-answer.Found (application_shown v)
+    pub application-shown : application_answer s i ≡ Ok (application_shown v)
     unfolding application_answer
     application-shown =
         let f = found in
         rw (sym (located-at s (application_at i s) (header_of s) accepted f.0 (length (spell_application v)) f.1), f.2)
-        (ap application-answer.Found (application-read v its))
+        (ap Ok (application-read v its))
 
     -- its own descriptors, spelled end to end
     own-spelled : part_at (own_at i s) s ≡ spell_all spell_descriptor v.descriptors
@@ -188,12 +181,12 @@ module _ (s : List ℕ) (g : GoodTable s) where
         value_found spell_descriptor descriptor (kind_of_lem kind.Descriptor) ds (loop-items ds q.1) j d e (scope_at o s) s (sound_scope o s) q.0
 
     -- `descriptor_at` SHOWS THE VALUE, its spans counted from where it lies
-    pub descriptor-shown : descriptor_answer s o j ≡ descriptor-answer.Found (descriptor_shown d descriptor-found.0)
+    pub descriptor-shown : descriptor_answer s o j ≡ Ok (descriptor_shown d descriptor-found.0)
     unfolding descriptor_answer
     descriptor-shown =
         let f = descriptor-found in
         rw (sym (located-at s (descriptor_at o j s) (header_of s) accepted f.0 (length (spell_descriptor d)) f.1), f.2)
-        (ap descriptor-answer.Found (descriptor-read d fits-here f.0))
+        (ap Ok (descriptor-read d fits-here f.0))
 
     -- the items of a list that its values spell
     module _ {A : Type 0} (what : Repeated) (spell : A → List ℕ) (vs : List A) (are : items (size_of (kind_of what)) (spell_all spell vs) ≡ map spell vs)
@@ -210,7 +203,7 @@ module _ (s : List ℕ) (g : GoodTable s) where
       unfolding repeated_at
       item-found = value_found spell (size_of (kind_of what)) (kind_of_lem (kind_of what)) vs are k w at (list_at o j what s) s (sound-list_at o j what s) list-spelled
 
-      item-told : item_answer s o j what k ≡ item-answer.Found (item_of what (spell w) item-found.0)
+      item-told : item_answer s o j what k ≡ Ok (item_of what (spell w) item-found.0)
       unfolding item_answer
       item-told =
           let f = item-found in
@@ -221,21 +214,21 @@ module _ (s : List ℕ) (g : GoodTable s) where
 
     -- `item_at` SHOWS THE VALUE: profiles and labels of a 0x00
     module _ (v : Value00) (h : d.contents ≡ of00 v) where
-      pub profile-shown : (k : ℕ) (p : ProfileValue) → ValueAt k v.profiles p → item_answer s o j Profiles k ≡ item-answer.Found (profile_shown p)
+      pub profile-shown : (k : ℕ) (p : ProfileValue) → ValueAt k v.profiles p → item_answer s o j Profiles k ≡ Ok (profile_shown p)
       unfolding size_of kind_of list_in
       profile-shown k p at =
           let g = its-contents (of00 v) h in
           item-told Profiles spell_profile v.profiles (filled-items profile (framed_kind 5 _) (fixed_form 5 (omega arith) profile_form) v.profiles g.1.profiles)
           (profiles-listed d fits-here v h g.0 g.1) k p at
-          ∙ ap item-answer.Found (profile-read p (each_at FitsProfile k v.profiles p g.1.profiles at) _)
+          ∙ ap Ok (profile-read p (each_at FitsProfile k v.profiles p g.1.profiles at) _)
 
-      pub label-shown : (k l : ℕ) → ValueAt k v.labels l → item_answer s o j Labels k ≡ item-answer.Found (item.Label l)
+      pub label-shown : (k l : ℕ) → ValueAt k v.labels l → item_answer s o j Labels k ≡ Ok (item.Label l)
       unfolding size_of kind_of list_in
       label-shown k l at =
           let g = its-contents (of00 v) h in
           item-told Labels alone v.labels (filled-items label (framed_kind 1 _) (fixed_form 1 (omega arith) label_form) v.labels g.1.labels)
           (labels-listed d fits-here v h g.0 g.1) k l at
-          ∙ ap item-answer.Found (label-read l _)
+          ∙ ap Ok (label-read l _)
 
     -- names of a 0x01
     module _ (ns : List NameValue) (h : d.contents ≡ of01 ns) (k : ℕ) (n : NameValue) (at : ValueAt k ns n) where
@@ -248,12 +241,12 @@ module _ (s : List ℕ) (g : GoodTable s) where
           item-found Names spell_name ns (filled-items name (framed_kind 4 _) name_form ns its-names)
           (names-listed d fits-here (its-contents (of01 ns) h).0 ns (ap spell_contents h)) k n at
 
-      pub name-shown : item_answer s o j Names k ≡ item-answer.Found (name_shown n name-found.0)
+      pub name-shown : item_answer s o j Names k ≡ Ok (name_shown n name-found.0)
       unfolding size_of kind_of list_in spell_contents name-found
       name-shown =
           item-told Names spell_name ns (filled-items name (framed_kind 4 _) name_form ns its-names)
           (names-listed d fits-here (its-contents (of01 ns) h).0 ns (ap spell_contents h)) k n at
-          ∙ ap item-answer.Found (name-read n (each_at FitsName k ns n its-names at) _)
+          ∙ ap Ok (name-read n (each_at FitsName k ns n its-names at) _)
 
     -- bases of a 0x02 of protocol 3
     module _ (v : Value02) (h : d.contents ≡ of02 v) (bs : List BaseValue) (i : v.selector ≡ bases bs) (k : ℕ) (b : BaseValue) (at : ValueAt k bs b) where
@@ -266,21 +259,21 @@ module _ (s : List ℕ) (g : GoodTable s) where
           item-found Bases spell_base bs (filled-items base base_kind base_form bs its-bases.1)
           (bases-listed d fits-here v h (its-contents (of02 v) h).0 (its-contents (of02 v) h).1 bs i its-bases.0) k b at
 
-      pub base-shown : item_answer s o j Bases k ≡ item-answer.Found (base_shown b base-found.0)
+      pub base-shown : item_answer s o j Bases k ≡ Ok (base_shown b base-found.0)
       unfolding size_of kind_of list_in base-found
       base-shown =
           item-told Bases spell_base bs (filled-items base base_kind base_form bs its-bases.1)
           (bases-listed d fits-here v h (its-contents (of02 v) h).0 (its-contents (of02 v) h).1 bs i its-bases.0) k b at
-          ∙ ap item-answer.Found (base_read b (each_at FitsBase k bs b its-bases.1 at) _)
+          ∙ ap Ok (base_read b (each_at FitsBase k bs b its-bases.1 at) _)
 
       -- `extension_at` SHOWS THE VALUE
       module _ (m : ℕ) (xs : List ℕ) (in-base : ValueAt m b.extensions xs) where
         extensions-spelled : part_at (extensions_at o j k s) s ≡ spell_all sized8 b.extensions
-        unfolding extensions_at step_in
+        unfolding extensions_at
         extensions-spelled =
             let f = base-found in
             ap (λ (p : Place). part_at (in_part extensions_in p s) s) f.1
-            ∙ part-within extensions_in (sound-step Extensions) s f.0 (length (spell_base b)) (sound_repeated o j Bases k s f.0 (length (spell_base b)) f.1)
+            ∙ part-within extensions_in sound-extensions_in s f.0 (length (spell_base b)) (sound_repeated o j Bases k s f.0 (length (spell_base b)) f.1)
             ∙ rw f.2 (extensions-listed b (each_at FitsBase k bs b its-bases.1 at))
 
         pub extension-found : (c : ℕ) × (extension_at o j k m s ≡ At c (length (sized8 xs))) × (take (length (sized8 xs)) (drop c s) ≡ sized8 xs)
@@ -290,21 +283,21 @@ module _ (s : List ℕ) (g : GoodTable s) where
             (filled-items extension extension_kind extension_form b.extensions (each_at FitsBase k bs b its-bases.1 at).extensions)
             m xs in-base (extensions_at o j k s) s (sound-extensions o j k s) extensions-spelled
 
-        pub extension-shown : extension_answer s o j k m ≡ extension-answer.Found (span (extension-found.0 + 1) (length xs))
+        pub extension-shown : extension_answer s o j k m ≡ Ok (span (extension-found.0 + 1) (length xs))
         unfolding extension_answer
         extension-shown =
             let f = extension-found in
             rw (sym (located-at s (extension_at o j k m s) (header_of s) accepted f.0 (length (sized8 xs)) f.1), f.2)
-            (ap extension-answer.Found (extension-read xs f.0))
+            (ap Ok (extension-read xs f.0))
 
     -- identifiers of a 0x05
     module _ (is : List IdentifierValue) (h : d.contents ≡ of05 is) (k : ℕ) (w : IdentifierValue) (at : ValueAt k is w) where
       abbrev its-identifiers : Each FitsIdentifier is
       its-identifiers = (its-contents (of05 is) h).1
 
-      pub identifier-shown : item_answer s o j Identifiers k ≡ item-answer.Found (identifier_shown w)
+      pub identifier-shown : item_answer s o j Identifiers k ≡ Ok (identifier_shown w)
       unfolding size_of kind_of list_in spell_contents
       identifier-shown =
           item-told Identifiers spell_identifier is (filled-items identifier (framed_kind 7 _) (fixed_form 7 (omega arith) identifier_form) is its-identifiers)
           (identifiers-listed d fits-here (its-contents (of05 is) h).0 is (ap spell_contents h)) k w at
-          ∙ ap item-answer.Found (identifier-read w (each_at FitsIdentifier k is w its-identifiers at) _)
+          ∙ ap Ok (identifier-read w (each_at FitsIdentifier k is w its-identifiers at) _)

@@ -5,13 +5,13 @@ use mathlib.Core.Path.{◌≡◌, refl, sym, ◌∙◌}
 use mathlib.Core.Logic.{◌↔◌}
 use mathlib.Core.Bool.{Bool, true, ◌&&◌}
 use mathlib.Core.List.{List, [], ◌∷◌, map}
+use Rattle.std.proofs.Common.{Ok}
 use lib.ListN.{length, drop}
 use lib.Dec.{eqb}
 use borrow.Author.Tests.{eq-eqb, eqb-true}
 use Rattle.wire.specs.Items.{items, fills, every}
 use Rattle.wire.proofs.Laws.Steps.{every-both}
 use Rattle.wire.proofs.Laws.Tests.{both}
-use Rattle.section.specs.declared.Checked.TheVariants.{Accepted}
 use Rattle.section.specs.Header.{header_of, body_of}
 use Rattle.ait_descriptors.specs.Kinds.{application}
 use Rattle.ait_descriptors.specs.Descriptor.{descriptor}
@@ -147,7 +147,7 @@ module _ (s : List ℕ) (y : Bytes s) where
           record { section = g.section; table = v.0; body = v.1 }
 
   -- ACCEPTED EXACTLY WHEN WELL FORMED
-  pub section-exactly : (table_judged s ≡ Accepted (header_of s)) ↔ GoodTable s
+  pub section-exactly : (table_judged s ≡ Ok (header_of s)) ↔ GoodTable s
   section-exactly =
       let a = reading.accepted-exactly s in
       let g = good-exactly in

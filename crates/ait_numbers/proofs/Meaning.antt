@@ -3,19 +3,17 @@ use Prim.Native.Nat.{ℕ, ◌<◌}
 use mathlib.Core.Path.{◌≡◌, refl, sym, ap, ◌∙◌}
 use mathlib.Core.Bool.{Bool, true, false, cond}
 use mathlib.Core.List.{List}
+use Rattle.std.proofs.Common.{Some, None, Ok}
 use native.Mathlib.Omega.{arith}
 use lib.Dec.{eqb}
 use lib.ListN.{take, drop}
 use borrow.Author.Tests.{eqb-true}
-use Rattle.wire.specs.declared.Place.{Place}
-use Rattle.wire.specs.declared.Place.TheVariants.{At, Nothing}
 use Rattle.wire.specs.Items as wire
 use Rattle.wire.specs.Items.{items_in}
-use Rattle.wire.specs.Places.{in_part, part_at, first, first_from}
+use Rattle.wire.specs.Places.{Place, At, in_part, part_at, first, first_from}
 use Rattle.wire.proofs.Laws.Meaning.{count-few}
 use Rattle.wire.proofs.Laws.Parts.{item-past, part-few}
 use Rattle.section.specs.declared.Header.{Header}
-use Rattle.section.specs.declared.Checked.TheVariants.{Accepted}
 use Rattle.ait_descriptors.specs.Tag15.{described15}
 use Rattle.ait_descriptors.specs.Tag05.{described05}
 use Rattle.ait_descriptors.specs.Tag01.{described01}
@@ -33,14 +31,12 @@ use Rattle.ait_read.specs.Records.{control_of}
 use Rattle.ait_descriptors.specs.Tag00.{described00}
 use Rattle.ait_descriptors.specs.Contents.{described_of, repeated_count, kind_of, list_in}
 use Rattle.ait_descriptors.specs.declared.Item.{Item}
-use Rattle.ait_read.specs.declared.ItemAnswer.TheVariants as items
 use Rattle.ait_read.specs.Labels.{label_at}
 use Rattle.ait_read.specs.Places.{loop_at, application_at, own_at, descriptor_at}
 use Rattle.ait_read.specs.Answers.{application_answer, descriptor_answer, resolve_answer}
 use Rattle.ait_read.proofs.Laws.Acceptance.{sized, judged_has, located-none, located-at}
 use Rattle.ait_read.proofs.Laws.Counts.{item-there, list_count}
 use Rattle.ait_numbers.specs.declared.DescriptorOut.{DescriptorOut}
-use Rattle.ait_numbers.specs.declared.kinds.Asked.TheVariants.{Items}
 use Rattle.ait_numbers.specs.Classes.{control_number}
 use Rattle.ait_numbers.specs.Reading.{application_out, described_out, descriptor_out, asked_by, answer_asked, item_asked, label_out}
 
@@ -72,7 +68,7 @@ number_of repeated.Bases = 5
 number_of repeated.Identifiers = 7
 number_of repeated.Labels = 10
 
-asked : (w : Repeated) → asked_by (number_of w) ≡ Items w
+asked : (w : Repeated) → asked_by (number_of w) ≡ Some w
 unfolding asked_by
 asked repeated.Profiles = refl
 asked repeated.Names = refl
@@ -101,10 +97,10 @@ module _ (x : List ℕ) (a k : ℕ) where
         (never, never),
       ))
 
-module _ (s : List ℕ) (h : Header) (e : table_judged s ≡ Accepted h) where
+module _ (s : List ℕ) (h : Header) (e : table_judged s ≡ Ok h) where
   -- an item below a list's count is found by the list's number
   listed : (o : Scope) (j a n k : ℕ) → descriptor_at o j s ≡ At a n → (w : Repeated) → k < repeated_count w (take n (drop a s))
-      → (y : Item) × (item_asked s o j (number_of w) k ≡ items.Found y)
+      → (y : Item) × (item_asked s o j (number_of w) k ≡ Ok y)
   listed o j a n k f w l =
       let c = list_count s o j w a n f in
       let t = item-there s h e o j w k (rw c l) in
@@ -112,7 +108,7 @@ module _ (s : List ℕ) (h : Header) (e : table_judged s ≡ Accepted h) where
 
   -- what the answer d for a descriptor promises of its items
   abbrev Promised : Scope → (j k : ℕ) → DescriptorOut → Type 0
-  Promised o j k d = (k < d.count → (y : Item) × (item_asked s o j d.kind k ≡ items.Found y)) × (k < d.labels → (y : Item) × (item_asked s o j 10 k ≡ items.Found y))
+  Promised o j k d = (k < d.count → (y : Item) × (item_asked s o j d.kind k ≡ Ok y)) × (k < d.labels → (y : Item) × (item_asked s o j 10 k ≡ Ok y))
 
   -- OF A DESCRIPTOR d the items 0 to d.count - 1 are found by d.kind, and the labels 0 to d.labels - 1 by 10.
   pub items-by_kind : (o : Scope) (j k : ℕ) → Promised o j k (descriptor_out (descriptor_answer s o j))
@@ -120,14 +116,14 @@ module _ (s : List ℕ) (h : Header) (e : table_judged s ≡ Accepted h) where
   items-by_kind o j k = go (descriptor_at o j s) refl
     where
       go : (p : Place) → descriptor_at o j s ≡ p → Promised o j k (descriptor_out (descriptor_answer s o j))
-      go Nothing f = rw (sym (located-none s _ h e f)) (never s 0 k, never s 0 k)
-      go (At a n) f =
-          let c = counted (take n (drop a s)) a k in
-          rw (sym (located-at s _ h e a n f))
-          ((λ l. let w = c.0 l in rw (sym w.1) (listed o j a n k f w.0 w.2)), λ l. listed o j a n k f repeated.Labels (c.1 l))
+      go None f = rw (sym (located-none s _ h e f)) (never s 0 k, never s 0 k)
+      go (Some p) f =
+          let c = counted (take p.size (drop p.start s)) p.start k in
+          rw (sym (located-at s _ h e p.start p.size f))
+          ((λ l. let w = c.0 l in rw (sym w.1) (listed o j p.start p.size k f w.0 w.2)), λ l. listed o j p.start p.size k f repeated.Labels (c.1 l))
 
   -- the common loop's number, asked for as an application's
-  nothing-there : application_at 0xFFFFFFFFFFFFFFFF s ≡ Nothing
+  nothing-there : application_at 0xFFFFFFFFFFFFFFFF s ≡ None
   unfolding application_at
   nothing-there =
       let l = count-few (size_of kind.Application) (part_at (loop_at s) s) in
@@ -140,7 +136,7 @@ module _ (s : List ℕ) (h : Header) (e : table_judged s ≡ Accepted h) where
   unfolding application_answer
   common-is-no-application = rw (sym (located-none s _ h e nothing-there))
 
-  no-label-there : (k : ℕ) → label_at 0xFFFFFFFFFFFFFFFF k s ≡ Nothing
+  no-label-there : (k : ℕ) → label_at 0xFFFFFFFFFFFFFFFF k s ≡ None
   unfolding label_at own_at in_part part_at first first_from wire.items items_in
   no-label-there k = rw nothing-there
 

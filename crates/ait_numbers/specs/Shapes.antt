@@ -1,9 +1,8 @@
 -- Descriptors and items as structs of numbers, whatever their kind. What a kind does not have is 0.
-use Rattle.std.specs.Prelude.{ℕ}
-use Rattle.section.specs.declared.Spot.{Spot}
-use Rattle.section.specs.declared.Spot.TheVariants as spot
+use Rattle.std.specs.Prelude.{Some, None, ℕ}
+use Rattle.section.specs.Refusals.{Spot}
 use Rattle.section.specs.declared.Refusal.{Refusal}
-use Rattle.ait_descriptors.specs.declared.Span.{Span}
+use Rattle.wire.specs.declared.Span.{Span}
 use Rattle.ait_numbers.specs.declared.DescriptorOut.{DescriptorOut}
 use Rattle.ait_numbers.specs.declared.ItemOut.{ItemOut}
 
@@ -12,8 +11,8 @@ abbrev pub nowhere : ℕ
 nowhere = 0xFFFFFFFFFFFFFFFF
 
 unfoldable pub spot_number : Spot → ℕ
-spot_number spot.Nowhere = nowhere
-spot_number (spot.Byte p) = p
+spot_number None = nowhere
+spot_number (Some p) = p
 
 abbrev pub no_descriptor : Refusal → DescriptorOut
 no_descriptor r =

@@ -1,5 +1,5 @@
 -- 0x15 as numbers: kind 8.
-use Rattle.ait_descriptors.specs.declared.Span.{Span}
+use Rattle.wire.specs.declared.Span.{Span}
 use Rattle.ait_numbers.specs.declared.DescriptorOut.{DescriptorOut}
 use Rattle.ait_numbers.specs.Shapes.{placed_by}
 

@@ -11,13 +11,6 @@ use crate::tag15::path_out;
 use crate::{DescriptorOut, ItemOut};
 use ait_descriptors::{Described, Item, Raw, Repeated};
 
-// What a number asks for: items of a sort, or none that there are.
-#[derive(Clone, Copy)]
-pub enum Asked {
-    Items(Repeated),
-    Nothing,
-}
-
 pub fn described_out(d: Described) -> DescriptorOut
     ensures { result ≡ described_out d }
 {
@@ -37,8 +30,7 @@ pub fn described_out(d: Described) -> DescriptorOut
 fn raw_out(x: Raw) -> DescriptorOut
     ensures { result ≡ raw_out x }
 {
-    let contents = x.contents;
-    placed(9, x.tag, 0, 0, contents)
+    placed(9, x.tag, 0, 0, x.contents)
 }
 
 pub fn found_out(x: Item) -> ItemOut
@@ -53,16 +45,16 @@ pub fn found_out(x: Item) -> ItemOut
     }
 }
 
-// An item's kind is its descriptor's; of the two that a 0x00 has, labels are 10.
-pub fn asked_by(kind: u8) -> Asked
+// What a number asks for, if there are such items. An item's kind is its descriptor's; of the two that a 0x00 has, labels are 10.
+pub fn asked_by(kind: u8) -> Option<Repeated>
     ensures { result ≡ asked_by kind }
 {
     match kind {
-        1 => Asked::Items(Repeated::Profiles),
-        2 => Asked::Items(Repeated::Names),
-        5 => Asked::Items(Repeated::Bases),
-        7 => Asked::Items(Repeated::Identifiers),
-        10 => Asked::Items(Repeated::Labels),
-        _ => Asked::Nothing,
+        1 => Some(Repeated::Profiles),
+        2 => Some(Repeated::Names),
+        5 => Some(Repeated::Bases),
+        7 => Some(Repeated::Identifiers),
+        10 => Some(Repeated::Labels),
+        _ => None,
     }
 }

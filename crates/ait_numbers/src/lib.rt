@@ -20,12 +20,11 @@ ghost use Rattle.ait_numbers.specs.Shapes.{spot_number};
 ghost use Rattle.ait_numbers.specs.Reading.{table_out, application_out, descriptor_out, item_asked, item_out, extension_out, label_out, scope_of, no_place};
 
 use crate::classes::{class_number, control_number};
-use crate::kinds::{Asked, asked_by, described_out, found_out};
+use crate::kinds::{asked_by, described_out, found_out};
 use crate::shapes::{no_descriptor, no_item};
-use ait_read::{
-    ApplicationAnswer, DescriptorAnswer, ExtensionAnswer, ItemAnswer, ReadAnswer, Resolved, Scope,
-};
-use section::{Refusal, Spot};
+use ait_descriptors::Item;
+use ait_read::{Resolved, Scope};
+use section::Refusal;
 
 // Stands for the common loop where an application's place is asked for.
 const COMMON: usize = 0xFFFF_FFFF_FFFF_FFFF;
@@ -34,7 +33,7 @@ const COMMON: usize = 0xFFFF_FFFF_FFFF_FFFF;
 pub const NOWHERE: usize = 0xFFFF_FFFF_FFFF_FFFF;
 
 #[repr(C)]
-#[derive(Clone, Copy)]
+#[derive(Clone, Copy, Default)]
 pub struct TableOut {
     pub common: usize,
     pub applications: usize,
@@ -48,7 +47,7 @@ pub struct TableOut {
 }
 
 #[repr(C)]
-#[derive(Clone, Copy)]
+#[derive(Clone, Copy, Default)]
 pub struct ApplicationOut {
     pub descriptors: usize,
     pub refused_at: usize,
@@ -108,7 +107,7 @@ pub struct ItemOut {
 
 // Where a part lies in the bytes that were lent; at and length are 0 on a refusal.
 #[repr(C)]
-#[derive(Clone, Copy)]
+#[derive(Clone, Copy, Default)]
 pub struct PartOut {
     pub at: usize,
     pub length: usize,
@@ -117,7 +116,7 @@ pub struct PartOut {
 }
 
 #[repr(C)]
-#[derive(Clone, Copy)]
+#[derive(Clone, Copy, Default)]
 pub struct LabelOut {
     pub common: usize,
     pub place: usize,
@@ -131,18 +130,12 @@ pub fn table(s: &[u8]) -> TableOut
     ensures { result ≡ table_out (read_answer s.now) }
 {
     match ait_read::read(s) {
-        ReadAnswer::Refused(r) => TableOut {
-            common: 0,
-            applications: 0,
-            test: 0,
-            application_type: 0,
-            version: 0,
-            section: 0,
-            last: 0,
+        Err(r) => TableOut {
             refused_at: place_told(r),
             refusal: r.number,
+            ..TableOut::default()
         },
-        ReadAnswer::Accepted(t) => TableOut {
+        Ok(t) => TableOut {
             common: t.common,
             applications: t.applications,
             test: t.test,
@@ -161,30 +154,21 @@ pub fn application(s: &[u8], i: usize) -> ApplicationOut
     ensures { result ≡ application_out (application_answer s.now i) }
 {
     match ait_read::application_at(s, i) {
-        ApplicationAnswer::Refused(r) => ApplicationOut {
-            descriptors: 0,
-            organisation: 0,
-            number: 0,
-            class_number: 0,
-            code: 0,
-            control: 0,
+        Err(r) => ApplicationOut {
             refused_at: place_told(r),
             refusal: r.number,
+            ..ApplicationOut::default()
         },
-        ApplicationAnswer::Found(x) => {
-            let class = x.class;
-            let control = x.control;
-            ApplicationOut {
-                descriptors: x.descriptors,
-                organisation: x.organisation,
-                number: x.number,
-                class_number: class_number(class),
-                code: x.code,
-                control: control_number(control),
-                refused_at: NOWHERE,
-                refusal: 0,
-            }
-        }
+        Ok(x) => ApplicationOut {
+            descriptors: x.descriptors,
+            organisation: x.organisation,
+            number: x.number,
+            class_number: class_number(x.class),
+            code: x.code,
+            control: control_number(x.control),
+            refused_at: NOWHERE,
+            refusal: 0,
+        },
     }
 }
 
@@ -193,8 +177,8 @@ pub fn descriptor(s: &[u8], i: usize, j: usize) -> DescriptorOut
     ensures { result ≡ descriptor_out (descriptor_answer s.now (scope_of i) j) }
 {
     match ait_read::descriptor_at(s, scope_of(i), j) {
-        DescriptorAnswer::Refused(r) => no_descriptor(r),
-        DescriptorAnswer::Found(d) => described_out(d),
+        Err(r) => no_descriptor(r),
+        Ok(d) => described_out(d),
     }
 }
 
@@ -203,8 +187,8 @@ pub fn item(s: &[u8], i: usize, j: usize, kind: u8, k: usize) -> ItemOut
     ensures { result ≡ item_out (item_asked s.now (scope_of i) j kind k) }
 {
     match item_asked(s, scope_of(i), j, kind, k) {
-        ItemAnswer::Refused(r) => no_item(r),
-        ItemAnswer::Found(x) => found_out(x),
+        Err(r) => no_item(r),
+        Ok(x) => found_out(x),
     }
 }
 
@@ -213,13 +197,12 @@ pub fn extension(s: &[u8], i: usize, j: usize, k: usize, m: usize) -> PartOut
     ensures { result ≡ extension_out (extension_answer s.now (scope_of i) j k m) }
 {
     match ait_read::extension_at(s, scope_of(i), j, k, m) {
-        ExtensionAnswer::Refused(r) => PartOut {
-            at: 0,
-            length: 0,
+        Err(r) => PartOut {
             refused_at: place_told(r),
             refusal: r.number,
+            ..PartOut::default()
         },
-        ExtensionAnswer::Found(x) => PartOut {
+        Ok(x) => PartOut {
             at: x.start,
             length: x.size,
             refused_at: NOWHERE,
@@ -233,28 +216,26 @@ pub fn label(s: &[u8], i: usize, k: usize) -> LabelOut
     ensures { result ≡ label_out (resolve_answer s.now i k) }
 {
     match ait_read::resolve(s, i, k) {
-        Resolved::Refused(r) => LabelOut {
-            common: 0,
-            place: 0,
-            found: 0,
+        Err(r) => LabelOut {
             refused_at: place_told(r),
             refusal: r.number,
+            ..LabelOut::default()
         },
-        Resolved::Own(j) => LabelOut {
+        Ok(Some(Resolved::Own(j))) => LabelOut {
             common: 0,
             place: j,
             found: 1,
             refused_at: NOWHERE,
             refusal: 0,
         },
-        Resolved::Common(n, j) => LabelOut {
+        Ok(Some(Resolved::Common(n, j))) => LabelOut {
             common: n,
             place: j,
             found: 2,
             refused_at: NOWHERE,
             refusal: 0,
         },
-        Resolved::Unresolved => LabelOut {
+        Ok(None) => LabelOut {
             common: 0,
             place: 0,
             found: 3,
@@ -268,18 +249,14 @@ pub fn label(s: &[u8], i: usize, k: usize) -> LabelOut
 fn place_told(refusal: Refusal) -> usize
     ensures { result ≡ spot_number refusal.place }
 {
-    let place = refusal.place;
-    spot_number(place)
+    spot_number(refusal.place)
 }
 
 // And of the place itself.
-pub fn spot_number(place: Spot) -> usize
+pub fn spot_number(place: Option<usize>) -> usize
     ensures { result ≡ spot_number place }
 {
-    match place {
-        Spot::Nowhere => NOWHERE,
-        Spot::Byte(p) => p,
-    }
+    place.unwrap_or(NOWHERE)
 }
 
 fn scope_of(i: usize) -> Scope
@@ -291,24 +268,22 @@ fn scope_of(i: usize) -> Scope
     Scope::Own(i)
 }
 
-fn item_asked(s: &[u8], scope: Scope, j: usize, kind: u8, k: usize) -> ItemAnswer
+fn item_asked(s: &[u8], scope: Scope, j: usize, kind: u8, k: usize) -> Result<Item, Refusal>
     ensures { result ≡ item_asked s.now scope j kind k }
 {
     match asked_by(kind) {
-        Asked::Items(what) => ait_read::item_at(s, scope, j, what, k),
-        Asked::Nothing => no_place(s),
+        Some(what) => ait_read::item_at(s, scope, j, what, k),
+        None => no_place(s),
     }
 }
 
 // No such place, of a section that is accepted.
-fn no_place(s: &[u8]) -> ItemAnswer
+fn no_place(s: &[u8]) -> Result<Item, Refusal>
     ensures { result ≡ no_place (read_answer s.now) }
 {
-    match ait_read::read(s) {
-        ReadAnswer::Refused(r) => ItemAnswer::Refused(r),
-        ReadAnswer::Accepted(_) => ItemAnswer::Refused(Refusal {
-            number: 19,
-            place: Spot::Nowhere,
-        }),
-    }
+    ait_read::read(s)?;
+    Err(Refusal {
+        number: 19,
+        place: None,
+    })
 }

@@ -44,8 +44,7 @@ pub fn bases_out(x: Bases) -> DescriptorOut
 pub fn selector_out(x: Selector) -> DescriptorOut
     ensures { result ≡ selector_out x }
 {
-    let selector = x.selector;
-    placed(6, 0x02, x.protocol, x.label, selector)
+    placed(6, 0x02, x.protocol, x.label, x.selector)
 }
 
 pub fn base_out(b: Base) -> ItemOut

@@ -16,11 +16,10 @@ pub fn identifiers_out(identifiers: usize) -> DescriptorOut
 pub fn identifier_out(i: Identifier) -> ItemOut
     ensures { result ≡ identifier_out i }
 {
-    let class = ait_read::class_of(i.number);
     ItemOut {
         organisation: i.organisation,
         number: i.number,
-        class_number: class_number(class),
+        class_number: class_number(ait_read::class_of(i.number)),
         kind: 7,
         priority: i.priority,
         ..BLANK_ITEM

@@ -3,15 +3,14 @@ use Prim.Native.Nat.{ℕ, ◌+◌, ◌-◌, ◌≤◌}
 use mathlib.Core.Path.{◌≡◌, refl, sym, ap, ◌∙◌}
 use mathlib.Core.Bool.{Bool, true, false, cond}
 use mathlib.Core.List as L
+use Rattle.std.proofs.Common.{Ok, Err}
 use native.Mathlib.Decide.{dec_lt}
 use native.Mathlib.Omega.{arith}
 use lib.Dec.{leb}
 use lib.ListN.{length, take, drop, length-drop, drop_of_length-le}
 use lib.Seq.{length-take-le}
-use Rattle.wire.specs.declared.Place.{Place}
-use Rattle.wire.specs.declared.Place.TheVariants.{At}
 use Rattle.wire.specs.Fields.{byte_at}
-use Rattle.wire.specs.Places.{part_at}
+use Rattle.wire.specs.Places.{Place, At, part_at}
 use Rattle.wire.proofs.Laws.Finders.{part_part}
 use Rattle.wire.proofs.Laws.Loops.{tail}
 use Rattle.wire.proofs.Laws.Parts.{part-at}
@@ -21,12 +20,9 @@ use Rattle.ait_descriptors.specs.Tag05.{described05}
 use Rattle.ait_descriptors.specs.Tag15.{described15}
 use Rattle.ait_descriptors.specs.declared.Repeated.{Repeated}
 use Rattle.ait_descriptors.specs.declared.Repeated.TheVariants.{Profiles, Labels, Names, Bases, Identifiers}
-use Rattle.ait_descriptors.specs.declared.Span.{Span}
+use Rattle.wire.specs.declared.Span.{Span}
 use Rattle.ait_descriptors.specs.declared.Described.{Described}
-use Rattle.ait_read.specs.declared.DescriptorAnswer.TheVariants as descriptor
 use Rattle.ait_descriptors.specs.declared.Item.{Item}
-use Rattle.ait_read.specs.declared.ItemAnswer.TheVariants as found
-use Rattle.ait_read.specs.declared.ExtensionAnswer.TheVariants as extension
 use Rattle.ait_read.specs.Places.{descriptor_at, repeated_at, extension_at}
 use Rattle.ait_descriptors.specs.Descriptor.{rest_of}
 use Rattle.ait_descriptors.specs.Tag01.{name_of, described01}
@@ -38,7 +34,7 @@ use Rattle.ait_read.specs.Handed.{handed, OfDescriptor, OfItem}
 use Rattle.ait_descriptors.proofs.Laws.Records.{cases-02, cases}
 use Rattle.ait_read.proofs.Laws.Places.{sound-descriptor, sound_repeated, sound-extension}
 use Rattle.ait_read.proofs.Laws.Spans.{part-is, whole-base}
-use Rattle.ait_read.proofs.Laws.Located.{found_at, refused-descriptor, refused_item, refused-extension}
+use Rattle.ait_read.proofs.Laws.Located.{found_at, not-found}
 
 no_bytes : (s : L.List ℕ) (start : ℕ) → span_part s start 0 ≡ L.[]
 unfolding span_part
@@ -101,15 +97,15 @@ module _ {A B : Type 0} (bad : Refusal → A) (some : B → A) (differ : (r : Re
 
 -- EVERY SPAN THAT AN ANSWER CARRIES: of a descriptor (path, raw contents, selector), of an item in it (the text of a name, of a base), and an extension
 pub spans-handed : (s : L.List ℕ)
-    → ((o : Scope) (j : ℕ) (x : Described) → descriptor_answer s o j ≡ descriptor.Found x → OfDescriptor s (part_at (descriptor_at o j s) s) x)
-    × ((o : Scope) (j : ℕ) (what : Repeated) (k : ℕ) (x : Item) → item_answer s o j what k ≡ found.Found x → OfItem s (part_at (repeated_at o j what k s) s) x)
-    × ((o : Scope) (j k m : ℕ) (x : Span) → extension_answer s o j k m ≡ extension.Found x → handed s x ≡ drop 1 (part_at (extension_at o j k m s) s))
+    → ((o : Scope) (j : ℕ) (x : Described) → descriptor_answer s o j ≡ Ok x → OfDescriptor s (part_at (descriptor_at o j s) s) x)
+    × ((o : Scope) (j : ℕ) (what : Repeated) (k : ℕ) (x : Item) → item_answer s o j what k ≡ Ok x → OfItem s (part_at (repeated_at o j what k s) s) x)
+    × ((o : Scope) (j k m : ℕ) (x : Span) → extension_answer s o j k m ≡ Ok x → handed s x ≡ drop 1 (part_at (extension_at o j k m s) s))
 unfolding descriptor_answer item_answer extension_answer
 spans-handed s = (
-  λ o j. of-answer descriptor.Refused descriptor.Found refused-descriptor (λ x y e. cc) described_of (OfDescriptor s) s (descriptor_at o j s)
+  λ o j. of-answer Err Ok not-found (λ x y e. cc) described_of (OfDescriptor s) s (descriptor_at o j s)
       (λ a n e. of-descriptor s a n (sound-descriptor o j s a n e)),
-  λ o j what k. of-answer found.Refused found.Found refused_item (λ x y e. cc) (item_of what) (OfItem s) s (repeated_at o j what k s)
+  λ o j what k. of-answer Err Ok not-found (λ x y e. cc) (item_of what) (OfItem s) s (repeated_at o j what k s)
       (λ a n e. of_item s a n (sound_repeated o j what k s a n e) what (λ f. let w = whole-base s o j k a n (rw f at e) in omega arith)),
-  λ o j k m. of-answer extension.Refused extension.Found refused-extension (λ x y e. cc) extension_read (λ d x. handed s x ≡ drop 1 d) s (extension_at o j k m s)
+  λ o j k m. of-answer Err Ok not-found (λ x y e. cc) extension_read (λ d x. handed s x ≡ drop 1 d) s (extension_at o j k m s)
       (λ a n e. of-extension s a n (sound-extension o j k m s a n e)),
 )

@@ -3,6 +3,7 @@ use Prim.Native.Nat.{ℕ, zero, suc, ◌+◌, ◌-◌, ◌≤◌}
 use mathlib.Core.Path.{◌≡◌, refl, ap, ◌∙◌}
 use mathlib.Core.Bool.{true}
 use mathlib.Core.List.{List, [], ◌∷◌, ◌++◌}
+use Rattle.std.proofs.Common.{Ok}
 use native.Mathlib.Omega.{arith}
 use lib.Dec.{lit≤}
 use lib.ListN.{length, take, drop, length-append, length-drop}
@@ -11,7 +12,6 @@ use Rattle.wire.specs.Fields.{field_at, spelled}
 use Rattle.wire.specs.Items.{framed, items, items_in, count, joined, fills, every, number}
 use Rattle.wire.proofs.Laws.Fields.{spelled_length}
 use Rattle.section.specs.declared.Rules.TheVariants.{Application}
-use Rattle.section.specs.declared.Checked.TheVariants.{Accepted}
 use Rattle.section.specs.Crc.{crc_of}
 use Rattle.section.specs.Header.{table_of, syntax_of, length_of, current_of, section_of, last_of, is_table, header_of, body_of}
 use Rattle.section.specs.Refusals.{GoodSection}
@@ -22,7 +22,6 @@ use Rattle.ait_body.specs.Body.{good_loop, sole_loop, own_loop, common_loop, app
 use Rattle.ait_descriptors.specs.Kinds.{application, size_of, count_at}
 use Rattle.ait_descriptors.specs.Descriptor.{descriptor}
 use Rattle.ait_read.specs.declared.Table.{Table}
-use Rattle.ait_read.specs.declared.ReadAnswer.TheVariants as read
 use Rattle.ait_read.specs.declared.Class.TheVariants.{Unsigned, Signed}
 use Rattle.ait_read.specs.declared.Control.TheVariants.{Reserved}
 use Rattle.ait_read.specs.Acceptance.{table_judged, FormedTable}
@@ -72,7 +71,7 @@ body_of_lem f h =
     ap (take (length (whole f) - 12)) (drop-append-le 8 f (spelled 4 (crc_of f)) h) ∙ take_at (drop 8 f) (spelled 4 (crc_of f)) (length (whole f) - 12) m
 
 good-table : (f : List ℕ) → 8 ≤ length f → GoodSection Application (whole f) → WellFormed (drop 8 f)
-    → every (λ a. sole_loop (own_loop a)) (items application (application_loop (drop 8 f))) ≡ true → table_judged (whole f) ≡ Accepted (header_of (whole f))
+    → every (λ a. sole_loop (own_loop a)) (items application (application_loop (drop 8 f))) ≡ true → table_judged (whole f) ≡ Ok (header_of (whole f))
 good-table f h g w o = (accepted-exactly (whole f)).1 (record { section = g; body = rw (body_of_lem f h) w; sole = rw (body_of_lem f h) o })
 
 -- the empty one
@@ -112,9 +111,9 @@ full-sole = refl
 -- THE SOUNDINGS OF THE APPLICATION SECTION
 pub soundings :
     -- "An empty AIT has L = 13", and is accepted
-    (length_of (whole empty_front) ≡ 13) × (table_judged (whole empty_front) ≡ Accepted (header_of (whole empty_front)))
+    (length_of (whole empty_front) ≡ 13) × (table_judged (whole empty_front) ≡ Ok (header_of (whole empty_front)))
     -- "72 applications of the least length, 14 bytes, without common descriptors give L = 1,021", and are accepted
-    × (length least ≡ 14) × (length_of (whole full_front) ≡ 1021) × (table_judged (whole full_front) ≡ Accepted (header_of (whole full_front)))
+    × (length least ≡ 14) × (length_of (whole full_front) ≡ 1021) × (table_judged (whole full_front) ≡ Ok (header_of (whole full_front)))
     -- "Application 0x3FFF unsigned, 0x4000 signed"
     × (class_of 0x3FFF ≡ Unsigned) × (class_of 0x4000 ≡ Signed)
     -- "Control code 5 reserved"
@@ -140,7 +139,7 @@ full-common : count descriptor (common_loop (drop 8 full_front)) ≡ 0
 unfolding leasts field_at framed items items_in count
 full-common = refl
 
-pub seventy-two-read : (t : Table) × (read_answer (whole full_front) ≡ read.Accepted t) × (t.applications ≡ 72) × (t.common ≡ 0)
+pub seventy-two-read : (t : Table) × (read_answer (whole full_front) ≡ Ok t) × (t.applications ≡ 72) × (t.common ≡ 0)
 unfolding read_table count_at size_of
 seventy-two-read =
     let s : List ℕ = whole full_front in

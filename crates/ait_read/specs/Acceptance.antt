@@ -1,13 +1,11 @@
 -- Acceptance of an application section: the common check, then the body. 01, "The application section" and the table of numbers.
-use Rattle.std.specs.Prelude.{ℕ, ◌≡◌, cond, true, List, ◌++◌, eqb}
+use Rattle.std.specs.Prelude.{Ok, Err, ℕ, ◌≡◌, cond, true, List, ◌++◌, eqb}
 use Rattle.section.specs.Header.{body_of}
 use Rattle.wire.specs.Items.{items, every}
 use Rattle.wire.specs.Tests.{Tests}
 use Rattle.section.specs.declared.Rules.TheVariants.{Application}
-use Rattle.section.specs.declared.Checked.{Checked}
-use Rattle.section.specs.declared.Checked.TheVariants.{Refused, Accepted}
 use Rattle.section.specs.Refusals.{section_tests, GoodSection}
-use Rattle.section.specs.Answer.{refused, checked_by, on_checked}
+use Rattle.section.specs.Answer.{Checked, refused, checked_by, on_checked}
 use Rattle.section.specs.Crc.{crc_of}
 use Rattle.ait_descriptors.specs.Kinds.{application}
 use Rattle.ait_body.specs.Body.{application_loop, own_loop, sole_loop, body_tests, body_refusal, WellFormed}
@@ -19,8 +17,8 @@ application_tests s = section_tests Application s ++ body_tests (body_of s)
 -- The section check's refusal as it came; else the body's; else accepted with the header's fields: whatever register is handed in, and by the section's own.
 unfoldable pub table_judged_by : (register : ℕ) → List ℕ → Checked
 table_judged_by g s =
-    on_checked (checked_by g Application s) (λ r. Refused r) (λ h.
-    cond (eqb (body_refusal (body_of s)) 0) (Accepted h) (Refused (refused (body_refusal (body_of s)))))
+    on_checked (checked_by g Application s) (λ r. Err r) (λ h.
+    cond (eqb (body_refusal (body_of s)) 0) (Ok h) (Err (refused (body_refusal (body_of s)))))
 
 abbrev pub table_judged : List ℕ → Checked
 table_judged s = table_judged_by (crc_of s) s

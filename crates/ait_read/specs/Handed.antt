@@ -2,7 +2,7 @@
 use Rattle.std.specs.Prelude.{ℕ, ◌≡◌, take, drop}
 use mathlib.Core.List as L
 use Rattle.wire.specs.Fields.{byte_at}
-use Rattle.ait_descriptors.specs.declared.Span.{Span}
+use Rattle.wire.specs.declared.Span.{Span}
 use Rattle.ait_descriptors.specs.declared.Described.{Described}
 use Rattle.ait_descriptors.specs.declared.Described.TheVariants as described
 use Rattle.ait_descriptors.specs.declared.Item.{Item}

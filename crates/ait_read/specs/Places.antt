@@ -1,6 +1,6 @@
 -- Where things lie in an application section. Bytes count from the section's byte 0, things from 0.
-use Rattle.std.specs.Prelude.{ℕ, ◌+◌}
-use Rattle.wire.specs.Places.{Finder, item_at, after, bytes, inner, within}
+use Rattle.std.specs.Prelude.{None, ℕ, ◌+◌}
+use Rattle.wire.specs.Places.{Place, At, on_place, Finder, item_at, after, bytes, inner, within}
 use Rattle.ait_descriptors.specs.declared.Kind.TheVariants.{Application, Descriptor, Extension}
 use Rattle.ait_descriptors.specs.Kinds.{size_of}
 use Rattle.ait_descriptors.specs.Contents.{list_in, kind_of}
@@ -8,8 +8,6 @@ use Rattle.ait_descriptors.specs.Tag02.{extensions_in}
 use Rattle.ait_body.specs.Body.{common_length}
 use Rattle.ait_read.specs.declared.Scope.{Scope}
 use Rattle.ait_read.specs.declared.Scope.TheVariants as scope
-use Rattle.ait_read.specs.declared.steps.Step.{Step}
-use Rattle.ait_read.specs.declared.steps.Step.TheVariants.{CommonLoop, ApplicationLoop, OwnLoop, List, Extensions, Item}
 use Rattle.ait_descriptors.specs.declared.Repeated.{Repeated}
 use Rattle.ait_descriptors.specs.declared.Repeated.TheVariants.{Bases}
 
@@ -57,11 +55,6 @@ extensions_at o j k s = within (repeated_at o j Bases k) extensions_in s
 unfoldable pub extension_at : Scope → ℕ → ℕ → ℕ → Finder
 extension_at o j k m s = within (extensions_at o j k) (item_at (size_of Extension) m) s
 
--- one step inwards, as the code takes it
-unfoldable pub step_in : Step → Finder
-step_in CommonLoop x = common_in x
-step_in ApplicationLoop x = loop_in x
-step_in OwnLoop x = after 9 x
-step_in (List what) x = list_in what x
-step_in Extensions x = extensions_in x
-step_in (Item kind k) x = item_at (size_of kind) k x
+-- a place within a part that begins at a, as one of the whole
+abbrev pub moved : ℕ → Place → Place
+moved a p = on_place p None (λ b m. At (a + b) m)

@@ -3,49 +3,36 @@ ghost use Rattle.std.specs.Prelude.{◌≡◌};
 ghost use Rattle.ait_read.specs.Acceptance.{table_judged, table_judged_by};
 ghost use Rattle.ait_read.specs.Answers.{located_of};
 
-use crate::Located;
-use section::{Checked, Refusal, Rules, Spot};
-use wire::Place;
+use ait_descriptors::Span;
+use section::{Header, Refusal, Rules};
 
 // The section check's answer as it is, but for a body that 7 or 18 meets.
-pub fn judge(s: &[u8]) -> Checked
+pub fn judge(s: &[u8]) -> Result<Header, Refusal>
     ensures { result ≡ table_judged s.now }
 {
     judge_by(s, crc_tables::crc_of(s))
 }
 
 // The same for whoever has the register already: what `s` leaves, or any other number.
-pub fn judge_by(s: &[u8], register: u32) -> Checked
+pub fn judge_by(s: &[u8], register: u32) -> Result<Header, Refusal>
     ensures { result ≡ table_judged_by register s.now }
 {
-    let checked = section::check_by(s, Rules::Application, register);
-    match checked {
-        Checked::Refused(r) => Checked::Refused(r),
-        Checked::Accepted(h) => {
-            let e = s.len() - 4;
-            let number = ait_body::body_refusal(&s[8..e]);
-            if number != 0 {
-                let place = Spot::Nowhere;
-                return Checked::Refused(Refusal { number, place });
-            }
-            Checked::Accepted(h)
-        }
+    let header = section::check_by(s, Rules::Application, register)?;
+    let e = s.len() - 4;
+    if let Err(number) = ait_body::body_refusal(&s[8..e]) {
+        let place = None;
+        return Err(Refusal { number, place });
     }
+    Ok(header)
 }
 
 // The section's own refusals, then 19.
-pub fn locate(s: &[u8], p: Place) -> Located
+pub fn locate(s: &[u8], p: Option<Span>) -> Result<Span, Refusal>
     ensures { result ≡ located_of s.now p }
 {
-    let judged = judge(s);
-    match judged {
-        Checked::Refused(r) => Located::Refused(r),
-        Checked::Accepted(_) => match p {
-            Place::At { start, size } => Located::At { start, size },
-            Place::Nothing => Located::Refused(Refusal {
-                number: 19,
-                place: Spot::Nowhere,
-            }),
-        },
-    }
+    judge(s)?;
+    p.ok_or(Refusal {
+        number: 19,
+        place: None,
+    })
 }

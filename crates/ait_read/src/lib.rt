@@ -12,13 +12,11 @@ mod classes;
 mod labels;
 mod places;
 mod records;
-mod steps;
 
 ghost use Rattle.std.specs.Prelude.{◌≡◌};
 ghost use Rattle.ait_read.specs.Places.{application_at, descriptor_at, repeated_at, extension_at};
 ghost use Rattle.ait_read.specs.Answers.{read_answer, application_answer, descriptor_answer, item_answer, extension_answer, number_of_read};
-ghost use Rattle.ait_read.specs.Answers.{number_of_application, number_of_descriptor, number_of_item, number_of_extension, read_number, place_number};
-ghost use Rattle.ait_read.specs.Answers.{span_part};
+ghost use Rattle.ait_read.specs.Answers.{read_number, place_number, span_part};
 
 pub use acceptance::judge_by;
 use acceptance::{judge, locate};
@@ -31,7 +29,7 @@ use places::{
     application_place, common_place, descriptor_place, extension_place, loop_place, repeated_place,
 };
 use records::application_of;
-use section::{Checked, Refusal};
+use section::Refusal;
 
 // The class of an application number.
 #[derive(Clone, Copy)]
@@ -82,137 +80,76 @@ pub struct Application {
     pub descriptors: usize,
 }
 
-#[derive(Clone, Copy)]
-pub enum ReadAnswer {
-    Refused(Refusal),
-    Accepted(Table),
-}
-
-#[derive(Clone, Copy)]
-pub enum ApplicationAnswer {
-    Refused(Refusal),
-    Found(Application),
-}
-
-#[derive(Clone, Copy)]
-pub enum DescriptorAnswer {
-    Refused(Refusal),
-    Found(Described),
-}
-
-#[derive(Clone, Copy)]
-pub enum ItemAnswer {
-    Refused(Refusal),
-    Found(Item),
-}
-
-#[derive(Clone, Copy)]
-pub enum ExtensionAnswer {
-    Refused(Refusal),
-    Found(Span),
-}
-
 // Where a label's 0x02 descriptor stands: its place among the application's own descriptors, or
 // among those of a common loop, by the loop's number (0: the section's own).
 #[derive(Clone, Copy)]
 pub enum Resolved {
-    Refused(Refusal),
     Own(usize),
     Common(usize, usize),
-    Unresolved,
-}
-
-// Where a thing lies in the section, if the section is accepted and has it.
-#[derive(Clone, Copy)]
-pub enum Located {
-    Refused(Refusal),
-    At { start: usize, size: usize },
 }
 
 // The header's fields, and how many common descriptors and applications there are.
-pub fn read(s: &[u8]) -> ReadAnswer
+pub fn read(s: &[u8]) -> Result<Table, Refusal>
     ensures { (result ≡ read_answer s.now) × (number_of_read result ≡ read_number s.now) }
 {
-    match judge(s) {
-        Checked::Refused(r) => ReadAnswer::Refused(r),
-        Checked::Accepted(h) => ReadAnswer::Accepted(Table {
-            test: h.extension >> 15,
-            application_type: h.extension & 0x7FFF,
-            version: h.version,
-            section: h.section,
-            last: h.last,
-            common: count_within(s, common_place(s), Kind::Descriptor),
-            applications: count_within(s, loop_place(s), Kind::Application),
-        }),
-    }
+    let h = judge(s)?;
+    Ok(Table {
+        test: h.extension >> 15,
+        application_type: h.extension & 0x7FFF,
+        version: h.version,
+        section: h.section,
+        last: h.last,
+        common: count_within(s, common_place(s), Kind::Descriptor),
+        applications: count_within(s, loop_place(s), Kind::Application),
+    })
 }
 
 // The application at place i.
-pub fn application_at(s: &[u8], i: usize) -> ApplicationAnswer
+pub fn application_at(s: &[u8], i: usize) -> Result<Application, Refusal>
     ensures { (result ≡ application_answer s.now i)
-        × (number_of_application result ≡ place_number s.now (application_at i s.now)) }
+        × (number_of_read result ≡ place_number s.now (application_at i s.now)) }
 {
-    match locate(s, application_place(s, i)) {
-        Located::Refused(r) => ApplicationAnswer::Refused(r),
-        Located::At { start, size } => {
-            let x = part(s, start, size);
-            ApplicationAnswer::Found(application_of(x))
-        }
-    }
+    let at = locate(s, application_place(s, i))?;
+    Ok(application_of(part(s, at)))
 }
 
 // The descriptor at place j of a scope.
-pub fn descriptor_at(s: &[u8], scope: Scope, j: usize) -> DescriptorAnswer
+pub fn descriptor_at(s: &[u8], scope: Scope, j: usize) -> Result<Described, Refusal>
     ensures { (result ≡ descriptor_answer s.now scope j)
-        × (number_of_descriptor result ≡ place_number s.now (descriptor_at scope j s.now)) }
+        × (number_of_read result ≡ place_number s.now (descriptor_at scope j s.now)) }
 {
-    match locate(s, descriptor_place(s, scope, j)) {
-        Located::Refused(r) => DescriptorAnswer::Refused(r),
-        Located::At { start, size } => {
-            let x = part(s, start, size);
-            DescriptorAnswer::Found(describe(x, start as u16))
-        }
-    }
+    let at = locate(s, descriptor_place(s, scope, j))?;
+    Ok(describe(part(s, at), at.start as u16))
 }
 
 // The item at place k of those that repeat in the descriptor at place j of a scope.
-pub fn item_at(s: &[u8], scope: Scope, j: usize, what: Repeated, k: usize) -> ItemAnswer
+pub fn item_at(s: &[u8], scope: Scope, j: usize, what: Repeated, k: usize) -> Result<Item, Refusal>
     ensures { (result ≡ item_answer s.now scope j what k)
-        × (number_of_item result ≡ place_number s.now (repeated_at scope j what k s.now)) }
+        × (number_of_read result ≡ place_number s.now (repeated_at scope j what k s.now)) }
 {
-    match locate(s, repeated_place(s, scope, j, what, k)) {
-        Located::Refused(r) => ItemAnswer::Refused(r),
-        Located::At { start, size } => {
-            let x = part(s, start, size);
-            ItemAnswer::Found(item_of(x, start as u16, what))
-        }
-    }
+    let at = locate(s, repeated_place(s, scope, j, what, k))?;
+    Ok(item_of(part(s, at), at.start as u16, what))
 }
 
 // The extension at place m of the base at place k.
-pub fn extension_at(s: &[u8], scope: Scope, j: usize, k: usize, m: usize) -> ExtensionAnswer
+pub fn extension_at(s: &[u8], scope: Scope, j: usize, k: usize, m: usize) -> Result<Span, Refusal>
     ensures { (result ≡ extension_answer s.now scope j k m)
-        × (number_of_extension result ≡ place_number s.now (extension_at scope j k m s.now)) }
+        × (number_of_read result ≡ place_number s.now (extension_at scope j k m s.now)) }
 {
-    match locate(s, extension_place(s, scope, j, k, m)) {
-        Located::Refused(r) => ExtensionAnswer::Refused(r),
-        Located::At { start, size } => {
-            let x = part(s, start, size);
-            ExtensionAnswer::Found(extension_of(x, start as u16))
-        }
-    }
+    let at = locate(s, extension_place(s, scope, j, k, m))?;
+    Ok(extension_of(part(s, at), at.start as u16))
 }
 
 // The bytes that a span names, as a part of the section; none where it runs past the end.
-pub fn part<'a>(s: &'a [u8], start: usize, size: usize) -> &'a [u8]
-    ensures { result.now ≡ span_part s.now start size }
+pub fn part<'a>(s: &'a [u8], at: Span) -> &'a [u8]
+    ensures { result.now ≡ span_part s.now at.start at.size }
 {
-    if s.len() < size {
+    if s.len() < at.size {
         return &s[..0];
     }
-    if s.len() - size < start {
+    if s.len() - at.size < at.start {
         return &s[..0];
     }
-    let e = start + size;
-    &s[start..e]
+    let e = at.start + at.size;
+    &s[at.start..e]
 }

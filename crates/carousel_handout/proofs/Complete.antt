@@ -14,7 +14,7 @@ use Rattle.wire.proofs.Laws.Tests.{clash}
 use Rattle.wire.proofs.Laws.Order.{none-exactly}
 use Rattle.carousel_messages.specs.Limits.{most_blocks}
 use Rattle.carousel_record.specs.declared.Carousel.{Carousel}
-use Rattle.carousel_handout.specs.declared.Report.TheVariants as report
+use Rattle.std.proofs.Common.{Ok, Err, Some, None}
 use Rattle.carousel_handout.specs.declared.Lack.{Lack}
 use Rattle.carousel_record.specs.Marks.{is_marked, clear_among}
 use Rattle.carousel_record.specs.Record.{Record, record_of, announced_by, module_at, place_of, bytes_of, block_count, received, module_part, missing_of, complete_of, ruled_of}
@@ -96,25 +96,25 @@ module _ (r : Record) (i : ℕ) where
   missing-least b bs e x u f = clear_first r.marks (most_blocks * i) (block_count r.announced i) 0 b bs e x ((missing_means x).1 (u, f))
 
   -- "THE MISSING REPORT gives the number of missing blocks and the lowest missing one, or "none"": none exactly of a complete module
-  pub whole_means : (report_on (missing_of r i) ≡ report.Whole) ↔ (complete_of r i ≡ true)
+  pub whole_means : (report_on (missing_of r i) ≡ Ok None) ↔ (complete_of r i ≡ true)
   unfolding report_on
   whole_means = (λ e. there (missing_of r i) e, λ e. back (missing_of r i) e)
     where
-      there : (l : List ℕ) → report_on l ≡ report.Whole → eqb (length l) 0 ≡ true
+      there : (l : List ℕ) → report_on l ≡ Ok None → eqb (length l) 0 ≡ true
       there [] e = refl
       there (x ∷ xs) e = let z : ◌≡◌ {A = ℕ} 0 1 = cc in absurd (omega arith)
 
-      back : (l : List ℕ) → eqb (length l) 0 ≡ true → report_on l ≡ report.Whole
+      back : (l : List ℕ) → eqb (length l) 0 ≡ true → report_on l ≡ Ok None
       back [] e = refl
       back (x ∷ xs) e = let z = eqb-true (suc (length xs)) 0 e in absurd (omega arith)
 
-  pub lacking_means : (l : Lack) → report_on (missing_of r i) ≡ report.Lacking l
+  pub lacking_means : (l : Lack) → report_on (missing_of r i) ≡ Ok (Some l)
       → (l.count ≡ length (missing_of r i)) × (l.lowest < block_count r.announced i) × (received r i l.lowest ≡ false)
       × ((b : ℕ) → b < block_count r.announced i → received r i b ≡ false → l.lowest ≤ b)
   unfolding report_on
   lacking_means l e = go (missing_of r i) refl e
     where
-      go : (bs : List ℕ) → missing_of r i ≡ bs → report_on bs ≡ report.Lacking l
+      go : (bs : List ℕ) → missing_of r i ≡ bs → report_on bs ≡ Ok (Some l)
           → (l.count ≡ length bs) × (l.lowest < block_count r.announced i) × (received r i l.lowest ≡ false)
           × ((b : ℕ) → b < block_count r.announced i → received r i b ≡ false → l.lowest ≤ b)
       go [] p e = let z : ◌≡◌ {A = ℕ} 0 1 = cc in absurd (omega arith)

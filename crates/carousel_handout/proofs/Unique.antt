@@ -5,17 +5,12 @@ use contract.Lifetimes.{Lfts}
 use borrow.Fn.Kinds.{Dens, res_t, ended_of}
 use denote.Triple.Clauses.{AtExit}
 use Rattle.wire.proofs.Once.{OneAnswer}
-use Rattle.carousel_handout.proofs.handout_number.Kinds as handout-number-kinds
-use Rattle.carousel_handout.proofs.handout_number.Reads as handout-number-reads
 use Rattle.carousel_handout.proofs.handout_place.Kinds as handout-place-kinds
 use Rattle.carousel_handout.proofs.handout_place.Reads as handout-place-reads
 use Rattle.carousel_handout.proofs.handout.Kinds as handout-kinds
 use Rattle.carousel_handout.proofs.handout.Reads as handout-reads
 use Rattle.carousel_handout.proofs.missing.Kinds as missing-kinds
 use Rattle.carousel_handout.proofs.missing.Reads as missing-reads
-
-handout-number : OneAnswer 1 handout-number-kinds.ps handout-number-kinds.r handout-number-reads.Post
-handout-number κs a x y s t p q = p ∙ sym q
 
 handout-place : OneAnswer 1 handout-place-kinds.ps handout-place-kinds.r handout-place-reads.Post
 handout-place κs a x y s t p q = p.0 ∙ sym q.0

@@ -1,11 +1,10 @@
 -- The hand-out and the missing report. 01, "The carousel record", "Numbers a call may answer".
-use Rattle.std.specs.Prelude.{ℕ, suc, ◌+◌, Bool, true, false, not, cond, List, [], ◌∷◌, eqb, length, get_or}
+use Rattle.std.specs.Prelude.{Option, Some, None, Result, Ok, Err, ℕ, suc, ◌+◌, Bool, true, false, not, cond, List, [], ◌∷◌, eqb, length, get_or, take, drop}
 use Rattle.wire.specs.Tests.{Tests, first_met}
+use Rattle.wire.specs.declared.Span.{Span}
+use Rattle.section.specs.declared.Refusal.{Refusal}
 use Rattle.section.specs.Answer.{refused}
 use Rattle.carousel_record.specs.declared.Carousel.{Carousel}
-use Rattle.carousel_handout.specs.declared.Handed.{Handed}
-use Rattle.carousel_handout.specs.declared.Report.{Report}
-use Rattle.carousel_handout.specs.declared.Report.TheVariants as report
 use Rattle.carousel_handout.specs.declared.Lack.{Lack}
 use Rattle.carousel_record.specs.Record.{record_of, announced_by, starts_by, module_at, place_of, complete_of, missing_of, module_part, ruled_of}
 use Rattle.carousel_record.specs.Refusals.{meets13, meets15}
@@ -19,11 +18,24 @@ handout_tests c image number =
 unfoldable pub handout_number : Carousel → List ℕ → (number : ℕ) → ℕ
 handout_number c image number = first_met (handout_tests c image number)
 
--- where in the image that part lies: its start in the record, and its size; nothing, at 0, on a refusal
+-- where in the image that part lies: its start in the record, and its size; or the refusal
+abbrev pub Handed : Type 0
+Handed = Result Span Refusal
+
 unfoldable pub handout_place : Carousel → List ℕ → (number : ℕ) → Handed
 handout_place c image number = cond (eqb (handout_number c image number) 0)
-    (record { number = 0; start = get_or (starts_by c) (place_of (announced_by c) number) 0; size = (module_at (announced_by c) (place_of (announced_by c) number)).size })
-    (record { number = handout_number c image number; start = 0; size = 0 })
+    (Ok (record { start = get_or (starts_by c) (place_of (announced_by c) number) 0; size = (module_at (announced_by c) (place_of (announced_by c) number)).size }))
+    (Err (refused (handout_number c image number)))
+
+-- its number; 0 is no refusal
+abbrev pub number_of_handed : Handed → ℕ
+number_of_handed (Err r) = r.number
+number_of_handed (Ok p) = 0
+
+-- the bytes there, none on a refusal
+abbrev pub lent : Handed → List ℕ → List ℕ
+lent (Ok p) image = take p.size (drop p.start image)
+lent (Err r) image = []
 
 -- "A complete module is handed out as its part of the image. .. where that is a refusal, the part is empty"
 unfoldable pub handed_out : Carousel → List ℕ → (number : ℕ) → List ℕ
@@ -47,17 +59,19 @@ one_more l b true = l
 one_more l b false = record { count = l.count + 1; lowest = b }
 
 -- "The missing report gives the number of missing blocks and the lowest missing one, or "none"."
+abbrev pub Report : Type 0
+Report = Result (Option Lack) Refusal
+
 unfoldable pub report_on : List ℕ → Report
-report_on [] = report.Whole
-report_on (b ∷ bs) = report.Lacking (lack_of (b ∷ bs))
+report_on [] = Ok None
+report_on (b ∷ bs) = Ok (Some (lack_of (b ∷ bs)))
 
 unfoldable pub report_of : Carousel → (number : ℕ) → Report
 report_of c number = cond (eqb (missing_number c number) 0)
     (report_on (missing_of (record_of c) (place_of (announced_by c) number)))
-    (report.Refused (refused (missing_number c number)))
+    (Err (refused (missing_number c number)))
 
 -- the paper's number of a report; 0 is no refusal
 abbrev pub number_of_report : Report → ℕ
-number_of_report (report.Refused r) = r.number
-number_of_report report.Whole = 0
-number_of_report (report.Lacking l) = 0
+number_of_report (Err r) = r.number
+number_of_report (Ok l) = 0

@@ -29,9 +29,7 @@ fn lack_among(words: &[u32], first: usize, n: usize) -> Lack
         count: 0,
         lowest: 0,
     };
-    let mut b = n;
-    while 0 < b {
-        b -= 1;
+    for b in (0..n).rev() {
         let here = is_marked(words, first + b);
         lack = with_block(lack, b, here);
     }

@@ -6,20 +6,16 @@
 
 mod lacks;
 
-ghost use Rattle.std.specs.Prelude.{◌≡◌, ◌+◌, ◌≤◌, length, take, drop};
-ghost use Rattle.carousel_handout.specs.Calls.{handout_number, handout_place, handed_out, missing_number, report_of, number_of_report};
+ghost use Rattle.std.specs.Prelude.{◌≡◌, ◌+◌, ◌≤◌, IfOk, length};
+ghost use Rattle.wire.specs.Outcomes.{answered};
+ghost use Rattle.section.specs.Answer.{refused};
+ghost use Rattle.carousel_record.specs.Record.{announced_by, place_of};
+ghost use Rattle.carousel_handout.specs.Calls.{handout_number, handout_place, lent, handed_out, missing_number, report_of, number_of_report};
 
 use carousel_record::{Carousel, bytes_of, is_ruled, place_of};
 use lacks::lack_of;
-use section::{Refusal, Spot};
-
-// The hand-out's number, and where in the image the module lies.
-#[derive(Clone, Copy)]
-pub struct Handed {
-    pub number: u8,
-    pub start: usize,
-    pub size: usize,
-}
+use section::Refusal;
+use wire::Span;
 
 // How many blocks are missing, and the lowest of them.
 #[derive(Clone, Copy)]
@@ -28,81 +24,79 @@ pub struct Lack {
     pub lowest: usize,
 }
 
-#[derive(Clone, Copy)]
-pub enum Report {
-    Refused(Refusal),
-    Whole,
-    Lacking(Lack),
+// Where in the image the module with this number lies; else 1, 13, 15 or 20.
+pub fn handout_place(c: Carousel, image: &[u8], number: u16) -> Result<Span, Refusal>
+    ensures { (result ≡ handout_place c image.now number)
+        × (IfOk result (λ p. p.start + p.size ≤ length image.now))
+        × (lent result image.now ≡ handed_out c image.now number) }
+{
+    match check_handout(c, image, number) {
+        Err(n) => Err(refusal(n)),
+        Ok(place) => {
+            let ms = c.modules;
+            let m = ms[place];
+            Ok(Span {
+                start: m.start as usize,
+                size: m.size as usize,
+            })
+        }
+    }
 }
 
-// 0 where the module with this number is handed out, else 1, 13, 15 or 20.
-pub fn handout_number(c: Carousel, image: &[u8], number: u16) -> u8
-    ensures { result ≡ handout_number c image.now number }
+// The place of the module with this number, where it is handed out; else 1, 13, 15 or 20.
+fn check_handout(c: Carousel, image: &[u8], number: u16) -> Result<usize, u8>
+    ensures { result ≡ answered (handout_number c image.now number) (place_of (announced_by c) number) }
 {
     if !is_ruled(c) {
-        return 1;
+        return Err(1);
     }
-    let i = place_of(c, number);
-    if c.count as usize <= i {
-        return 13;
-    }
+    let Some(i) = place_of(c, number) else {
+        return Err(13);
+    };
     if image.len() < bytes_of(c) {
-        return 15;
+        return Err(15);
     }
     if lack_of(c, i).count != 0 {
-        return 20;
+        return Err(20);
     }
-    0
-}
-
-// The same number, and where in the image the module lies; nothing, at 0, on a refusal.
-pub fn handout_place(c: Carousel, image: &[u8], number: u16) -> Handed
-    ensures { (result ≡ handout_place c image.now number)
-        × (result.start + result.size ≤ length image.now)
-        × (take result.size (drop result.start image.now) ≡ handed_out c image.now number) }
-{
-    let refusal = handout_number(c, image, number);
-    if refusal != 0 {
-        return Handed {
-            number: refusal,
-            start: 0,
-            size: 0,
-        };
-    }
-    let ms = c.modules;
-    let m = ms[place_of(c, number)];
-    Handed {
-        number: 0,
-        start: m.start as usize,
-        size: m.size as usize,
-    }
+    Ok(i)
 }
 
 // The module's part of the image where it is handed out, else an empty one.
 pub fn handout<'a>(c: Carousel, image: &'a [u8], number: u16) -> &'a [u8]
     ensures { result.now ≡ handed_out c image.now number }
 {
-    let h = handout_place(c, image, number);
-    let at = h.start;
-    let e = at + h.size;
+    let Ok(p) = handout_place(c, image, number) else {
+        return &image[..0];
+    };
+    let at = p.start;
+    let e = at + p.size;
     &image[at..e]
 }
 
-// How many blocks of the module with this number are missing, and the lowest of them.
-pub fn missing(c: Carousel, number: u16) -> Report
+// How many blocks of the module with this number are missing, and the lowest of them; none of a complete one. Else 1 or 13.
+pub fn missing(c: Carousel, number: u16) -> Result<Option<Lack>, Refusal>
     ensures { (result ≡ report_of c number) × (number_of_report result ≡ missing_number c number) }
 {
-    let place = Spot::Nowhere;
     if !is_ruled(c) {
-        return Report::Refused(Refusal { number: 1, place });
+        return Err(refusal(1));
     }
-    let i = place_of(c, number);
-    if c.count as usize <= i {
-        return Report::Refused(Refusal { number: 13, place });
-    }
+    let Some(i) = place_of(c, number) else {
+        return Err(refusal(13));
+    };
     let lack = lack_of(c, i);
     if lack.count == 0 {
-        return Report::Whole;
+        return Ok(None);
     }
-    Report::Lacking(lack)
+    Ok(Some(lack))
+}
+
+// A refusal that has no place.
+fn refusal(number: u8) -> Refusal
+    ensures { result ≡ refused number }
+{
+    Refusal {
+        number,
+        place: None,
+    }
 }

@@ -5,6 +5,7 @@ use mathlib.Core.Logic.{◌↔◌, ◌⊎◌, inl, inr}
 use mathlib.Core.Bool.{Bool, true, false, cond}
 use mathlib.Core.List.{List}
 use native.Mathlib.Omega.{arith}
+use Rattle.std.proofs.Common.{Ok, Err}
 use lib.Dec.{eqb, lit<}
 use borrow.Author.Tests.{eq-eqb, eqb-true, eqb-false}
 use Rattle.wire.specs.Tests.{first_met}
@@ -21,7 +22,7 @@ use Rattle.carousel_messages.specs.declared.CarouselTable.{CarouselTable}
 use Rattle.carousel_messages.specs.declared.CarouselTable.TheVariants.{Announcements, Blocks}
 use Rattle.carousel_messages.specs.declared.Announcement.{Announcement}
 use Rattle.carousel_messages.specs.declared.Block.{Block}
-use Rattle.carousel_messages.specs.declared.Judged.TheVariants as judged
+use Rattle.carousel_messages.specs.declared.Message.TheVariants as message
 use Rattle.carousel_messages.specs.Message.{payload_of}
 use Rattle.carousel_messages.specs.Refusals.{short7, meets8, message_meets7, meets9, meets10, meets11, payload_tests, message_tests, message_refusal}
 use Rattle.carousel_messages.specs.Judged.{announcement_of, block_of, read_of, message_judged, judged_of, number_of_judged, carousel_table_in, carousel_tests}
@@ -148,7 +149,7 @@ module _ (s : List ℕ) where
   unfolding message_judged
   message-number = go (eqb in_message 0) refl
     where
-      go : (t : Bool) → eqb in_message 0 ≡ t → number_of_judged (cond t (read_of (carousel_table_in s) (body_of s)) (judged.Refused (refused in_message))) ≡ in_message
+      go : (t : Bool) → eqb in_message 0 ≡ t → number_of_judged (cond t (read_of (carousel_table_in s) (body_of s)) (Err (refused in_message))) ≡ in_message
       go true e = read_number_lem (carousel_table_in s) (body_of s) ∙ sym (eqb-true _ _ e)
       go false e = refl
 
@@ -204,36 +205,37 @@ module _ (s : List ℕ) where
       back g = judged-number ∙ rw (eq-eqb (refusal_of Carousel s) 0 ((section.good-exactly Carousel s).1 g.0)) ((message-taken _ _ _).1 g.1)
 
   -- AN ANNOUNCEMENT EXACTLY OF ONE TABLE, A BLOCK EXACTLY OF THE OTHER
-  pub announced-exactly : (a : Announcement) → (judged_of s ≡ judged.Announced a) ↔ ((number_of_judged (judged_of s) ≡ 0) × ((carousel_table_in s) ≡ Announcements) × (announcement_of (body_of s) ≡ a))
+  pub announced-exactly : (a : Announcement) → (judged_of s ≡ Ok (message.Announced a)) ↔ ((number_of_judged (judged_of s) ≡ 0) × ((carousel_table_in s) ≡ Announcements) × (announcement_of
+      (body_of s) ≡ a))
   unfolding read_of
   announced-exactly a = (there, back)
     where
-      read : (t : CarouselTable) → read_of t (body_of s) ≡ judged.Announced a → (t ≡ Announcements) × (announcement_of (body_of s) ≡ a)
+      read : (t : CarouselTable) → read_of t (body_of s) ≡ Ok (message.Announced a) → (t ≡ Announcements) × (announcement_of (body_of s) ≡ a)
       read Announcements e = (refl, cc)
       read Blocks e = let z : ◌≡◌ {A = ℕ} 0 1 = cc in absurd (omega arith)
 
-      there : judged_of s ≡ judged.Announced a → (number_of_judged (judged_of s) ≡ 0) × ((carousel_table_in s) ≡ Announcements) × (announcement_of (body_of s) ≡ a)
+      there : judged_of s ≡ Ok (message.Announced a) → (number_of_judged (judged_of s) ≡ 0) × ((carousel_table_in s) ≡ Announcements) × (announcement_of (body_of s) ≡ a)
       there e =
           let z = ap number_of_judged e in
           let q = read (carousel_table_in s) (sym (taken-exactly.0 z) ∙ e) in
           (z, q.0, q.1)
 
-      back : (number_of_judged (judged_of s) ≡ 0) × ((carousel_table_in s) ≡ Announcements) × (announcement_of (body_of s) ≡ a) → judged_of s ≡ judged.Announced a
-      back w = taken-exactly.0 w.0 ∙ ap (λ (t : CarouselTable). read_of t (body_of s)) w.1 ∙ ap judged.Announced w.2
+      back : (number_of_judged (judged_of s) ≡ 0) × ((carousel_table_in s) ≡ Announcements) × (announcement_of (body_of s) ≡ a) → judged_of s ≡ Ok (message.Announced a)
+      back w = taken-exactly.0 w.0 ∙ ap (λ (t : CarouselTable). read_of t (body_of s)) w.1 ∙ ap (λ (a : Announcement). Ok (message.Announced a)) w.2
 
-  pub carried-exactly : (b : Block) → (judged_of s ≡ judged.Carried b) ↔ ((number_of_judged (judged_of s) ≡ 0) × ((carousel_table_in s) ≡ Blocks) × (block_of (body_of s) ≡ b))
+  pub carried-exactly : (b : Block) → (judged_of s ≡ Ok (message.Carried b)) ↔ ((number_of_judged (judged_of s) ≡ 0) × ((carousel_table_in s) ≡ Blocks) × (block_of (body_of s) ≡ b))
   unfolding read_of
   carried-exactly b = (there, back)
     where
-      read : (t : CarouselTable) → read_of t (body_of s) ≡ judged.Carried b → (t ≡ Blocks) × (block_of (body_of s) ≡ b)
+      read : (t : CarouselTable) → read_of t (body_of s) ≡ Ok (message.Carried b) → (t ≡ Blocks) × (block_of (body_of s) ≡ b)
       read Announcements e = let z : ◌≡◌ {A = ℕ} 0 1 = cc in absurd (omega arith)
       read Blocks e = (refl, cc)
 
-      there : judged_of s ≡ judged.Carried b → (number_of_judged (judged_of s) ≡ 0) × ((carousel_table_in s) ≡ Blocks) × (block_of (body_of s) ≡ b)
+      there : judged_of s ≡ Ok (message.Carried b) → (number_of_judged (judged_of s) ≡ 0) × ((carousel_table_in s) ≡ Blocks) × (block_of (body_of s) ≡ b)
       there e =
           let z = ap number_of_judged e in
           let q = read (carousel_table_in s) (sym (taken-exactly.0 z) ∙ e) in
           (z, q.0, q.1)
 
-      back : (number_of_judged (judged_of s) ≡ 0) × ((carousel_table_in s) ≡ Blocks) × (block_of (body_of s) ≡ b) → judged_of s ≡ judged.Carried b
-      back w = taken-exactly.0 w.0 ∙ ap (λ (t : CarouselTable). read_of t (body_of s)) w.1 ∙ ap judged.Carried w.2
+      back : (number_of_judged (judged_of s) ≡ 0) × ((carousel_table_in s) ≡ Blocks) × (block_of (body_of s) ≡ b) → judged_of s ≡ Ok (message.Carried b)
+      back w = taken-exactly.0 w.0 ∙ ap (λ (t : CarouselTable). read_of t (body_of s)) w.1 ∙ ap (λ (b : Block). Ok (message.Carried b)) w.2

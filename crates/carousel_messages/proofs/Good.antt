@@ -6,6 +6,7 @@ use mathlib.Core.Bool.{Bool, true, false, not, cond, ◌&&◌, ◌||◌}
 use mathlib.Core.List.Memᴰ
 use mathlib.Core.List.{List, [], ◌∷◌, Memᴰ}
 use native.Mathlib.Omega.{arith}
+use Rattle.std.proofs.Common.{Ok, Err}
 use lib.Dec.{ltb, leb, eqb}
 use lib.ListN.{length, length-map}
 use borrow.Author.Tests.{ltb-false, leb-true, eqb-true, eqb-false, le-ltb, le-leb, eq-eqb, ne_eqb, not-true, not-false}
@@ -21,14 +22,13 @@ use Rattle.section.specs.Answer.{refused}
 use Rattle.section.proofs.Laws.Exact as section
 use Rattle.carousel_messages.specs.declared.CarouselTable.{CarouselTable}
 use Rattle.carousel_messages.specs.declared.CarouselTable.TheVariants.{Announcements, Blocks}
-use Rattle.carousel_messages.specs.declared.Judged.{Judged}
-use Rattle.carousel_messages.specs.declared.Judged.TheVariants as judged
+use Rattle.carousel_messages.specs.declared.Message.TheVariants as message
 use Rattle.carousel_messages.specs.Message.{message_of, message_identifier_of, adaptation_of, message_length_of, payload_of, wanted_of}
 use Rattle.carousel_messages.specs.Contents.{download_of, block_version_of, block_size_of, modules_start, modules_end, modules_of, module_size_of, announcement_framed, block_module_of}
 use Rattle.carousel_messages.specs.Contents.{block_number_of}
 use Rattle.carousel_messages.specs.Limits.{largest_block, most_modules, most_blocks, most_bytes, bad_size, some_bad, total, beyond10, among, twice11}
 use Rattle.carousel_messages.specs.Refusals.{short7, meets8, message_framed, payload_framed, message_meets7, meets10, meets11, message_tests, message_refusal}
-use Rattle.carousel_messages.specs.Judged.{announcement_of, block_of, message_judged, judged_of, number_of_judged, carousel_table_in}
+use Rattle.carousel_messages.specs.Judged.{Judged, announcement_of, block_of, message_judged, judged_of, number_of_judged, carousel_table_in}
 use Rattle.carousel_messages.specs.declared.Listed.{Listed}
 use Rattle.carousel_messages.specs.Heard.{Announced, Arrived, announced, arrived, announced_in, arrived_in, heard_in, heard_of}
 use Rattle.carousel_messages.proofs.Laws.Limits.{within}
@@ -202,11 +202,11 @@ module _ (s : List ℕ) where
       ∙ ap (λ (t : CarouselTable). message_judged t (header_of s) (body_of s)) e
 
   -- AN ANNOUNCEMENT IS TAKEN EXACTLY WHEN IT IS WELL FORMED, and what is read of it are its fields
-  pub announcement-good : (judged_of s ≡ judged.Announced (announcement_of (body_of s))) ↔ GoodAnnouncement s
+  pub announcement-good : (judged_of s ≡ Ok (message.Announced (announcement_of (body_of s)))) ↔ GoodAnnouncement s
   unfolding payload_framed
   announcement-good = (there, back)
     where
-      there : judged_of s ≡ judged.Announced (announcement_of (body_of s)) → GoodAnnouncement s
+      there : judged_of s ≡ Ok (message.Announced (announcement_of (body_of s))) → GoodAnnouncement s
       there e =
           let w = (announced-exactly s (announcement_of (body_of s))).0 e in
           let g = (good-exactly s).0 w.0 in
@@ -219,7 +219,7 @@ module _ (s : List ℕ) where
             list = list-there (payload_of (body_of s)) f.1 n.1.1.1.0 n.1.1.1.1.0;
           }
 
-      back : GoodAnnouncement s → judged_of s ≡ judged.Announced (announcement_of (body_of s))
+      back : GoodAnnouncement s → judged_of s ≡ Ok (message.Announced (announcement_of (body_of s)))
       back g =
           let m = message-back Announcements (body_of s) g.message in
           let l = list_back (payload_of (body_of s)) g.list in
@@ -244,17 +244,17 @@ module _ (s : List ℕ) where
   own-good b o = record { formed = b; extension = o.0; number = o.1; version = o.2 }
 
   -- A BLOCK IS TAKEN EXACTLY WHEN IT IS WELL FORMED
-  pub block-good : (judged_of s ≡ judged.Carried (block_of (body_of s))) ↔ GoodBlock s
+  pub block-good : (judged_of s ≡ Ok (message.Carried (block_of (body_of s)))) ↔ GoodBlock s
   block-good = (there, back)
     where
-      there : judged_of s ≡ judged.Carried (block_of (body_of s)) → GoodBlock s
+      there : judged_of s ≡ Ok (message.Carried (block_of (body_of s))) → GoodBlock s
       there e =
           let w = (carried-exactly s (block_of (body_of s))).0 e in
           let g = (good-exactly s).0 w.0 in
           let n = subst (λ (t : CarouselTable). None (message_tests t (header_of s) (body_of s))) w.1 g.1 in
           own-good (block-formed g.0 w.1 (n.0, n.1.0, n.1.1.0)) (not_nine _ _ n.1.1.1.0)
 
-      back : GoodBlock s → judged_of s ≡ judged.Carried (block_of (body_of s))
+      back : GoodBlock s → judged_of s ≡ Ok (message.Carried (block_of (body_of s)))
       back g =
           let t = is-blocks g.formed.table in
           let p = block-passed g.formed in
@@ -262,40 +262,40 @@ module _ (s : List ℕ) where
           (carried-exactly s (block_of (body_of s))).1 ((good-exactly s).1 (g.formed.section, subst (λ (t : CarouselTable). None (message_tests t (header_of s) (body_of s))) (sym t) n), t, refl)
 
   -- 9 EXACTLY WHERE A SECTION WITH A BLOCK IN IT IS NOT WELL FORMED: its extension, section number or section version is not its message's
-  pub nine-exactly : (judged_of s ≡ judged.Refused (refused 9)) ↔ (BlockSection s × (GoodBlock s → ⊥))
+  pub nine-exactly : (judged_of s ≡ Err (refused 9)) ↔ (BlockSection s × (GoodBlock s → ⊥))
   nine-exactly = (λ e. (there (nine_of-block s (ap number_of_judged e)), λ g. differ (sym (block-good.1 g) ∙ e)), λ w. back w.0 w.1)
     where
-      differ : judged.Carried (block_of (body_of s)) ≡ judged.Refused (refused 9) → ⊥
+      differ : Ok (message.Carried (block_of (body_of s))) ≡ Err (refused 9) → ⊥
       differ e = let z : ◌≡◌ {A = ℕ} 0 1 = cc in omega arith
 
       there : (refusal_of Carousel s ≡ 0) × (carousel_table_in s ≡ Blocks) × (message_refusal Blocks (header_of s) (body_of s) ≡ 9) → BlockSection s
       there w = block-formed ((section.good-exactly Carousel s).0 w.0) w.1 ((exactly-9 _ _).0 w.2).0
 
-      back : BlockSection s → (GoodBlock s → ⊥) → judged_of s ≡ judged.Refused (refused 9)
+      back : BlockSection s → (GoodBlock s → ⊥) → judged_of s ≡ Err (refused 9)
       back b n =
           let e = (exactly-9 (header_of s) (body_of s)).1 (block-passed b, other_nine _ _ (λ o. n (own-good b o))) in
           judged-by Blocks (is-blocks b.table) b.section
           ∙ sym (judged_bad Blocks (header_of s) (body_of s) (λ z. omega arith))
-          ∙ ap (λ (n : ℕ). judged.Refused (refused n)) e
+          ∙ ap (λ (n : ℕ). Err (refused n)) e
 
   -- an announcement is heard, and a block, of nothing else
-  heard-announced : (x : Announced) → heard_of s ≡ announced x → judged_of s ≡ judged.Announced (announcement_of (body_of s))
+  heard-announced : (x : Announced) → heard_of s ≡ announced x → judged_of s ≡ Ok (message.Announced (announcement_of (body_of s)))
   unfolding heard_of heard_in
   heard-announced x e = go (judged_of s) refl e
     where
-      go : (j : Judged) → judged_of s ≡ j → heard_in s j ≡ announced x → judged_of s ≡ judged.Announced (announcement_of (body_of s))
-      go (judged.Refused r) j e = let z : ◌≡◌ {A = ℕ} 0 1 = cc in absurd (omega arith)
-      go (judged.Announced a) j e = j ∙ ap judged.Announced (sym ((announced-exactly s a).0 j).2)
-      go (judged.Carried b) j e = let z : ◌≡◌ {A = ℕ} 0 1 = cc in absurd (omega arith)
+      go : (j : Judged) → judged_of s ≡ j → heard_in s j ≡ announced x → judged_of s ≡ Ok (message.Announced (announcement_of (body_of s)))
+      go (Err r) j e = let z : ◌≡◌ {A = ℕ} 0 1 = cc in absurd (omega arith)
+      go (Ok (message.Announced a)) j e = j ∙ ap (λ y. Ok (message.Announced y)) (sym ((announced-exactly s a).0 j).2)
+      go (Ok (message.Carried b)) j e = let z : ◌≡◌ {A = ℕ} 0 1 = cc in absurd (omega arith)
 
-  heard-arrived : (x : Arrived) → heard_of s ≡ arrived x → judged_of s ≡ judged.Carried (block_of (body_of s))
+  heard-arrived : (x : Arrived) → heard_of s ≡ arrived x → judged_of s ≡ Ok (message.Carried (block_of (body_of s)))
   unfolding heard_of heard_in
   heard-arrived x e = go (judged_of s) refl e
     where
-      go : (j : Judged) → judged_of s ≡ j → heard_in s j ≡ arrived x → judged_of s ≡ judged.Carried (block_of (body_of s))
-      go (judged.Refused r) j e = let z : ◌≡◌ {A = ℕ} 0 1 = cc in absurd (omega arith)
-      go (judged.Announced a) j e = let z : ◌≡◌ {A = ℕ} 0 1 = cc in absurd (omega arith)
-      go (judged.Carried b) j e = j ∙ ap judged.Carried (sym ((carried-exactly s b).0 j).2)
+      go : (j : Judged) → judged_of s ≡ j → heard_in s j ≡ arrived x → judged_of s ≡ Ok (message.Carried (block_of (body_of s)))
+      go (Err r) j e = let z : ◌≡◌ {A = ℕ} 0 1 = cc in absurd (omega arith)
+      go (Ok (message.Announced a)) j e = let z : ◌≡◌ {A = ℕ} 0 1 = cc in absurd (omega arith)
+      go (Ok (message.Carried b)) j e = j ∙ ap (λ y. Ok (message.Carried y)) (sym ((carried-exactly s b).0 j).2)
 
   -- WHAT IS HEARD OF IT IS WHAT THE TEXT SAYS, field by field
   pub announcement-says : GoodAnnouncement s → heard_of s ≡ announced (said_announcement s)

@@ -3,6 +3,7 @@ use mathlib.Core.Path.{◌≡◌, refl}
 use mathlib.Core.Bool.{true, false}
 use mathlib.Core.List.{List, [], ◌∷◌, ◌++◌}
 use Prim.Native.Nat.{ℕ}
+use Rattle.std.proofs.Common.{Ok, Err}
 use lib.ListN.{replicate}
 use Rattle.wire.specs.Fields.{field_at}
 use Rattle.wire.specs.Tests.{first_met}
@@ -13,7 +14,7 @@ use Rattle.section.specs.Refusals.{meets2, meets3, meets4, meets5, meets6, refus
 use Rattle.section.specs.Answer.{refused, checked_by}
 use Rattle.carousel_messages.specs.declared.Announcement.{Announcement}
 use Rattle.carousel_messages.specs.declared.Block.{Block}
-use Rattle.carousel_messages.specs.declared.Judged.TheVariants.{Refused, Announced, Carried}
+use Rattle.carousel_messages.specs.declared.Message.TheVariants.{Announced, Carried}
 use Rattle.carousel_messages.specs.Judged.{announcement_of, block_of, read_of, message_judged, judged_of, judged_by}
 use Rattle.carousel_messages.specs.declared.CarouselTable.TheVariants.{Announcements, Blocks}
 use Rattle.carousel_messages.specs.Contents.{announcement_framed}
@@ -81,27 +82,27 @@ abbrev pub carrying : (byte5 version : ℕ) → (crc : List ℕ) → List ℕ
 carrying b v crc = block_in 0x1F 0x0A (b ∷ 0x00 ∷ 0x01 ∷ []) v (0x00 ∷ 0x00 ∷ 0x41 ∷ 0x42 ∷ 0x43 ∷ 0x44 ∷ crc)
 
 abbrev pub carried : (version : ℕ) → Block
-carried v = record { download = 1; number = 1; version = v; block = 0; start = 26; size = 4 }
+carried v = record { download = 1; number = 1; version = v; block = 0; part = record { start = 26; size = 4 } }
 
 abbrev pub abcd : List ℕ
 abcd = carrying 0xC1 0 (0xAC ∷ 0x72 ∷ 0x9B ∷ 0x2F ∷ [])
 
 -- what an announcement of download 1 is judged to be, by its block size, the number of its modules and the bytes that they lie in
 abbrev pub announced_as : (block_size count size : ℕ) → Announcement
-announced_as bs n z = record { download = 1; block_size = bs; count = n; start = 40; size = z }
+announced_as bs n z = record { download = 1; block_size = bs; count = n; part = record { start = 40; size = z } }
 
-pub sections : (judged_of announcing ≡ Announced (announced_as 4 1 8))
-    × (judged_of abcd ≡ Carried (carried 0))
+pub sections : (judged_of announcing ≡ Ok (Announced (announced_as 4 1 8)))
+    × (judged_of abcd ≡ Ok (Carried (carried 0)))
 unfolding judged_by message_judged read_of announcement_of block_of crc_of crc_from crc_bits crc_bit checked_by refusal_by meets2 meets3 meets4 meets5 meets6
     message_refusal first_met short7 meets8 message_meets7 message_framed payload_framed announcement_framed framed items_in items end_of meets9 meets10
     beyond10 some_bad total meets11 twice11 among field_at
 sections = (refl, refl)
 
 -- 02 §6: module version 32 under section version 0 passes; 33 under 0 gives 9; 0 under 31 gives 9; 255 under 31 passes
-pub versions : (judged_of (carrying 0xC1 32 (0xF3 ∷ 0x02 ∷ 0xC9 ∷ 0x0E ∷ [])) ≡ Carried (carried 32))
-    × (judged_of (carrying 0xC1 33 (0xA8 ∷ 0xA3 ∷ 0x15 ∷ 0xC4 ∷ [])) ≡ Refused (refused 9))
-    × (judged_of (carrying 0xFF 0 (0x4C ∷ 0xA6 ∷ 0xDE ∷ 0x0E ∷ [])) ≡ Refused (refused 9))
-    × (judged_of (carrying 0xFF 255 (0x2B ∷ 0xC6 ∷ 0x0C ∷ 0x6A ∷ [])) ≡ Carried (carried 255))
+pub versions : (judged_of (carrying 0xC1 32 (0xF3 ∷ 0x02 ∷ 0xC9 ∷ 0x0E ∷ [])) ≡ Ok (Carried (carried 32)))
+    × (judged_of (carrying 0xC1 33 (0xA8 ∷ 0xA3 ∷ 0x15 ∷ 0xC4 ∷ [])) ≡ Err (refused 9))
+    × (judged_of (carrying 0xFF 0 (0x4C ∷ 0xA6 ∷ 0xDE ∷ 0x0E ∷ [])) ≡ Err (refused 9))
+    × (judged_of (carrying 0xFF 255 (0x2B ∷ 0xC6 ∷ 0x0C ∷ 0x6A ∷ [])) ≡ Ok (Carried (carried 255)))
 unfolding judged_by message_judged read_of block_of crc_of crc_from crc_bits crc_bit checked_by refusal_by meets2 meets3 meets4 meets5 meets6
     message_refusal first_met short7 meets8 message_meets7 message_framed payload_framed meets9 field_at
 versions = (refl, refl, refl, refl)
@@ -122,8 +123,8 @@ charts_beyond = announcing_two (0x01 ∷ 0x90 ∷ []) (0x00 ∷ 0x04 ∷ 0x00 �
 abbrev pub wide : List ℕ
 wide = announcing_one (0x00 ∷ 0x41 ∷ []) (0x00 ∷ 0x01 ∷ 0x00 ∷ 0x01 ∷ []) (0xEB ∷ 0xB7 ∷ 0x1C ∷ 0x80 ∷ [])
 
-pub limits : (judged_of chart ≡ Announced (announced_as 1 1 8)) × (judged_of chart_beyond ≡ Refused (refused 10))
-    × (judged_of charts ≡ Announced (announced_as 400 2 16)) × (judged_of charts_beyond ≡ Refused (refused 10)) × (judged_of wide ≡ Announced (announced_as 65 1 8))
+pub limits : (judged_of chart ≡ Ok (Announced (announced_as 1 1 8))) × (judged_of chart_beyond ≡ Err (refused 10))
+    × (judged_of charts ≡ Ok (Announced (announced_as 400 2 16))) × (judged_of charts_beyond ≡ Err (refused 10)) × (judged_of wide ≡ Ok (Announced (announced_as 65 1 8)))
 unfolding judged_by message_judged read_of announcement_of crc_of crc_from crc_bits crc_bit checked_by refusal_by meets2 meets3 meets4 meets5 meets6
     message_refusal first_met short7 meets8 message_meets7 message_framed payload_framed announcement_framed framed items_in items end_of meets10
     beyond10 some_bad total meets11 twice11 among field_at
@@ -140,9 +141,9 @@ abbrev pub wide_block : List ℕ
 wide_block = block_in 0x5C 0x47 (0xC1 ∷ 0x00 ∷ 0xFF ∷ []) 0 (0x00 ∷ 0x00 ∷ (replicate 65 0x41 ++ (0x79 ∷ 0xDF ∷ 0x1B ∷ 0xF5 ∷ [])))
 
 abbrev pub carried_as : (block size : ℕ) → Block
-carried_as b z = record { download = 1; number = 1; version = 0; block = b; start = 26; size = z }
+carried_as b z = record { download = 1; number = 1; version = 0; block = b; part = record { start = 26; size = z } }
 
-pub high : (judged_of block1023 ≡ Carried (carried_as 1023 1)) × (judged_of block1024 ≡ Carried (carried_as 1024 1)) × (judged_of wide_block ≡ Carried (carried_as 0 65))
+pub high : (judged_of block1023 ≡ Ok (Carried (carried_as 1023 1))) × (judged_of block1024 ≡ Ok (Carried (carried_as 1024 1))) × (judged_of wide_block ≡ Ok (Carried (carried_as 0 65)))
 unfolding judged_by message_judged read_of block_of crc_of crc_from crc_bits crc_bit checked_by refusal_by meets2 meets3 meets4 meets5 meets6
     message_refusal first_met short7 meets8 message_meets7 message_framed payload_framed meets9 field_at
 high = (refl, refl, refl)

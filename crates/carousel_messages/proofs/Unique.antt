@@ -25,14 +25,14 @@ judge κs a x y s t p q = p.0 ∙ sym q.0
 module-at : OneAnswer 1 module-at-kinds.ps module-at-kinds.r module-at-reads.Post
 module-at κs a x y s t p q = p ∙ sym q
 
-is-beyond : OneAnswer 0 is-beyond-kinds.ps is-beyond-kinds.r is-beyond-reads.Post
+is-beyond : OneAnswer 1 is-beyond-kinds.ps is-beyond-kinds.r is-beyond-reads.Post
 is-beyond κs a x y s t p q = p ∙ sym q
 
-has-twice : OneAnswer 0 has-twice-kinds.ps has-twice-kinds.r has-twice-reads.Post
+has-twice : OneAnswer 1 has-twice-kinds.ps has-twice-kinds.r has-twice-reads.Post
 has-twice κs a x y s t p q = p ∙ sym q
 
 total : OneAnswer 0 total-kinds.ps total-kinds.r total-reads.Post
 total κs a x y s t p q = p ∙ sym q
 
-place-from : OneAnswer 0 place-from-kinds.ps place-from-kinds.r place-from-reads.Post
+place-from : OneAnswer 1 place-from-kinds.ps place-from-kinds.r place-from-reads.Post
 place-from κs a x y s t p q = p ∙ sym q

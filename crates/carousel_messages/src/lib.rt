@@ -6,20 +6,21 @@
 // an equation for every slice, in specs/Judged.antt.
 #![tactic(auto)]
 
+mod body;
 mod limits;
-mod message;
 mod modules;
 
 ghost use Rattle.std.specs.Prelude.{◌≡◌};
 ghost use Rattle.wire.specs.Tests.{first_met};
 ghost use Rattle.carousel_messages.specs.Judged.{judged_by, judged_of, number_of_judged, carousel_tests};
 
+use body::judge_message;
 pub use limits::{
     LARGEST_BLOCK, MOST_BLOCKS, MOST_BYTES, MOST_MODULES, has_twice, is_beyond, place_from, total,
 };
-use message::judge_message;
 pub use modules::module_at;
-use section::{Checked, Refusal, Rules};
+use section::{Refusal, Rules};
+use wire::Span;
 
 // Which of the carousel's two tables.
 #[derive(Clone, Copy)]
@@ -34,8 +35,7 @@ pub struct Announcement {
     pub download: u32,
     pub block_size: u16,
     pub count: usize,
-    pub start: usize,
-    pub size: usize,
+    pub part: Span,
 }
 
 // A block, and where its data lie in the section.
@@ -45,43 +45,37 @@ pub struct Block {
     pub number: u16,
     pub version: u8,
     pub block: u16,
-    pub start: usize,
-    pub size: usize,
+    pub part: Span,
 }
 
 // A module as it is announced. It has C's layout: programs in C hold it.
 #[repr(C)]
-#[derive(Clone, Copy)]
+#[derive(Clone, Copy, PartialEq, Eq, Default)]
 pub struct Listed {
     pub number: u16,
     pub size: u32,
     pub version: u8,
 }
 
+// What an accepted section says.
 #[derive(Clone, Copy)]
-pub enum Judged {
-    Refused(Refusal),
+pub enum Message {
     Announced(Announcement),
     Carried(Block),
 }
 
 // What a carousel section is, whatever was announced before.
-pub fn judge(s: &[u8]) -> Judged
+pub fn judge(s: &[u8]) -> Result<Message, Refusal>
     ensures { (result ≡ judged_of s.now) × (number_of_judged result ≡ first_met (carousel_tests s.now)) }
 {
     judge_by(s, section::crc(s))
 }
 
 // The same for whoever has the register already: what `s` leaves, or any other number.
-pub fn judge_by(s: &[u8], register: u32) -> Judged
+pub fn judge_by(s: &[u8], register: u32) -> Result<Message, Refusal>
     ensures { result ≡ judged_by register s.now }
 {
-    let checked = section::check_by(s, Rules::Carousel, register);
-    match checked {
-        Checked::Refused(r) => Judged::Refused(r),
-        Checked::Accepted(h) => {
-            let e = s.len() - 4;
-            judge_message(&s[8..e], h)
-        }
-    }
+    let header = section::check_by(s, Rules::Carousel, register)?;
+    let e = s.len() - 4;
+    judge_message(&s[8..e], header)
 }

@@ -1,37 +1,40 @@
 // The payload of an announcement.
-ghost use Rattle.std.specs.Prelude.{◌≡◌, ◌+◌, ◌≤◌, ◌<◌, eqb, length, take};
+ghost use Rattle.std.specs.Prelude.{◌≡◌, ◌+◌, ◌≤◌, ◌<◌, eqb, length, take, slice_get};
 ghost use Rattle.wire.specs.Fields.{sixteen_at};
+ghost use Rattle.wire.specs.Items.{sized};
+ghost use Rattle.wire.specs.Outcomes.{passed};
 ghost use Rattle.carousel_messages.specs.declared.CarouselTable.TheVariants.{Announcements};
 ghost use Rattle.carousel_messages.specs.Contents.{announcement_framed, module_count_of, modules_start, modules_end};
 ghost use Rattle.carousel_messages.specs.Limits.{most_modules};
 ghost use Rattle.carousel_messages.specs.Refusals.{payload_refusal};
-ghost use Rattle.carousel_messages.specs.Heard.{none_listed, list_of, listed_at};
+ghost use Rattle.carousel_messages.specs.Heard.{list_of};
 
 use crate::Listed;
 use crate::limits::{MOST_MODULES, has_twice, is_beyond};
 use section::Header;
 use wire::{byte_at, sixteen_at, thirty_two_at};
 
-// 0 where an announcement's payload is taken, else 7, 10 or 11.
-pub fn announcement_refusal(p: &[u8], h: Header) -> u8
-    ensures { result ≡ payload_refusal Announcements h p.now }
+// 7, 10 or 11 where an announcement's payload is not taken.
+pub fn check_announcement(p: &[u8], h: Header) -> Result<(), u8>
+    ensures { result ≡ passed (payload_refusal Announcements h p.now) }
 {
     if !is_announcement(p) {
-        return 7;
+        return Err(7);
     }
     let count = module_count(p);
     if MOST_MODULES < count {
-        return 10;
+        return Err(10);
     }
     let start = modules_start(p);
     let ms = read_modules(&p[start..], count);
-    if is_beyond(sixteen_at(p, 4), ms, count) {
-        return 10;
+    let modules = &ms[..count];
+    if is_beyond(sixteen_at(p, 4), modules) {
+        return Err(10);
     }
-    if has_twice(ms, count) {
-        return 11;
+    if has_twice(modules) {
+        return Err(11);
     }
-    0
+    Ok(())
 }
 
 // The first modules of a list that has as many, and zeros after them.
@@ -39,45 +42,27 @@ fn read_modules(list: &[u8], count: usize) -> [Listed; MOST_MODULES]
     requires { (count ≤ most_modules) × (count ≤ length (list_of list.now)) }
     ensures { take count result ≡ take count (list_of list.now) }
 {
-    let none = none_listed();
-    let mut ms = [none; MOST_MODULES];
+    let mut ms = [Listed::default(); MOST_MODULES];
     let mut at: usize = 0;
-    let mut i: usize = 0;
-    while i < count {
+    for i in 0..count {
         let from = &list[at..];
-        ms[i] = module_at(from, 0);
-        at += wire::measured_size(from, 8, 7);
-        i += 1;
+        ms[i] = module_at(from, 0).unwrap_or_default();
+        at += wire::measured_size(from, 8, 7).unwrap_or(0);
     }
     ms
 }
 
-// The module at a place of an announcement's modules, `list`; all zero where there is none.
-pub fn module_at(list: &[u8], place: usize) -> Listed
-    ensures { result ≡ listed_at list.now place }
+// The module at a place of an announcement's modules, `list`.
+pub fn module_at(list: &[u8], place: usize) -> Option<Listed>
+    ensures { result ≡ slice_get (list_of list.now) place }
 {
-    if list.len() <= place {
-        return none_listed();
-    }
-    if wire::measured_end(list, 0, place + 1, 8, 7) == 0 {
-        return none_listed();
-    }
-    let i = wire::measured_end(list, 0, place, 8, 7);
-    Listed {
+    let i = wire::measured_end(list, 0, place, 8, 7)?;
+    wire::measured_size(&list[i..], 8, 7)?;
+    Some(Listed {
         number: sixteen_at(list, i),
         size: thirty_two_at(list, i + 2),
         version: byte_at(list, i + 6),
-    }
-}
-
-fn none_listed() -> Listed
-    ensures { result ≡ none_listed }
-{
-    Listed {
-        number: 0,
-        size: 0,
-        version: 0,
-    }
+    })
 }
 
 fn is_announcement(p: &[u8]) -> bool
@@ -86,10 +71,9 @@ fn is_announcement(p: &[u8]) -> bool
     if p.len() < modules_start(p) {
         return false;
     }
-    let e = modules_end(p);
-    if e == 0 {
+    let Some(e) = modules_end(p) else {
         return false;
-    }
+    };
     ends_with_private(p, e)
 }
 
@@ -107,9 +91,9 @@ pub fn module_count(p: &[u8]) -> usize
     sixteen_at(p, modules_start(p) - 2) as usize
 }
 
-// Where the counted modules end, 0 where there are fewer.
-pub fn modules_end(p: &[u8]) -> usize
-    ensures { result ≡ modules_end p.now }
+// Where the counted modules end, if there are as many.
+pub fn modules_end(p: &[u8]) -> Option<usize>
+    ensures { result ≡ sized (modules_end p.now) }
 {
     wire::measured_end(p, modules_start(p), module_count(p), 8, 7)
 }

@@ -2,29 +2,30 @@
 use Prim.Native.Nat.{ℕ, ◌+◌, ◌≤◌, ◌<◌}
 use mathlib.Core.Path.{◌≡◌, refl, sym, ap, ◌∙◌}
 use mathlib.Core.Logic.{◌↔◌, ◌⊎◌, inl, inr}
-use mathlib.Core.Bool.{Bool, true, false, not, cond, ◌||◌}
+use mathlib.Core.Bool.{Bool, true, false, not, ◌||◌}
 use mathlib.Core.List.{List, [], ◌∷◌, ◌++◌}
 use native.Mathlib.Omega.{arith}
-use lib.Dec.{ltb, eqb}
+use lib.Dec.{ltb}
 use lib.ListN.{length, drop, length-map, length-take}
-use borrow.Author.Tests.{lt-ltb, le-ltb, ltb-true, ltb-false, eq-eqb, ne_eqb, eqb-true, not-true, not-false}
+use borrow.Author.Tests.{lt-ltb, le-ltb, ltb-true, ltb-false, eq-eqb, ne_eqb, not-true, not-false}
 use Rattle.wire.specs.Tests.{Tests, holds, RisingFrom}
 use Rattle.wire.proofs.Laws.Tests.{neither, lowest_met}
 use Rattle.wire.proofs.Laws.Order.{None, none-exactly, nth-exactly, unmet}
+use Rattle.wire.specs.Outcomes.{answered}
+use Rattle.wire.proofs.Laws.Outcomes.{is_refused, not_refused}
 use Rattle.carousel_messages.specs.Limits.{most_modules, beyond10, twice11}
 use Rattle.carousel_messages.specs.Heard.{Announced, sizes_of, numbers_of}
 use Rattle.carousel_messages.proofs.Good.{ten-exactly as ten-facts, distinct-there, distinct-back}
 use Rattle.carousel_record.specs.Record.{module_at, bytes_of, block_count}
 use Rattle.carousel_record.specs.Refusals.{meets15}
 use Rattle.carousel_play.specs.declared.Playlist.{Playlist}
-use Rattle.carousel_play.specs.declared.Counted.TheVariants as counted
-use Rattle.carousel_play.specs.declared.Played.TheVariants as played
 use Rattle.carousel_play.specs.Bytes.{announcement_bytes}
 use Rattle.carousel_play.specs.Rotation.{blocks_to, section_count, section_at, KeepsLimits, Holding}
 use Rattle.carousel_play.specs.Calls.{to_play, InLimits, Different, limit_tests, limit_refusal, play_tests, play_refusal, count_answer, play_answer, played_bytes}
 use Rattle.carousel_play.proofs.Laws.Limits.{not_ten}
 use Rattle.carousel_play.proofs.Laws.Places.{places}
 use Rattle.carousel_play.proofs.Laws.Chosen.{announcement-size, section-size, chosen}
+use Rattle.std.proofs.Common.{Result, Ok, Err}
 
 module _ (p : Playlist) where
   abbrev a : Announced
@@ -174,34 +175,31 @@ module _ (id : ℕ) (p : Playlist) (image : List ℕ) (k : ℕ) (out : List ℕ)
   abbrev section : List ℕ
   section = section_at id (to_play p) image k
 
-  pub refused-keeps : (n ≡ 0 → ⊥) → (play_answer id p image k (length out) ≡ played.Refused n) × (played_bytes id p image k out ≡ out)
+  pub refused-keeps : (n ≡ 0 → ⊥) → (play_answer id p image k (length out) ≡ Err n) × (played_bytes id p image k out ≡ out)
   unfolding play_answer played_bytes
-  refused-keeps h = rw (ne_eqb n 0 h) (refl, refl)
+  refused-keeps h = (is_refused n _ h, rw (ne_eqb n 0 h))
 
-  pub written_is : n ≡ 0 → (play_answer id p image k (length out) ≡ played.Size (length section)) × (played_bytes id p image k out ≡ section ++ drop (length section) out)
+  pub written_is : n ≡ 0 → (play_answer id p image k (length out) ≡ Ok (length section)) × (played_bytes id p image k out ≡ section ++ drop (length section) out)
   unfolding play_answer played_bytes
-  written_is h = rw (eq-eqb n 0 h) (refl, refl)
+  written_is h = (ap (λ m. answered m (length section)) h, rw (eq-eqb n 0 h))
 
-pub count_answers : (p : Playlist) → (limit_refusal p ≡ 0 → count_answer p ≡ counted.Sections (section_count (to_play p))) × ((limit_refusal p ≡ 0 → ⊥) → count_answer p ≡ counted.Refused
+pub count_answers : (p : Playlist) → (limit_refusal p ≡ 0 → count_answer p ≡ Ok (section_count (to_play p))) × ((limit_refusal p ≡ 0 → ⊥) → count_answer p ≡ Err
     (limit_refusal p))
 unfolding count_answer
-count_answers p = (λ h. rw (eq-eqb (limit_refusal p) 0 h), λ h. rw (ne_eqb (limit_refusal p) 0 h))
+count_answers p = (λ h. ap (λ m. answered m (section_count (to_play p))) h, λ h. is_refused (limit_refusal p) _ h)
 
 -- a count is answered exactly where the limits are kept
-pub count-exactly : (p : Playlist) (n : ℕ) → (count_answer p ≡ counted.Sections n) ↔ ((limit_refusal p ≡ 0) × (n ≡ section_count (to_play p)))
+pub count-exactly : (p : Playlist) (n : ℕ) → (count_answer p ≡ Ok n) ↔ ((limit_refusal p ≡ 0) × (n ≡ section_count (to_play p)))
 unfolding count_answer
-count-exactly p n = (λ e. go (eqb (limit_refusal p) 0) refl e, λ h. (count_answers p).0 h.0 ∙ ap counted.Sections (sym h.1))
+count-exactly p n = (λ e. told (limit_refusal p) _ e, λ h. (count_answers p).0 h.0 ∙ ap Ok (sym h.1))
   where
-    same : (m k : ℕ) → counted.Sections m ≡ counted.Sections k → m ≡ k
+    same : (m k : ℕ) → ◌≡◌ {A = Result ℕ ℕ} (Ok m) (Ok k) → m ≡ k
     same m k e = cc
 
-    never : (m k : ℕ) → counted.Refused m ≡ counted.Sections k → ⊥
-    never m k e = let z : ◌≡◌ {A = ℕ} 0 1 = cc in omega arith
-
-    go : (t : Bool) → eqb (limit_refusal p) 0 ≡ t → cond t (counted.Sections (section_count (to_play p))) (counted.Refused (limit_refusal p)) ≡ counted.Sections n
-        → (limit_refusal p ≡ 0) × (n ≡ section_count (to_play p))
-    go true t e = (eqb-true (limit_refusal p) 0 t, sym (same _ _ e))
-    go false t e = absurd (never _ _ e)
+    told : (m k : ℕ) → answered m k ≡ Ok n → (m ≡ 0) × (n ≡ k)
+    told m k e =
+        let z = not_refused m k n (sym e) in
+        (z, same _ _ (sym e ∙ ap (λ i. answered i k) z))
 
 -- and the announcement that is then played is within the limits
 pub keeps_limits : (p : Playlist) → InLimits p → Different p → KeepsLimits (to_play p)
@@ -226,7 +224,7 @@ room-enough id a ok image h k l = go (places a k l)
         let f : length (section_at id a image k) ≡ length (announcement_bytes id a) = ap (λ (n : ℕ). length (section_at id a image n)) z in
         omega (arith, e, f, ok.modules_most)
     go (inr (i, b, u, v, e)) =
-        let s = section-size a (not_ten a ok) i b u v (module_at a i) refl id image (blocks_to a i + b) refl h in
+        let s = section-size a (not_ten a ok) i b u v (module_at a i) refl image id (blocks_to a i + b) refl h in
         let c = (chosen a (not_ten a ok) i b u v (module_at a i) refl).short in
         let f : length (section_at id a image k) ≡ length (section_at id a image (1 + (blocks_to a i + b))) = ap (λ (n : ℕ). length (section_at id a image n)) e in
         omega (arith, s, c, f)

@@ -1,16 +1,13 @@
 -- WHAT THE PLAYER'S CALLS ANSWER, and what they leave in the lent buffer. 02, §13.
-use Rattle.std.specs.Prelude.{ℕ, ◌*◌, ◌≤◌, not, cond, ◌||◌, eqb, ltb, length, take, drop}
+use Rattle.std.specs.Prelude.{Result, ℕ, ◌*◌, ◌≤◌, not, cond, ◌||◌, eqb, ltb, length, take, drop}
 use mathlib.Core.List.{List, [], ◌∷◌, ◌++◌, Memᴰ}
 use Rattle.wire.specs.Tests.{Tests, first_met}
+use Rattle.wire.specs.Outcomes.{answered}
 use Rattle.carousel_messages.specs.Limits.{largest_block, most_modules, most_blocks, most_bytes, total, beyond10, twice11}
 use Rattle.carousel_messages.specs.Heard.{Announced, sizes_of, numbers_of}
 use Rattle.carousel_messages.specs.Good.{Distinct}
 use Rattle.carousel_record.specs.Refusals.{meets15}
 use Rattle.carousel_play.specs.declared.Playlist.{Playlist}
-use Rattle.carousel_play.specs.declared.Counted.{Counted}
-use Rattle.carousel_play.specs.declared.Counted.TheVariants as counted
-use Rattle.carousel_play.specs.declared.Played.{Played}
-use Rattle.carousel_play.specs.declared.Played.TheVariants as played
 use Rattle.carousel_play.specs.Rotation.{section_count, section_at}
 
 -- the announcement that a playlist says. Its entries from the count on are not looked at.
@@ -51,14 +48,12 @@ unfoldable pub play_refusal : (identifier : ℕ) → Playlist → (image : List 
 play_refusal id p image k room = first_met (play_tests id p image k room)
 
 -- HOW MANY SECTIONS ONE ROTATION HAS, or the refusal
-unfoldable pub count_answer : Playlist → Counted
-count_answer p = cond (eqb (limit_refusal p) 0) (counted.Sections (section_count (to_play p))) (counted.Refused (limit_refusal p))
+unfoldable pub count_answer : Playlist → Result ℕ ℕ
+count_answer p = answered (limit_refusal p) (section_count (to_play p))
 
 -- THE SECTION'S SIZE, or the refusal
-unfoldable pub play_answer : (identifier : ℕ) → Playlist → (image : List ℕ) → (k room : ℕ) → Played
-play_answer id p image k room = cond (eqb (play_refusal id p image k room) 0)
-    (played.Size (length (section_at id (to_play p) image k)))
-    (played.Refused (play_refusal id p image k room))
+unfoldable pub play_answer : (identifier : ℕ) → Playlist → (image : List ℕ) → (k room : ℕ) → Result ℕ ℕ
+play_answer id p image k room = answered (play_refusal id p image k room) (length (section_at id (to_play p) image k))
 
 -- AND WHAT IS LEFT IN THE BUFFER: the section, and "what lies past the section is unchanged"; a refusal writes nothing
 unfoldable pub played_bytes : (identifier : ℕ) → Playlist → (image : List ℕ) → (k : ℕ) → (out : List ℕ) → List ℕ

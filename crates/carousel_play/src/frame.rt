@@ -3,34 +3,14 @@ ghost use Rattle.std.specs.Prelude.{◌≡◌, ◌+◌, ◌≤◌, ◌<◌, leng
 ghost use Rattle.std.proofs.lemmas.List.Edits.{sets};
 ghost use Rattle.carousel_play.specs.Pieces.{framed_by};
 
-use crate::spell::{put_crc, put_head, put_message};
-
-// What stands in the two headers.
-#[derive(Clone, Copy)]
-pub struct Head {
-    pub table: u8,
-    pub extension: u16,
-    pub version: u8,
-    pub number: u8,
-    pub last: u8,
-    pub message: u16,
-    pub identifier: u32,
-}
+use crate::spell::{Head, put_crc, put_head, put_message};
 
 // Makes a section of the payload of `size` bytes that stands from byte 20 on: the headers go before it, the CRC after it.
 pub fn put_frame(out: &mut [u8], h: Head, size: usize) -> usize
     requires { (h.version < 32) × (size ≤ 4072) × (24 + size ≤ length out.old) }
     ensures { (out.new ≡ sets out.old 0 (framed_by h (take size (drop 20 out.old)))) × (result ≡ 24 + size) }
 {
-    let end = put_head(
-        out,
-        h.table,
-        h.extension,
-        h.version,
-        h.number,
-        h.last,
-        12 + size,
-    );
-    put_message(out, end, h.message, h.identifier, size);
+    let end = put_head(out, h, 12 + size);
+    put_message(out, end, h, size);
     put_crc(out, 20 + size)
 }

@@ -1,5 +1,5 @@
 // The two payloads, put at a place: each answers the place after it.
-ghost use Rattle.std.specs.Prelude.{◌≡◌, ◌≤◌, length, take};
+ghost use Rattle.std.specs.Prelude.{◌≡◌, ◌≤◌, length};
 ghost use Rattle.std.proofs.lemmas.List.Edits.{sets};
 ghost use Rattle.text.specs.Text.{reached};
 ghost use Rattle.carousel_messages.specs.Limits.{most_modules};
@@ -8,7 +8,7 @@ ghost use Rattle.carousel_play.specs.Calls.{to_play};
 
 use crate::Playlist;
 use crate::spell::{put_sixteen, put_thirty_two};
-use carousel_messages::{Listed, MOST_MODULES};
+use carousel_messages::Listed;
 
 // An announcement's.
 pub fn put_list(out: &mut [u8], at: usize, p: Playlist) -> usize
@@ -19,24 +19,21 @@ pub fn put_list(out: &mut [u8], at: usize, p: Playlist) -> usize
     let mut end = put_thirty_two(out, at, p.download);
     end = put_sixteen(out, end, p.block_size);
     // the ten unread bytes, and that there are no compatibility bytes
-    end = text::put(out, end, &[0, 0, 0, 0, 0, 0, 0, 0, 0, 0, 0, 0]);
+    end = text::put(out, end, &[0; 12]);
     end = put_sixteen(out, end, p.count);
-    end = put_modules(out, end, ms, p.count as usize);
+    end = put_modules(out, end, &ms[..p.count as usize]);
     // no private bytes
     put_sixteen(out, end, 0)
 }
 
-// The first n of some modules.
-fn put_modules(out: &mut [u8], at: usize, ms: [Listed; MOST_MODULES], n: usize) -> usize
-    requires { n ≤ most_modules }
-    ensures { (out.new ≡ sets out.old at (modules_bytes (take n ms)))
-        × (result ≡ reached at (length (modules_bytes (take n ms))) (length out.old)) }
+// Some modules.
+fn put_modules(out: &mut [u8], at: usize, modules: &[Listed]) -> usize
+    ensures { (out.new ≡ sets out.old at (modules_bytes modules.now))
+        × (result ≡ reached at (length (modules_bytes modules.now)) (length out.old)) }
 {
     let mut end = at;
-    let mut i: usize = 0;
-    while i < n {
-        end = put_module(out, end, ms[i]);
-        i += 1;
+    for m in modules {
+        end = put_module(out, end, *m);
     }
     end
 }
@@ -49,20 +46,13 @@ fn put_module(out: &mut [u8], at: usize, m: Listed) -> usize
     text::put(out, end, &[m.version, 0])
 }
 
-// A block's.
-pub fn put_carried(
-    out: &mut [u8],
-    at: usize,
-    number: u16,
-    version: u8,
-    block: u16,
-    bytes: &[u8],
-) -> usize
-    ensures { (out.new ≡ sets out.old at (carried_bytes number version block bytes.now))
-        × (result ≡ reached at (length (carried_bytes number version block bytes.now)) (length out.old)) }
+// A block's, of a module.
+pub fn put_carried(out: &mut [u8], at: usize, m: Listed, block: u16, bytes: &[u8]) -> usize
+    ensures { (out.new ≡ sets out.old at (carried_bytes m.number m.version block bytes.now))
+        × (result ≡ reached at (length (carried_bytes m.number m.version block bytes.now)) (length out.old)) }
 {
-    let mut end = put_sixteen(out, at, number);
-    end = text::put(out, end, &[version, 0xFF]);
+    let mut end = put_sixteen(out, at, m.number);
+    end = text::put(out, end, &[m.version, 0xFF]);
     end = put_sixteen(out, end, block);
     text::put(out, end, bytes)
 }

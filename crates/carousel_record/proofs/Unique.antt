@@ -10,6 +10,8 @@ use Rattle.carousel_record.proofs.rule.is_ruled.Kinds as is-ruled-kinds
 use Rattle.carousel_record.proofs.rule.is_ruled.Reads as is-ruled-reads
 use Rattle.carousel_record.proofs.place_of.Kinds as place-of-kinds
 use Rattle.carousel_record.proofs.place_of.Reads as place-of-reads
+use Rattle.carousel_record.proofs.slot_of.Kinds as slot-of-kinds
+use Rattle.carousel_record.proofs.slot_of.Reads as slot-of-reads
 use Rattle.carousel_record.proofs.bytes_of.Kinds as bytes-of-kinds
 use Rattle.carousel_record.proofs.bytes_of.Reads as bytes-of-reads
 use Rattle.carousel_record.proofs.head_of.Kinds as head-of-kinds
@@ -18,6 +20,10 @@ use Rattle.carousel_record.proofs.joined.Kinds as joined-kinds
 use Rattle.carousel_record.proofs.joined.Reads as joined-reads
 use Rattle.carousel_record.proofs.entries.place_in.Kinds as place-in-kinds
 use Rattle.carousel_record.proofs.entries.place_in.Reads as place-in-reads
+use Rattle.carousel_record.proofs.entries.slot_in.Kinds as slot-in-kinds
+use Rattle.carousel_record.proofs.entries.slot_in.Reads as slot-in-reads
+use Rattle.carousel_record.proofs.Module.listed.Kinds as listed-kinds
+use Rattle.carousel_record.proofs.Module.listed.Reads as listed-reads
 use Rattle.carousel_record.proofs.entries.numbers_of.Kinds as numbers-of-kinds
 use Rattle.carousel_record.proofs.entries.numbers_of.Reads as numbers-of-reads
 use Rattle.carousel_record.proofs.marks.set_mark.Kinds as set-mark-kinds
@@ -38,6 +44,9 @@ is-ruled κs a x y s t p q = p ∙ sym q
 place_of_lem : OneAnswer 0 place-of-kinds.ps place-of-kinds.r place-of-reads.Post
 place_of_lem κs a x y s t p q = p ∙ sym q
 
+slot_of_lem : OneAnswer 0 slot-of-kinds.ps slot-of-kinds.r slot-of-reads.Post
+slot_of_lem κs a x y s t p q = p ∙ sym q
+
 bytes_of_lem : OneAnswer 0 bytes-of-kinds.ps bytes-of-kinds.r bytes-of-reads.Post
 bytes_of_lem κs a x y s t p q = p ∙ sym q
 
@@ -49,6 +58,12 @@ joined κs a x y s t p q = p ∙ sym q
 
 place_in : OneAnswer 1 place-in-kinds.ps place-in-kinds.r place-in-reads.Post
 place_in κs a x y s t p q = p ∙ sym q
+
+slot_in : OneAnswer 2 slot-in-kinds.ps slot-in-kinds.r slot-in-reads.Post
+slot_in κs a x y s t p q = p ∙ sym q
+
+listed : OneAnswer 0 listed-kinds.ps listed-kinds.r listed-reads.Post
+listed κs a x y s t p q = p ∙ sym q
 
 numbers_of_lem : OneAnswer 0 numbers-of-kinds.ps numbers-of-kinds.r numbers-of-reads.Post
 numbers_of_lem κs a x y s t p q = p ∙ sym q

@@ -1,12 +1,13 @@
 -- The carousel record: what it says, and its rule. 01, "The carousel record".
-use Rattle.std.specs.Prelude.{ℕ, suc, ◌+◌, ◌*◌, Bool, true, not, cond, ◌&&◌, List, [], ◌∷◌, map, eqb, leb, length, get_or, take, drop}
+use Rattle.std.specs.Prelude.{Option, Some, None, ℕ, suc, ◌+◌, ◌*◌, Bool, true, not, cond, ◌&&◌, List, [], ◌∷◌, map, eqb, leb, ltb, length, get_or, take, drop}
 use Rattle.wire.specs.Copies.{same_numbers}
 use Rattle.carousel_messages.specs.declared.Listed.{Listed}
 use Rattle.carousel_messages.specs.Limits.{most_modules, most_blocks, total, beyond10, twice11}
-use Rattle.carousel_messages.specs.Heard.{none_listed, sizes_of, numbers_of, place_in, Announced}
+use Rattle.carousel_messages.specs.Heard.{found, none_listed, sizes_of, numbers_of, place_in, Announced}
 use Rattle.carousel_record.specs.declared.Module.{Module}
 use Rattle.carousel_record.specs.declared.Carousel.{Carousel}
 use Rattle.carousel_record.specs.declared.Head.{Head}
+use Rattle.carousel_record.specs.declared.Slot.{Slot}
 use Rattle.carousel_record.specs.Blocks.{blocks_of, block_length_of}
 use Rattle.carousel_record.specs.Marks.{module_words, mark_words, mark_of, is_marked, marks_within, clear_among}
 
@@ -109,6 +110,14 @@ unused = record { number = 0; size = 0; version = 0; start = 0 }
 
 abbrev pub is_unused : Module → Bool
 is_unused m = eqb m.number 0 && eqb m.size 0 && eqb m.version 0 && eqb m.start 0
+
+-- the entry at a place that was found, if there is one; and of an announced module, by its number
+abbrev pub slot_at : Option ℕ → List Module → Option Slot
+slot_at (Some i) ms = cond (ltb i (length ms)) (Some (record { place = i; entry = get_or ms i unused })) None
+slot_at None ms = None
+
+abbrev pub slot_of : Carousel → (number : ℕ) → Option Slot
+slot_of c number = slot_at (found (place_of (announced_by c) number) (length (announced_by c).modules)) c.modules
 
 unfoldable pub all_unused : List Module → Bool
 all_unused [] = true

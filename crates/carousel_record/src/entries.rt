@@ -1,30 +1,19 @@
 // The record's entries as carousel_messages judges modules.
-ghost use Rattle.std.specs.Prelude.{◌≡◌, map, take};
-ghost use Rattle.carousel_record.specs.Record.{listed_in, number_in, place_among};
+ghost use Rattle.std.specs.Prelude.{◌≡◌, map, length, take};
+ghost use Rattle.carousel_messages.specs.Heard.{found};
+ghost use Rattle.carousel_record.specs.Record.{listed_in, number_in, place_among, slot_at};
 
-use crate::{Carousel, Module};
+use crate::{Carousel, Module, Slot};
 use carousel_messages::{Listed, MOST_MODULES};
 
 // All entries, in use or not, without their starts.
 pub fn listed(c: Carousel) -> [Listed; MOST_MODULES]
     ensures { result ≡ map listed_in c.modules }
 {
-    let none = Listed {
-        number: 0,
-        size: 0,
-        version: 0,
-    };
-    let mut ls = [none; MOST_MODULES];
+    let mut ls = [Listed::default(); MOST_MODULES];
     let ms = c.modules;
-    let mut i: usize = 0;
-    while i < MOST_MODULES {
-        let m = ms[i];
-        ls[i] = Listed {
-            number: m.number,
-            size: m.size,
-            version: m.version,
-        };
-        i += 1;
+    for i in 0..MOST_MODULES {
+        ls[i] = ms[i].listed();
     }
     ls
 }
@@ -34,28 +23,33 @@ pub fn numbers_of(ms: [Module; MOST_MODULES]) -> [u16; MOST_MODULES]
     ensures { result ≡ map number_in ms }
 {
     let mut ns: [u16; MOST_MODULES] = [0; MOST_MODULES];
-    let mut i: usize = 0;
-    while i < MOST_MODULES {
-        let m = ms[i];
-        ns[i] = m.number;
-        i += 1;
+    for i in 0..MOST_MODULES {
+        ns[i] = ms[i].number;
     }
     ns
 }
 
-// The place of a number among the first n of some; where it is not there, how many they are.
-pub fn place_in(ns: &[u16], n: usize, number: u16) -> usize
-    ensures { result ≡ place_among number (take n ns.now) }
+// The place of a number among the first n of some.
+pub fn place_in(ns: &[u16], n: usize, number: u16) -> Option<usize>
+    ensures { result ≡ found (place_among number (take n ns.now)) (length (take n ns.now)) }
 {
-    let mut i: usize = 0;
-    while i < n {
-        if ns.len() <= i {
-            return i;
+    let used = &ns[..n.min(ns.len())];
+    for i in 0..used.len() {
+        if used[i] == number {
+            return Some(i);
         }
-        if ns[i] == number {
-            return i;
-        }
-        i += 1;
     }
-    i
+    None
+}
+
+// The entry of a number among the first n, and its place; `ns` are the entries' numbers.
+pub fn slot_in(ns: &[u16], ms: &[Module], n: usize, number: u16) -> Option<Slot>
+    ensures { result ≡ slot_at (found (place_among number (take n ns.now)) (length (take n ns.now))) ms.now }
+{
+    let place = place_in(ns, n, number)?;
+    if ms.len() <= place {
+        return None;
+    }
+    let entry = ms[place];
+    Some(Slot { place, entry })
 }

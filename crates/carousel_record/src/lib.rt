@@ -10,25 +10,46 @@ mod entries;
 mod marks;
 mod rule;
 
-ghost use Rattle.std.specs.Prelude.{◌≡◌};
-ghost use Rattle.carousel_record.specs.Record.{announced_by, place_of, bytes_of, head_of, joined_of};
+ghost use Rattle.std.specs.Prelude.{◌≡◌, length};
+ghost use Rattle.carousel_messages.specs.Heard.{found};
+ghost use Rattle.carousel_record.specs.Record.{listed_in, announced_by, place_of, slot_of, bytes_of, head_of, joined_of};
 ghost use Rattle.carousel_record.specs.Changes.{empty_record};
 
 pub use blocks::{blocks_of, is_block};
-use carousel_messages::{MOST_MODULES, total};
+use carousel_messages::{Listed, MOST_MODULES, total};
 use entries::listed;
-pub use entries::{numbers_of, place_in};
+pub use entries::{numbers_of, place_in, slot_in};
 pub use marks::{MARK_WORDS, MODULE_WORDS, is_marked, set_mark};
 pub use rule::is_ruled;
 
 // An announced module, and where it starts in the image. This and the record have C's layout: programs in C hold them.
 #[repr(C)]
-#[derive(Clone, Copy)]
+#[derive(Clone, Copy, PartialEq, Eq, Default)]
 pub struct Module {
     pub number: u16,
     pub size: u32,
     pub version: u8,
     pub start: u32,
+}
+
+impl Module {
+    // The same as it is announced.
+    pub fn listed(self) -> Listed
+        ensures { result ≡ listed_in self }
+    {
+        Listed {
+            number: self.number,
+            size: self.size,
+            version: self.version,
+        }
+    }
+}
+
+// An entry that was found, and its place.
+#[derive(Clone, Copy)]
+pub struct Slot {
+    pub place: usize,
+    pub entry: Module,
 }
 
 #[repr(C)]
@@ -55,28 +76,31 @@ pub struct Head {
 pub fn empty() -> Carousel
     ensures { result ≡ empty_record }
 {
-    let unused = Module {
-        number: 0,
-        size: 0,
-        version: 0,
-        start: 0,
-    };
     Carousel {
         download: 0,
         block_size: 0,
         count: 0,
-        modules: [unused; MOST_MODULES],
+        modules: [Module::default(); MOST_MODULES],
         marks: [0u32; MARK_WORDS],
     }
 }
 
-// The place of the announced module with this number; as many as there are modules where there is none.
-pub fn place_of(c: Carousel, number: u16) -> usize
-    ensures { result ≡ place_of (announced_by c) number }
+// The place of the announced module with this number.
+pub fn place_of(c: Carousel, number: u16) -> Option<usize>
+    ensures { result ≡ found (place_of (announced_by c) number) (length (announced_by c).modules) }
 {
     let ms = c.modules;
     let numbers = numbers_of(ms);
     place_in(&numbers, c.count as usize, number)
+}
+
+// The entry of the announced module with this number, and its place.
+pub fn slot_of(c: Carousel, number: u16) -> Option<Slot>
+    ensures { result ≡ slot_of c number }
+{
+    let ms = c.modules;
+    let numbers = numbers_of(ms);
+    slot_in(&numbers, &ms, c.count as usize, number)
 }
 
 // The sizes of the announced modules together.

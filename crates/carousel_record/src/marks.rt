@@ -1,5 +1,5 @@
 // Received marks, in any number of words.
-ghost use Rattle.std.specs.Prelude.{◌≡◌, ◌-◌, ◌/◌, ◌^◌, eqb};
+ghost use Rattle.std.specs.Prelude.{◌≡◌, ◌/◌, ◌^◌, eqb};
 ghost use Rattle.carousel_record.specs.Marks.{is_marked, marks_with, clear_from};
 
 use carousel_messages::{MOST_BLOCKS, MOST_MODULES};
@@ -39,16 +39,14 @@ pub fn is_clear_from(words: &[u32], n: usize) -> bool
     ensures { result ≡ clear_from n words.now }
 {
     let mut left = n;
-    let mut i: usize = 0;
-    while i < words.len() {
+    for i in 0..words.len() {
         if left == 0 {
             return is_zero(&words[i..]);
         }
         if !is_word_clear(words[i], left) {
             return false;
         }
-        left = after_word(left);
-        i += 1;
+        left = left.saturating_sub(32);
     }
     true
 }
@@ -58,10 +56,8 @@ fn is_zero(words: &[u32]) -> bool
     ensures { result ≡ clear_from 0 words.now }
 {
     let mut all: u32 = 0;
-    let mut k: usize = 0;
-    while k < words.len() {
-        all |= words[k];
-        k += 1;
+    for w in words {
+        all |= *w;
     }
     all == 0
 }
@@ -74,14 +70,4 @@ fn is_word_clear(word: u32, n: usize) -> bool
         return true;
     }
     word >> n as u32 == 0
-}
-
-// What is left of n after a word's marks.
-fn after_word(n: usize) -> usize
-    ensures { result ≡ n - 32 }
-{
-    if n < 32 {
-        return 0;
-    }
-    n - 32
 }

@@ -37,16 +37,7 @@ pub fn is_ruled(c: Carousel) -> bool
 fn is_unused(m: Module) -> bool
     ensures { result ≡ is_unused m }
 {
-    if m.number != 0 {
-        return false;
-    }
-    if m.size != 0 {
-        return false;
-    }
-    if m.version != 0 {
-        return false;
-    }
-    m.start == 0
+    m == Module::default()
 }
 
 // Whether the entries from n on are unused.
@@ -54,12 +45,10 @@ fn all_unused(ms: [Module; MOST_MODULES], n: usize) -> bool
     requires { n ≤ most_modules }
     ensures { result ≡ all_unused (drop n ms) }
 {
-    let mut i = n;
-    while i < MOST_MODULES {
-        if !is_unused(ms[i]) {
+    for m in &ms[n..] {
+        if !is_unused(*m) {
             return false;
         }
-        i += 1;
     }
     true
 }
@@ -76,10 +65,11 @@ fn is_within_limits(c: Carousel) -> bool
         return c.block_size == 0;
     }
     let ms = listed(c);
-    if is_beyond(c.block_size, ms, n) {
+    let modules = &ms[..n];
+    if is_beyond(c.block_size, modules) {
         return false;
     }
-    !has_twice(ms, n)
+    !has_twice(modules)
 }
 
 // Whether the starts of the first n entries are running sums.
@@ -88,14 +78,11 @@ fn is_running(ms: [Module; MOST_MODULES], n: usize) -> bool
     ensures { result ≡ same_numbers (map start_in (take n ms)) (sums 0 (sizes_of (map listed_in (take n ms)))) }
 {
     let mut sum: usize = 0;
-    let mut i: usize = 0;
-    while i < n {
-        let m = ms[i];
+    for m in &ms[..n] {
         if m.start as usize != sum {
             return false;
         }
         sum += m.size as usize;
-        i += 1;
     }
     true
 }
@@ -109,15 +96,12 @@ fn is_in_place(c: Carousel) -> bool
     let ms = c.modules;
     let marks = c.marks;
     let words: &[u32] = &marks;
-    let mut i: usize = 0;
-    while i < n {
-        let m = ms[i];
+    for i in 0..n {
         let at = MODULE_WORDS * i;
         let e = at + MODULE_WORDS;
-        if !is_clear_from(&words[at..e], blocks_of(c.block_size, m.size)) {
+        if !is_clear_from(&words[at..e], blocks_of(c.block_size, ms[i].size)) {
             return false;
         }
-        i += 1;
     }
     let at = MODULE_WORDS * n;
     is_clear_from(&words[at..], 0)

@@ -4,6 +4,7 @@ use mathlib.Core.Path.{◌≡◌, ap, ◌∙◌}
 use mathlib.Core.Bool.{true, false, ◌&&◌}
 use mathlib.Core.List.{List, [], ◌∷◌}
 use native.Mathlib.Omega.{arith}
+use Rattle.std.proofs.Common.{Ok, Err}
 use lib.Dec.{eqb}
 use lib.ListN.{length, replicate}
 use borrow.Author.Tests.{lt-ltb, le-ltb}
@@ -40,7 +41,7 @@ unfolding same_announced same_modules announced_by empty_record
 differs d bs [] h = absurd (omega arith)
 differs d bs (m ∷ ms) h = fails (eqb 0 d && eqb 0 bs)
 
-pub first-new : (s image : List ℕ) (a : Announced) → heard_of s ≡ announced a → stepped_of empty_record s image ≡ record { answer = answer.New; state = made_afresh empty_record a }
+pub first-new : (s image : List ℕ) (a : Announced) → heard_of s ≡ announced a → stepped_of empty_record s image ≡ record { answer = (Ok answer.New); state = made_afresh empty_record a }
 unfolding on_heard
 first-new s image a e =
     let d = differs a.download a.block_size a.modules (some-modules a.block_size a.modules (heard_limits s a e).0) in
@@ -48,7 +49,7 @@ first-new s image a e =
 
 -- and one that is refused by itself changes nothing in any record
 pub refused-alone : (c : Carousel) (s image : List ℕ) (n : ℕ) → ruled_of c ≡ true → heard_of s ≡ refusal (refused n)
-    → stepped_of c s image ≡ record { answer = answer.Refused (refused n); state = c }
+    → stepped_of c s image ≡ record { answer = Err (refused n); state = c }
 unfolding on_heard
 refused-alone c s image n r e = (stepped-is c s image (refusing (refused n)) (comes c s image (refusal (refused n)) r e)).0
 
@@ -86,10 +87,10 @@ abbrev pub widened : Carousel
 widened = made_afresh empty_record (told_of 65 (sized 1 65537 ∷ []))
 
 -- "blockSize 1: size 1,024 taken, 1,025 gives 10; blockSize 400: 262,143 and 1 taken, 262,144 and 1 give 10"
-pub taken_as-new : (image : List ℕ) → (stepped_of empty_record chart image ≡ record { answer = answer.New; state = charted })
-    × (stepped_of empty_record chart_beyond image ≡ record { answer = answer.Refused (refused 10); state = empty_record })
-    × (stepped_of empty_record charts image ≡ record { answer = answer.New; state = charted_two })
-    × (stepped_of empty_record charts_beyond image ≡ record { answer = answer.Refused (refused 10); state = empty_record })
+pub taken_as-new : (image : List ℕ) → (stepped_of empty_record chart image ≡ record { answer = (Ok answer.New); state = charted })
+    × (stepped_of empty_record chart_beyond image ≡ record { answer = Err (refused 10); state = empty_record })
+    × (stepped_of empty_record charts image ≡ record { answer = (Ok answer.New); state = charted_two })
+    × (stepped_of empty_record charts_beyond image ≡ record { answer = Err (refused 10); state = empty_record })
 taken_as-new image = (
   first-new chart image _ hears.0,
   refused-alone empty_record chart_beyond image 10 empty-ruled hears.1,
@@ -112,8 +113,8 @@ module _ (image : List ℕ) where
 
   -- block 1,023 of a module of 1,024 blocks, section number 255, is stored, at its own place and under its own mark; block 1,024 gives 16
   pub highest-block : 1024 ≤ length image
-      → (stepped_of charted block1023 image ≡ record { answer = answer.Stored; state = with_mark charted 1023 }) × (image_of charted block1023 image ≡ overwrite image 1023 (0x42 ∷ []))
-      × (stepped_of charted block1024 image ≡ record { answer = answer.Refused (refused 16); state = charted })
+      → (stepped_of charted block1023 image ≡ record { answer = (Ok answer.Stored); state = with_mark charted 1023 }) × (image_of charted block1023 image ≡ overwrite image 1023 (0x42 ∷ []))
+      × (stepped_of charted block1024 image ≡ record { answer = Err (refused 16); state = charted })
   highest-block h = let p = stepped-is charted block1023 image _ (last_stored h) in (p.0, p.1, (stepped-is charted block1024 image _ (past-last h)).0)
 
   widened-ruled : ruled_of widened ≡ true
@@ -129,8 +130,8 @@ module _ (image : List ℕ) where
   wide_enough h = comes widened wide_block image _ widened-ruled hears-blocks.2 ∙ rw (le-ltb (length image) 65537 h)
 
   -- a size of 65,537 is announced; its block gives 15 in an image of 65,536 bytes, and is stored in one byte more
-  pub beyond_the-image : (stepped_of empty_record wide image ≡ record { answer = answer.New; state = widened })
-      × (length image < 65537 → stepped_of widened wide_block image ≡ record { answer = answer.Refused (refused 15); state = widened })
-      × (65537 ≤ length image → stepped_of widened wide_block image ≡ record { answer = answer.Stored; state = with_mark widened 0 })
+  pub beyond_the-image : (stepped_of empty_record wide image ≡ record { answer = (Ok answer.New); state = widened })
+      × (length image < 65537 → stepped_of widened wide_block image ≡ record { answer = Err (refused 15); state = widened })
+      × (65537 ≤ length image → stepped_of widened wide_block image ≡ record { answer = (Ok answer.Stored); state = with_mark widened 0 })
   beyond_the-image =
       (first-new wide image _ hears.4, λ h. (stepped-is widened wide_block image _ (too_wide h)).0, λ h. (stepped-is widened wide_block image _ (wide_enough h)).0)

@@ -5,6 +5,7 @@ use mathlib.Core.Logic.{◌↔◌}
 use mathlib.Core.Bool.{Bool, true, false, not, cond, ◌&&◌, or-false}
 use mathlib.Core.List.{List, [], ◌∷◌, ◌++◌}
 use native.Mathlib.Omega.{arith}
+use Rattle.std.proofs.Common.{Ok, Err}
 use lib.Dec.{eqb, lit<}
 use lib.ListN.{length}
 use borrow.Author.Tests.{eq-eqb, eqb-true, not-false}
@@ -20,17 +21,16 @@ use Rattle.section.proofs.Laws.Exact as section
 use Rattle.carousel_messages.specs.declared.Listed.{Listed}
 use Rattle.carousel_messages.specs.declared.CarouselTable.{CarouselTable}
 use Rattle.carousel_messages.specs.declared.CarouselTable.TheVariants.{Announcements, Blocks}
-use Rattle.carousel_messages.specs.declared.Judged.{Judged}
-use Rattle.carousel_messages.specs.declared.Judged.TheVariants as judged
+use Rattle.carousel_messages.specs.declared.Message.TheVariants as message
 use Rattle.carousel_messages.specs.Refusals.{message_tests}
-use Rattle.carousel_messages.specs.Judged.{read_of, judged_of, number_of_judged, carousel_table_in, carousel_tests}
+use Rattle.carousel_messages.specs.Judged.{Judged, read_of, judged_of, number_of_judged, carousel_table_in, carousel_tests}
 use Rattle.carousel_messages.specs.Heard.{Announced, Arrived, Heard, refusal, announced, arrived, heard_in, heard_of}
 use Rattle.carousel_messages.proofs.Exact.{refused-exactly, taken-exactly}
 use Rattle.carousel_record.specs.declared.Carousel.{Carousel}
-use Rattle.carousel_step.specs.declared.Answer.{Answer}
 use Rattle.carousel_step.specs.declared.Answer.TheVariants as answer
 use Rattle.carousel_record.specs.Record.{Record, record_of, announced_by, place_of, received, ruled_of}
-use Rattle.carousel_step.specs.Step.{meets12, meets14, meets16, block_tests, block_refusal, bytes_differ, same_modules, same_announced, StepOutcome, refusing, new, same, repeated, stored, matched}
+use Rattle.carousel_step.specs.Step.{Answered, meets12, meets14, meets16, block_tests, block_refusal, bytes_differ, same_modules}
+use Rattle.carousel_step.specs.Step.{same_announced, StepOutcome, refusing, new, same, repeated, stored, matched}
 use Rattle.carousel_record.specs.Refusals.{meets13, meets15}
 use Rattle.carousel_step.specs.Step.{on_arrived, on_announced, on_heard, outcome_of, answer_of, stepped_of, number_of_answer, meets17, heard_tests, step_tests}
 use Rattle.carousel_record.proofs.Laws.Tests.{rising_numbered, numbered-both, none_both, met-before, met-after}
@@ -86,12 +86,12 @@ section-none s e = (none-exactly (carousel_tests s) (section_numbered s)).0 (go 
     go (suc n) f = let g = (refused-exactly s (suc n) (omega arith)).1 ((first-exactly (carousel_tests s) (suc n) (omega arith)).0 f) in absurd (omega arith)
 
 -- and what is, is refused by a number
-read-other : (t : CarouselTable) (b : List ℕ) (n : Refusal) → read_of t b ≡ judged.Refused n → ⊥
+read-other : (t : CarouselTable) (b : List ℕ) (n : Refusal) → read_of t b ≡ Err n → ⊥
 unfolding read_of
 read-other Announcements b n e = let z : ◌≡◌ {A = ℕ} 0 1 = cc in omega arith
 read-other Blocks b n e = let z : ◌≡◌ {A = ℕ} 0 1 = cc in omega arith
 
-refused-number : (s : List ℕ) (n : Refusal) → judged_of s ≡ judged.Refused n → 0 < n.number
+refused-number : (s : List ℕ) (n : Refusal) → judged_of s ≡ Err n → 0 < n.number
 refused-number s n e = go n.number refl
   where
     go : (k : ℕ) → n.number ≡ k → 0 < n.number
@@ -131,9 +131,9 @@ module _ (r : Record) (image : List ℕ) where
 
   heard-number : (s : List ℕ) (j : Judged) → judged_of s ≡ j → number_of_answer (answer_of (on_heard r image (heard_in s j))) ≡ first_met (carousel_tests s ++ heard_tests r image (heard_in s j))
   unfolding heard_in on_heard first_met
-  heard-number s (judged.Refused n) e = sym (met-before _ (carousel_tests s) n.number ((refused-exactly s n.number (refused-number s n e)).0 (ap number_of_judged e)))
-  heard-number s (judged.Announced a) e = announced-number _ ∙ sym (met-after [] (carousel_tests s) (section-none s (ap number_of_judged e)))
-  heard-number s (judged.Carried b) e = arrived-number _ ∙ sym (met-after _ (carousel_tests s) (section-none s (ap number_of_judged e)))
+  heard-number s (Err n) e = sym (met-before _ (carousel_tests s) n.number ((refused-exactly s n.number (refused-number s n e)).0 (ap number_of_judged e)))
+  heard-number s (Ok (message.Announced a)) e = announced-number _ ∙ sym (met-after [] (carousel_tests s) (section-none s (ap number_of_judged e)))
+  heard-number s (Ok (message.Carried b)) e = arrived-number _ ∙ sym (met-after _ (carousel_tests s) (section-none s (ap number_of_judged e)))
 
 module _ (c : Carousel) (s image : List ℕ) where
   pub step-number : number_of_answer (stepped_of c s image).answer ≡ first_met (step_tests c s image)
@@ -155,12 +155,12 @@ module _ (c : Carousel) (s image : List ℕ) where
 
 -- WHICH ANSWER, WHERE NO NUMBER IS MET
 -- what was heard, by the answer
-abbrev Why : Record → List ℕ → Heard → Answer → Type 0
-Why r image h (answer.Refused n) = Unit {0}
-Why r image h answer.New = (a : Announced) × (h ≡ announced a) × (same_announced r.announced a ≡ false)
-Why r image h answer.Same = (a : Announced) × (h ≡ announced a) × (same_announced r.announced a ≡ true)
-Why r image h answer.Stored = (d : Arrived) × (h ≡ arrived d) × (received r (place_of r.announced d.number) d.block ≡ false)
-Why r image h answer.Repeated =
+abbrev Why : Record → List ℕ → Heard → Answered → Type 0
+Why r image h (Err n) = Unit {0}
+Why r image h (Ok answer.New) = (a : Announced) × (h ≡ announced a) × (same_announced r.announced a ≡ false)
+Why r image h (Ok answer.Same) = (a : Announced) × (h ≡ announced a) × (same_announced r.announced a ≡ true)
+Why r image h (Ok answer.Stored) = (d : Arrived) × (h ≡ arrived d) × (received r (place_of r.announced d.number) d.block ≡ false)
+Why r image h (Ok answer.Repeated) =
     (d : Arrived) × (h ≡ arrived d) × (received r (place_of r.announced d.number) d.block ≡ true) × (bytes_differ r image (place_of r.announced d.number) d ≡ false)
 
 module _ (r : Record) (image : List ℕ) where
@@ -217,37 +217,37 @@ module _ (c : Carousel) (s image : List ℕ) where
   unfolding on_heard
   on_announcement n a e = on-heard n (announced a) e
 
-  there : (x : Answer) → number_of_answer x ≡ 0 → (stepped_of c s image).answer ≡ x → None (step_tests c s image) × Why (record_of c) image (heard_of s) x
+  there : (x : Answered) → number_of_answer x ≡ 0 → (stepped_of c s image).answer ≡ x → None (step_tests c s image) × Why (record_of c) image (heard_of s) x
   there x z e =
       let n = (step-taken c s image).0 (ap number_of_answer e ∙ z) in
-      (n, subst (λ (y : Answer). Why (record_of c) image (heard_of s) y) (sym (heard-answer (none-ruled n)) ∙ e) (why (record_of c) image (heard_of s)))
+      (n, subst (λ (y : Answered). Why (record_of c) image (heard_of s) y) (sym (heard-answer (none-ruled n)) ∙ e) (why (record_of c) image (heard_of s)))
 
   -- "An announcement equal .. answers "same" .. Another accepted one answers "new""
-  pub new-exactly : ((stepped_of c s image).answer ≡ answer.New) ↔ (None (step_tests c s image) × ((a : Announced) × (heard_of s ≡ announced a) × (same_announced (announced_by c) a ≡ false)))
-  new-exactly = (there answer.New refl, λ w. on_announcement w.0 w.1.0 w.1.1 ∙ ap (λ (o : StepOutcome). answer_of o) (announced-new (record_of c) w.1.0 w.1.2))
+  pub new-exactly : ((stepped_of c s image).answer ≡ (Ok answer.New)) ↔ (None (step_tests c s image) × ((a : Announced) × (heard_of s ≡ announced a) × (same_announced (announced_by c) a ≡ false)))
+  new-exactly = (there (Ok answer.New) refl, λ w. on_announcement w.0 w.1.0 w.1.1 ∙ ap (λ (o : StepOutcome). answer_of o) (announced-new (record_of c) w.1.0 w.1.2))
 
-  pub same-exactly : ((stepped_of c s image).answer ≡ answer.Same) ↔ (None (step_tests c s image) × ((a : Announced) × (heard_of s ≡ announced a) × (same_announced (announced_by c) a ≡ true)))
-  same-exactly = (there answer.Same refl, λ w. on_announcement w.0 w.1.0 w.1.1 ∙ ap (λ (o : StepOutcome). answer_of o) (announced-same (record_of c) w.1.0 w.1.2))
+  pub same-exactly : ((stepped_of c s image).answer ≡ (Ok answer.Same)) ↔ (None (step_tests c s image) × ((a : Announced) × (heard_of s ≡ announced a) × (same_announced (announced_by c) a ≡ true)))
+  same-exactly = (there (Ok answer.Same) refl, λ w. on_announcement w.0 w.1.0 w.1.1 ∙ ap (λ (o : StepOutcome). answer_of o) (announced-same (record_of c) w.1.0 w.1.2))
 
   -- "A matching block not yet marked answers "stored""
-  pub stored-exactly : ((stepped_of c s image).answer ≡ answer.Stored)
+  pub stored-exactly : ((stepped_of c s image).answer ≡ (Ok answer.Stored))
       ↔ (None (step_tests c s image) × ((d : Arrived) × (heard_of s ≡ arrived d) × (received (record_of c) (place_of (announced_by c) d.number) d.block ≡ false)))
   stored-exactly = (
-    there answer.Stored refl,
+    there (Ok answer.Stored) refl,
     λ w. on-block w.0 w.1.0 w.1.1 ∙ ap (λ (o : StepOutcome). answer_of o) (matched-clear (record_of c) image (place_of (announced_by c) w.1.0.number) w.1.0 w.1.2),
   )
 
   -- "One already marked with equal bytes answers "repeated""
-  pub repeated-exactly : ((stepped_of c s image).answer ≡ answer.Repeated)
+  pub repeated-exactly : ((stepped_of c s image).answer ≡ (Ok answer.Repeated))
       ↔ (None (step_tests c s image)
       × ((d : Arrived) × (heard_of s ≡ arrived d) × (received (record_of c) (place_of (announced_by c) d.number) d.block ≡ true)
       × (bytes_differ (record_of c) image (place_of (announced_by c) d.number) d ≡ false)))
-  repeated-exactly = (there answer.Repeated refl, back)
+  repeated-exactly = (there (Ok answer.Repeated) refl, back)
     where
       back : None (step_tests c s image)
           × ((d : Arrived) × (heard_of s ≡ arrived d) × (received (record_of c) (place_of (announced_by c) d.number) d.block ≡ true)
           × (bytes_differ (record_of c) image (place_of (announced_by c) d.number) d ≡ false))
-          → (stepped_of c s image).answer ≡ answer.Repeated
+          → (stepped_of c s image).answer ≡ (Ok answer.Repeated)
       back w = on-block w.0 w.1.0 w.1.1 ∙ ap (λ (o : StepOutcome). answer_of o) (matched-equal (record_of c) image (place_of (announced_by c) w.1.0.number) w.1.0 w.1.2 w.1.3)
 
 -- "EQUAL IN DOWNLOADID, BLOCKSIZE AND MODULE LIST (ORDER, NUMBERS, SIZES, VERSIONS)"

@@ -4,10 +4,10 @@ use mathlib.Core.Path.{◌≡◌, refl, sym, ap, ap₂, ◌∙◌}
 use mathlib.Core.Bool.{Bool, true, false, not, cond, ◌||◌}
 use mathlib.Core.List.{List, [], ◌∷◌}
 use native.Mathlib.Omega.{arith}
-use native.Mathlib.Nat.{mod-eq_of_lt}
+use Rattle.std.proofs.Common.{Option, Some, None}
 use lib.Dec.{eqb, ltb}
 use lib.ListN.{length, get_or, take, drop}
-use borrow.Author.Tests.{eqb-true, eqb-false, ltb-true, le-ltb}
+use borrow.Author.Tests.{eqb-true, eqb-false, ltb-true, ltb-false, le-ltb}
 use Rattle.wire.specs.Tests.{first_met}
 use Rattle.wire.specs.Copies.{same_numbers}
 use Rattle.section.specs.Answer.{refused}
@@ -18,18 +18,19 @@ use Rattle.carousel_messages.specs.Heard.{Announced, Arrived, arrived_in}
 use Rattle.carousel_record.specs.declared.Carousel.{Carousel}
 use Rattle.carousel_record.specs.declared.Module.{Module}
 use Rattle.carousel_record.specs.declared.Head.{Head}
+use Rattle.carousel_record.specs.declared.Slot.{Slot}
 use Rattle.carousel_record.specs.Blocks.{blocks_of, block_length_of}
 use Rattle.carousel_record.specs.Marks.{mark_of, is_marked}
-use Rattle.carousel_record.specs.Record.{Record, announced_by, record_of, listed_in, bytes_of, head_of, joined_of, module_at, place_of, received, block_at, ruled_of, unused}
+use Rattle.carousel_record.specs.Record.{Record, announced_by, record_of, listed_in, bytes_of, head_of, joined_of, module_at, place_of, slot_of, received, block_at, ruled_of, unused}
 use Rattle.carousel_record.specs.Refusals.{meets13, meets15}
 use Rattle.carousel_record.specs.Changes.{with_mark}
 use Rattle.carousel_record.proofs.Laws.Rule.{kept, ruled-says, ruled-count}
 use Rattle.carousel_record.proofs.Laws.Says.{says-count, says_module, says-start}
-use Rattle.carousel_step.specs.declared.Answer.{Answer}
-use Rattle.carousel_step.specs.Step.{StepOutcome, refusing, repeated, stored, meets12, meets14, meets16, block_refusal, bytes_differ}
+use Rattle.carousel_step.specs.Step.{Answered, StepOutcome, refusing, repeated, stored, meets12, meets14, meets16, block_refusal, bytes_differ}
 use Rattle.carousel_step.specs.Step.{matched, on_arrived, answer_of, carousel_after, image_after}
-use Rattle.carousel_step.specs.Held.{held_refusal, put_outcome, held_outcome, marks_after}
+use Rattle.carousel_step.specs.Held.{slot_place, slot_entry, held_refusal, put_outcome, held_outcome, marks_after}
 use Rattle.carousel_step.proofs.Laws.Outcomes.{arrived_bad, arrived-good, held_bad, held-good}
+use Rattle.carousel_step.proofs.Laws.Slots.{found-slot, no_slot}
 use Rattle.carousel_step.proofs.View.{fits, fits_in}
 
 -- a block that the image holds is put as a matching one is
@@ -45,14 +46,24 @@ put-matched r image i d room =
     turned true = refl
     turned false = refl
 
--- A record c with all its entries, that keeps its rule; a block d; the place i of its module's number, and the entry there, if there is one.
-module _ (c : Carousel) (entries : length c.modules ≡ most_modules) (ruled : ruled_of c ≡ true) (image : List ℕ) (d : Arrived) (i : ℕ) (m : Module)
-    (place : i ≡ place_of (announced_by c) d.number) (entry : i < c.count → m ≡ get_or c.modules i unused) where
+-- A record c with all its entries, that keeps its rule; a block d; and the entry of its module's number, if there is one.
+module _ (c : Carousel) (entries : length c.modules ≡ most_modules) (ruled : ruled_of c ≡ true) (image : List ℕ) (d : Arrived) (o : Option Slot)
+    (slot : o ≡ slot_of c d.number) where
   abbrev a : Announced
   a = announced_by c
 
+  abbrev p : ℕ
+  p = place_of a d.number
+
   counted : length a.modules ≡ c.count
   counted = says-count c entries (ruled-count c ruled)
+
+  -- what was found
+  there : p < c.count → o ≡ Some (record { place = p; entry = get_or c.modules p unused })
+  there l = slot ∙ found-slot c entries (ruled-count c ruled) d.number l
+
+  nowhere : c.count ≤ p → o ≡ None
+  nowhere l = slot ∙ no_slot c entries (ruled-count c ruled) d.number l
 
   -- 12 to 16 by four numbers: how many modules there are, the place of this one, its version and its size
   abbrev lowest : (count place version size : ℕ) → ℕ
@@ -65,83 +76,64 @@ module _ (c : Carousel) (entries : length c.modules ≡ most_modules) (ruled : r
       ∷ (16, not (ltb d.block (blocks_of c.block_size z)) || not (eqb (length d.bytes) (block_length_of c.block_size z d.block)))
       ∷ [])
 
-  by_parts : held_refusal (head_of c) i m (length image) d ≡ lowest c.count i m.version m.size
-  unfolding held_refusal
-  by_parts = refl
-
-  by_record : block_refusal a (length image) d
-      ≡ lowest (length a.modules) (place_of a d.number) (module_at a (place_of a d.number)).version (module_at a (place_of a d.number)).size
+  by_record : block_refusal a (length image) d ≡ lowest (length a.modules) p (module_at a p).version (module_at a p).size
   unfolding block_refusal meets12 meets13 meets14 meets15 meets16 announced_by
   by_record = refl
 
-  -- where the place is past the modules, neither version nor size is looked at
-  past : (p k v z w y : ℕ) → ltb p k ≡ false → lowest k p v z ≡ lowest k p w y
-  unfolding first_met
-  past p k v z w y e = rw e
-
-  -- where it is not, they are those of the entry
-  its : i < c.count → listed_in m ≡ module_at a (place_of a d.number)
-  its l = ap listed_in (entry l) ∙ sym (says_module c i l) ∙ ap (module_at a) place
-
-  same-refusal : held_refusal (head_of c) i m (length image) d ≡ block_refusal a (length image) d
-  same-refusal = go (ltb i c.count) refl ∙ numbers ∙ sym by_record
+  same-refusal : held_refusal (head_of c) o (length image) d ≡ block_refusal a (length image) d
+  unfolding held_refusal first_met
+  same-refusal = go (ltb p c.count) refl ∙ ap (λ (k : ℕ). lowest k p (module_at a p).version (module_at a p).size) (sym counted) ∙ sym by_record
     where
-      numbers : lowest c.count i (module_at a (place_of a d.number)).version (module_at a (place_of a d.number)).size
-          ≡ lowest (length a.modules) (place_of a d.number) (module_at a (place_of a d.number)).version (module_at a (place_of a d.number)).size
-      numbers = ap₂ (λ (k p : ℕ). lowest k p (module_at a (place_of a d.number)).version (module_at a (place_of a d.number)).size) (sym counted) place
-
-      go : (t : Bool) → ltb i c.count ≡ t
-          → held_refusal (head_of c) i m (length image) d ≡ lowest c.count i (module_at a (place_of a d.number)).version (module_at a (place_of a d.number)).size
-      go true e = by_parts ∙ ap (λ (x : Listed). lowest c.count i x.version x.size) (its (ltb-true i c.count e))
-      go false e = by_parts ∙ past i c.count _ _ _ _ e
+      go : (t : Bool) → ltb p c.count ≡ t → held_refusal (head_of c) o (length image) d ≡ lowest c.count p (module_at a p).version (module_at a p).size
+      go true e =
+          let l = ltb-true p c.count e in
+          rw (there l) (ap (λ (x : Listed). lowest c.count p x.version x.size) (sym (says_module c p l)))
+      go false e = rw (nowhere (ltb-false p c.count e), e)
 
   -- its place in the image
-  at-is : i < c.count → m.start + d.block * c.block_size ≡ block_at (record_of c) i d.block
+  at-is : p < c.count → (get_or c.modules p unused).start + d.block * c.block_size ≡ block_at (record_of c) p d.block
   unfolding block_at announced_by
-  at-is l = ap (λ (x : ℕ). x + d.block * c.block_size) (ap (λ (x : Module). x.start) (entry l) ∙ sym (says-start c i l))
+  at-is l = ap (λ (x : ℕ). x + d.block * c.block_size) (sym (says-start c p l))
 
-  taken : block_refusal a (length image) d ≡ 0 → held_outcome (head_of c) i m c.marks image d ≡ on_arrived (record_of c) image d
+  taken : block_refusal a (length image) d ≡ 0 → held_outcome (head_of c) o c.marks image d ≡ on_arrived (record_of c) image d
   taken e =
       let f = fits a (length image) d e in
       let u = f.found in
       let k = kept (record_of c) (omega arith) (ruled-says c ruled) in
-      let l : i < c.count = omega (arith, place, counted) in
-      held-good (head_of c) i m c.marks image d (same-refusal ∙ e)
-      ∙ ap₂ (λ (x y : ℕ). put_outcome (mark_of x d.block) y c.marks image d.bytes) place (at-is l ∙ ap (λ (x : ℕ). block_at (record_of c) x d.block) place)
-      ∙ put-matched (record_of c) image (place_of a d.number) d (fits_in (record { says = record_of c; image = image }) k d f)
+      let l : p < c.count = omega (arith, counted) in
+      held-good (head_of c) o c.marks image d (same-refusal ∙ e)
+      ∙ ap (λ (s : Option Slot). put_outcome (mark_of (slot_place s) d.block) ((slot_entry s).start + d.block * c.block_size) c.marks image d.bytes) (there l)
+      ∙ ap (λ (y : ℕ). put_outcome (mark_of p d.block) y c.marks image d.bytes) (at-is l)
+      ∙ put-matched (record_of c) image p d (fits_in (record { says = record_of c; image = image }) k d f)
       ∙ sym (arrived-good (record_of c) image d e)
 
   -- WHERE THE RULE IS KEPT, IT IS WHAT 01 SAYS
-  pub held-is : held_outcome (head_of c) i m c.marks image d ≡ on_arrived (record_of c) image d
+  pub held-is : held_outcome (head_of c) o c.marks image d ≡ on_arrived (record_of c) image d
   held-is = go (eqb (block_refusal a (length image) d) 0) refl
     where
-      go : (t : Bool) → eqb (block_refusal a (length image) d) 0 ≡ t → held_outcome (head_of c) i m c.marks image d ≡ on_arrived (record_of c) image d
+      go : (t : Bool) → eqb (block_refusal a (length image) d) 0 ≡ t → held_outcome (head_of c) o c.marks image d ≡ on_arrived (record_of c) image d
       go true e = taken (eqb-true (block_refusal a (length image) d) 0 e)
       go false e =
           let n = eqb-false (block_refusal a (length image) d) 0 e in
-          held_bad (head_of c) i m c.marks image d (block_refusal a (length image) d) same-refusal n ∙ sym (arrived_bad (record_of c) image d n)
-
--- an entry that is counted is the one that is read
-pub found-entry : (ms : List Module) (n : ℕ) → n ≤ most_modules → (i : ℕ) → i < n → get_or ms (i % most_modules) unused ≡ get_or ms i unused
-found-entry ms n few i l = ap (λ (k : ℕ). get_or ms k unused) (let h : i < most_modules = omega arith in mod-eq_of_lt h)
+          held_bad (head_of c) o c.marks image d (block_refusal a (length image) d) same-refusal n ∙ sym (arrived_bad (record_of c) image d n)
 
 -- a record in its parts is the record
 pub joined-own : (c : Carousel) → joined_of (head_of c) c.modules c.marks ≡ c
 joined-own c = refl
 
 -- what a block comes to is no announcement: of the record it changes at most the marks
-pub held-marks : (h : Head) (i : ℕ) (m : Module) (ws image : List ℕ) (d : Arrived) (g : Head) (ms : List Module)
-    → joined_of g ms (marks_after ws (held_outcome h i m ws image d)) ≡ carousel_after (joined_of g ms ws) (held_outcome h i m ws image d)
+pub held-marks : (h : Head) (o : Option Slot) (ws image : List ℕ) (d : Arrived) (g : Head) (ms : List Module)
+    → joined_of g ms (marks_after ws (held_outcome h o ws image d)) ≡ carousel_after (joined_of g ms ws) (held_outcome h o ws image d)
 unfolding held_outcome put_outcome with_mark
-held-marks h i m ws image d g ms =
-    let at = m.start + d.block * h.block_size in
-    go (mark_of i d.block) at (eqb (held_refusal h i m (length image) d) 0) (ltb (length image) (at + length d.bytes)) (is_marked ws (mark_of i d.block))
+held-marks h o ws image d g ms =
+    let at = (slot_entry o).start + d.block * h.block_size in
+    go (mark_of (slot_place o) d.block) at (eqb (held_refusal h o (length image) d) 0) (ltb (length image) (at + length d.bytes)) (is_marked ws (mark_of (slot_place o) d.block))
     (same_numbers (take (length d.bytes) (drop at image)) d.bytes)
   where
     go : (k at : ℕ) (b₁ b₂ b₃ b₄ : Bool)
         → let o = cond b₁
         (cond b₂ (refusing (refused 15)) (cond b₃ (cond b₄ repeated (refusing (refused 17))) (stored k at d.bytes)))
-        (refusing (refused (held_refusal h i m (length image) d))) in
+        (refusing (refused (held_refusal h o (length image) d))) in
         joined_of g ms (marks_after ws o) ≡ carousel_after (joined_of g ms ws) o
     go k at false b₂ b₃ b₄ = refl
     go k at true true b₃ b₄ = refl
@@ -150,10 +142,10 @@ held-marks h i m ws image d g ms =
     go k at true false false b₄ = refl
 
 -- WHAT A CALLER OF `take_block` KNOWS: of a record c that keeps its rule, held in its parts, the answer, the record put together again and the image are those of 01
-module _ (c : Carousel) (entries : length c.modules ≡ most_modules) (ruled : ruled_of c ≡ true) (image : List ℕ) (b : Block) (x y : List ℕ) (h : Head) (i : ℕ) (m : Module)
-    (own : h ≡ head_of c) (part : x ≡ y) (place : i ≡ place_of (announced_by c) b.number) (entry : i < c.count → m ≡ get_or c.modules i unused) where
+module _ (c : Carousel) (entries : length c.modules ≡ most_modules) (ruled : ruled_of c ≡ true) (image : List ℕ) (b : Block) (x y : List ℕ) (h : Head) (o : Option Slot)
+    (own : h ≡ head_of c) (part : x ≡ y) (slot : o ≡ slot_of c b.number) where
   abbrev held : StepOutcome
-  held = held_outcome h i m c.marks image (arrived_in b x)
+  held = held_outcome h o c.marks image (arrived_in b x)
 
   abbrev comes : StepOutcome
   comes = on_arrived (record_of c) image (arrived_in b y)
@@ -161,15 +153,15 @@ module _ (c : Carousel) (entries : length c.modules ≡ most_modules) (ruled : r
   pub comes_to : held ≡ comes
   unfolding arrived_in
   comes_to =
-      ap₂ (λ (h : Head) (x : List ℕ). held_outcome h i m c.marks image (arrived_in b x)) own part ∙ held-is c entries ruled image (arrived_in b y) i m place entry
+      ap₂ (λ (h : Head) (x : List ℕ). held_outcome h o c.marks image (arrived_in b x)) own part ∙ held-is c entries ruled image (arrived_in b y) o slot
 
   pub held_record : (ws : List ℕ) → ws ≡ marks_after c.marks held → joined_of h c.modules ws ≡ carousel_after c comes
   held_record ws e =
       ap (joined_of h c.modules) e
-      ∙ held-marks h i m c.marks image (arrived_in b x) h c.modules
+      ∙ held-marks h o c.marks image (arrived_in b x) h c.modules
       ∙ ap₂ (λ (d : Carousel) (o : StepOutcome). carousel_after d o) (ap (λ (h : Head). joined_of h c.modules c.marks) own ∙ joined-own c) comes_to
 
-  pub held-answer : (r : Answer) → r ≡ answer_of held → r ≡ answer_of comes
+  pub held-answer : (r : Answered) → r ≡ answer_of held → r ≡ answer_of comes
   held-answer r e = e ∙ ap (λ (o : StepOutcome). answer_of o) comes_to
 
   pub held-image : (i : List ℕ) → i ≡ image_after image held → i ≡ image_after image comes

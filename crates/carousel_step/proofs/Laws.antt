@@ -1,4 +1,5 @@
 pub mod Sames
+pub mod Slots
 pub mod Images
 pub mod Afresh
 pub mod Outcomes

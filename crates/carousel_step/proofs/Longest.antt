@@ -3,6 +3,7 @@ use Prim.Native.Nat.{ℕ, ◌+◌, ◌-◌, ◌<◌}
 use mathlib.Core.Path.{◌≡◌, refl, sym, ap, ◌∙◌}
 use mathlib.Core.List.{List, ◌∷◌, ◌++◌}
 use native.Mathlib.Omega.{arith}
+use Rattle.std.proofs.Common.{Ok, Err}
 use lib.Dec.{lit≤}
 use lib.ListN.{length, drop, length-append, length-drop}
 use lib.Seq.{take_at, length-take-le}
@@ -15,13 +16,12 @@ use Rattle.section.specs.Header.{length_of, header_of, body_of}
 use Rattle.section.specs.Refusals.{GoodSection}
 use Rattle.section.proofs.Laws.Crc.{own-crc}
 use Rattle.carousel_messages.specs.declared.Block.{Block}
-use Rattle.carousel_messages.specs.declared.Judged.{Judged}
-use Rattle.carousel_messages.specs.declared.Judged.TheVariants as judged
+use Rattle.carousel_messages.specs.declared.Message.TheVariants as message
 use Rattle.carousel_messages.specs.declared.CarouselTable.TheVariants.{Blocks}
 use Rattle.carousel_messages.specs.Message.{adaptation_of, payload_of}
 use Rattle.carousel_messages.specs.Contents.{block_data_of}
 use Rattle.carousel_messages.specs.Refusals.{short7, meets8, message_framed, payload_framed, message_meets7, meets9, message_tests}
-use Rattle.carousel_messages.specs.Judged.{block_of, judged_of, number_of_judged}
+use Rattle.carousel_messages.specs.Judged.{Judged, block_of, judged_of, number_of_judged}
 use Rattle.carousel_messages.specs.Heard.{Arrived, arrived, arrived_in, span_of, heard_in, heard_of}
 use Rattle.carousel_messages.proofs.Exact.{good-exactly, carried-exactly}
 use Rattle.carousel_messages.proofs.Laws.Heard.{data-said}
@@ -32,10 +32,10 @@ unfolding heard_of heard_in arrived_in
 block-long s d e p = go (judged_of s) refl e
   where
     go : (j : Judged) → judged_of s ≡ j → heard_in s j ≡ arrived d → length_of s ≡ 27 + adaptation_of (body_of s) + length d.bytes
-    go (judged.Refused r) j e = let z : ◌≡◌ {A = ℕ} 0 1 = cc in absurd (omega arith)
-    go (judged.Announced a) j e = let z : ◌≡◌ {A = ℕ} 0 1 = cc in absurd (omega arith)
-    go (judged.Carried b) j e =
-        let q : arrived_in b (span_of s b.start b.size) ≡ d = cc in
+    go (Err r) j e = let z : ◌≡◌ {A = ℕ} 0 1 = cc in absurd (omega arith)
+    go (Ok (message.Announced a)) j e = let z : ◌≡◌ {A = ℕ} 0 1 = cc in absurd (omega arith)
+    go (Ok (message.Carried b)) j e =
+        let q : arrived_in b (span_of s b.part.start b.part.size) ≡ d = cc in
         let z : length d.bytes ≡ length (block_data_of (payload_of (body_of s))) = ap (λ (x : Arrived). length x.bytes) (sym q) ∙ ap length (data-said s b j) in
         let g = ((good-exactly s).0 (ap number_of_judged j)).0 in
         let x = g.exact in
@@ -66,13 +66,13 @@ module _ (ds : List ℕ) (e : length ds ≡ 4066) where
   good = record { headed = let l = long in omega arith; exact = long; table = refl; least = lit≤ tt; most = lit≤ tt; syntax = refl; numbers = lit≤ tt; crc = own-crc (front ds); current = refl }
 
   abbrev carried : Block
-  carried = record { download = 1; number = 1; version = 0; block = 0; start = 26; size = 4066 }
+  carried = record { download = 1; number = 1; version = 0; block = 0; part = record { start = 26; size = 4066 } }
 
   passed : None (message_tests Blocks (header_of (longest ds)) (body_of (longest ds)))
   unfolding field_at short7 meets8 message_framed payload_framed message_meets7 meets9
   passed = rw (body_of_lem, e) (refl, (refl, (refl, (refl, tt))))
 
-  judged-block : judged_of (longest ds) ≡ judged.Carried carried
+  judged-block : judged_of (longest ds) ≡ Ok (message.Carried carried)
   unfolding field_at block_of
   judged-block = (carried-exactly (longest ds) carried).1 ((good-exactly (longest ds)).1 (good, passed), refl, rw (body_of_lem, e))
 

@@ -6,6 +6,7 @@ use mathlib.Core.Logic.{◌↔◌}
 use mathlib.Core.Bool.{Bool, true, ◌&&◌}
 use mathlib.Core.List.{List, []}
 use native.Mathlib.Omega.{arith}
+use Rattle.std.proofs.Common.{Ok, Err}
 use lib.ListN.{take, drop}
 use Rattle.carousel_messages.specs.Limits.{most_modules, most_blocks}
 use Rattle.carousel_messages.specs.Heard.{Announced}
@@ -25,7 +26,7 @@ use Rattle.carousel_step.proofs.Steps.{new_changes}
 
 -- AFTER "NEW": block b of the module at place j is marked exactly where some module of the record before is the same, in all six, and block b of it was marked, at its old place.
 -- Nothing of a module that is not the same stays.
-module _ (c : Carousel) (s image : List ℕ) (answers : (stepped_of c s image).answer ≡ answer.New) where
+module _ (c : Carousel) (s image : List ℕ) (answers : (stepped_of c s image).answer ≡ (Ok answer.New)) where
   abbrev next : Record
   next = record_of (stepped_of c s image).state
 

@@ -4,6 +4,7 @@ use mathlib.Core.Path.{◌≡◌, refl, sym, ap, ◌∙◌}
 use mathlib.Core.Bool.{true, false}
 use mathlib.Core.List.{List, [], ◌∷◌}
 use lib.ListN.{replicate}
+use Rattle.std.proofs.Common.{Ok, Err}
 use Rattle.wire.specs.Fields.{field_at}
 use Rattle.wire.specs.Tests.{first_met}
 use Rattle.wire.specs.Items.{framed, items_in, items}
@@ -116,7 +117,7 @@ told-new : on_heard (record_of empty_record) image (announced told) ≡ new told
 unfolding on_heard on_announced same_announced announced_by empty_record
 told-new = refl
 
-tells : stepped_of empty_record announcing image ≡ record { answer = answer.New; state = renewed }
+tells : stepped_of empty_record announcing image ≡ record { answer = (Ok answer.New); state = renewed }
 tells = (stepped-is empty_record announcing image _ (comes empty_record announcing image (announced told) empty-ruled hears-told ∙ told-new)).0
 
 carried-stored : on_heard (record_of renewed) image (arrived carried) ≡ stored 0 0 carried.bytes
@@ -134,7 +135,7 @@ renewed-ruled = left-ruled empty_record announcing image _ empty-ruled tells
 puts : outcome_of renewed abcd image ≡ stored 0 0 carried.bytes
 puts = comes renewed abcd image (arrived carried) renewed-ruled hears-carried ∙ carried-stored
 
-stores : stepped_of renewed abcd image ≡ record { answer = answer.Stored; state = holding }
+stores : stepped_of renewed abcd image ≡ record { answer = (Ok answer.Stored); state = holding }
 stores = (stepped-is renewed abcd image _ puts).0
 
 holding-ruled : ruled_of holding ≡ true
@@ -155,11 +156,11 @@ unfolding on_heard on_arrived matched block_refusal first_met meets12 meets13 me
 carried_other = refl
 
 -- "new", "same", "stored" and "repeated", and what each leaves; and where the image has other bytes at a marked block's place, 17
-pub sections : (stepped_of empty_record announcing image ≡ record { answer = answer.New; state = renewed })
-    × (stepped_of renewed announcing image ≡ record { answer = answer.Same; state = renewed })
-    × (stepped_of renewed abcd image ≡ record { answer = answer.Stored; state = holding }) × (image_of renewed abcd image ≡ imaged)
-    × (stepped_of holding abcd imaged ≡ record { answer = answer.Repeated; state = holding })
-    × (stepped_of holding abcd image ≡ record { answer = answer.Refused (refused 17); state = holding })
+pub sections : (stepped_of empty_record announcing image ≡ record { answer = (Ok answer.New); state = renewed })
+    × (stepped_of renewed announcing image ≡ record { answer = (Ok answer.Same); state = renewed })
+    × (stepped_of renewed abcd image ≡ record { answer = (Ok answer.Stored); state = holding }) × (image_of renewed abcd image ≡ imaged)
+    × (stepped_of holding abcd imaged ≡ record { answer = (Ok answer.Repeated); state = holding })
+    × (stepped_of holding abcd image ≡ record { answer = Err (refused 17); state = holding })
 unfolding overwrite
 sections = (
   tells,

@@ -5,6 +5,7 @@ use mathlib.Core.Bool.{Bool, true, false, cond}
 use mathlib.Core.List.{List}
 use mathlib.Core.Logic.{◌⊎◌}
 use native.Mathlib.Omega.{arith}
+use Rattle.std.proofs.Common.{Ok, Err}
 use lib.Dec.{eqb}
 use lib.ListN.{length, get_or, take, drop}
 use borrow.Author.Tests.{eqb-true}
@@ -14,12 +15,11 @@ use Rattle.section.specs.declared.Refusal.{Refusal}
 use Rattle.section.specs.Answer.{refused}
 use Rattle.carousel_messages.specs.Heard.{Announced, Arrived, Heard, refusal, announced, arrived, heard_of}
 use Rattle.carousel_record.specs.declared.Carousel.{Carousel}
-use Rattle.carousel_step.specs.declared.Answer.{Answer}
 use Rattle.carousel_step.specs.declared.Answer.TheVariants as answer
 use Rattle.carousel_record.specs.Marks.{mark_of, is_marked, marks_with}
 use Rattle.carousel_record.specs.Record.{Record, announced_by, record_of, place_of, received, block_at, ruled_of}
 use Rattle.carousel_record.specs.Changes.{made_afresh, with_mark}
-use Rattle.carousel_step.specs.Step.{block_refusal, bytes_differ, same_announced, StepOutcome, refusing, new, same, repeated, stored, matched, on_arrived, on_announced, on_heard, outcome_of}
+use Rattle.carousel_step.specs.Step.{Answered, block_refusal, bytes_differ, same_announced, StepOutcome, refusing, new, same, repeated, stored, matched, on_arrived, on_announced, on_heard, outcome_of}
 use Rattle.carousel_step.specs.Step.{answer_of, carousel_after, image_after, stepped_of, image_of}
 use Rattle.carousel_step.proofs.Views.{is_new}
 use Rattle.carousel_record.proofs.Laws.Marks.{mark-same, mark-other}
@@ -29,12 +29,12 @@ use Rattle.carousel_step.proofs.View.{Fits, fits, fits_in, arrived_old}
 use Rattle.carousel_step.proofs.Simulation.{outcome-ruled}
 
 -- whether an answer is "new" or "stored"; the others change nothing
-abbrev changing : Answer → Bool
-changing (answer.Refused n) = false
-changing answer.New = true
-changing answer.Same = false
-changing answer.Stored = true
-changing answer.Repeated = false
+abbrev changing : Answered → Bool
+changing (Err n) = false
+changing (Ok answer.New) = true
+changing (Ok answer.Same) = false
+changing (Ok answer.Stored) = true
+changing (Ok answer.Repeated) = false
 
 quiet : (c : Carousel) (image : List ℕ) (o : StepOutcome) → changing (answer_of o) ≡ false → (carousel_after c o ≡ c) × (image_after image o ≡ image)
 quiet c image (refusing n) e = (refl, refl)
@@ -49,17 +49,17 @@ module _ (c : Carousel) (s image : List ℕ) where
   step-quiet e = quiet c image (outcome_of c s image) e
 
   -- A REFUSAL CHANGES NOTHING, and so do "same" and "repeated".
-  pub refusal_changes-nothing : (n : Refusal) → (stepped_of c s image).answer ≡ answer.Refused n → ((stepped_of c s image).state ≡ c) × (image_of c s image ≡ image)
+  pub refusal_changes-nothing : (n : Refusal) → (stepped_of c s image).answer ≡ Err n → ((stepped_of c s image).state ≡ c) × (image_of c s image ≡ image)
   refusal_changes-nothing n e = step-quiet (ap changing e)
 
-  pub same_changes-nothing : (stepped_of c s image).answer ≡ answer.Same → ((stepped_of c s image).state ≡ c) × (image_of c s image ≡ image)
+  pub same_changes-nothing : (stepped_of c s image).answer ≡ (Ok answer.Same) → ((stepped_of c s image).state ≡ c) × (image_of c s image ≡ image)
   same_changes-nothing e = step-quiet (ap changing e)
 
-  pub repeated_changes-nothing : (stepped_of c s image).answer ≡ answer.Repeated → ((stepped_of c s image).state ≡ c) × (image_of c s image ≡ image)
+  pub repeated_changes-nothing : (stepped_of c s image).answer ≡ (Ok answer.Repeated) → ((stepped_of c s image).state ≡ c) × (image_of c s image ≡ image)
   repeated_changes-nothing e = step-quiet (ap changing e)
 
   -- 1: a record that breaks its rule is refused before all else
-  pub broken-refused : ruled_of c ≡ false → (stepped_of c s image).answer ≡ answer.Refused (refused 1)
+  pub broken-refused : ruled_of c ≡ false → (stepped_of c s image).answer ≡ Err (refused 1)
   unfolding stepped_of outcome_of
   broken-refused e = rw e
 
@@ -76,19 +76,19 @@ record Put (r : Record) (image : List ℕ) (h : Heard) : Type 0 where
   clear : received r (place_of r.announced block.number) block.block ≡ false
   came : on_heard r image h ≡ stored (mark_of (place_of r.announced block.number) block.block) (block_at r (place_of r.announced block.number) block.block) block.bytes
 
-abbrev is_stored : Answer → Bool
-is_stored (answer.Refused n) = false
-is_stored answer.New = false
-is_stored answer.Same = false
-is_stored answer.Stored = true
-is_stored answer.Repeated = false
+abbrev is_stored : Answered → Bool
+is_stored (Err n) = false
+is_stored (Ok answer.New) = false
+is_stored (Ok answer.Same) = false
+is_stored (Ok answer.Stored) = true
+is_stored (Ok answer.Repeated) = false
 
-abbrev is_made : Answer → Bool
-is_made (answer.Refused n) = false
-is_made answer.New = true
-is_made answer.Same = false
-is_made answer.Stored = false
-is_made answer.Repeated = false
+abbrev is_made : Answered → Bool
+is_made (Err n) = false
+is_made (Ok answer.New) = true
+is_made (Ok answer.Same) = false
+is_made (Ok answer.Stored) = false
+is_made (Ok answer.Repeated) = false
 
 made-new : (o : StepOutcome) → is_made (answer_of o) ≡ is_new o
 unfolding is_new
@@ -169,7 +169,7 @@ module _ (c : Carousel) (s image : List ℕ) where
   unfolding stepped_of
   heard-answer e = ap (λ (o : StepOutcome). answer_of o) (outcome-ruled c s image e)
 
-  pub new_changes : (stepped_of c s image).answer ≡ answer.New → Renewing c s image
+  pub new_changes : (stepped_of c s image).answer ≡ (Ok answer.New) → Renewing c s image
   unfolding stepped_of image_of
   new_changes e =
       let u = was-ruled (ap changing e) in
@@ -177,10 +177,10 @@ module _ (c : Carousel) (s image : List ℕ) where
       let o = outcome-ruled c s image u ∙ m.came in
       record { told = m.told; heard = m.heard; ruled = u; state = ap (λ (o : StepOutcome). carousel_after c o) o; left = ap (λ (o : StepOutcome). image_after image o) o }
 
-  pub new-leaves-image : (stepped_of c s image).answer ≡ answer.New → image_of c s image ≡ image
+  pub new-leaves-image : (stepped_of c s image).answer ≡ (Ok answer.New) → image_of c s image ≡ image
   new-leaves-image e = (new_changes e).left
 
-  pub stored_changes : (stepped_of c s image).answer ≡ answer.Stored → Storing c s image
+  pub stored_changes : (stepped_of c s image).answer ≡ (Ok answer.Stored) → Storing c s image
   unfolding stepped_of image_of announced_by
   stored_changes e =
       let u = was-ruled (ap changing e) in
@@ -235,9 +235,9 @@ module _ (c : Carousel) (s image : List ℕ) where
   pub image_length : length (image_of c s image) ≡ length image
   image_length = go (stepped_of c s image).answer refl
     where
-      go : (r : Answer) → (stepped_of c s image).answer ≡ r → length (image_of c s image) ≡ length image
-      go (answer.Refused n) e = ap (λ (l : List ℕ). length l) (refusal_changes-nothing c s image n e).1
-      go answer.New e = ap (λ (l : List ℕ). length l) (new-leaves-image e)
-      go answer.Same e = ap (λ (l : List ℕ). length l) (same_changes-nothing c s image e).1
-      go answer.Stored e = stored_length (stored_changes e)
-      go answer.Repeated e = ap (λ (l : List ℕ). length l) (repeated_changes-nothing c s image e).1
+      go : (r : Answered) → (stepped_of c s image).answer ≡ r → length (image_of c s image) ≡ length image
+      go (Err n) e = ap (λ (l : List ℕ). length l) (refusal_changes-nothing c s image n e).1
+      go (Ok answer.New) e = ap (λ (l : List ℕ). length l) (new-leaves-image e)
+      go (Ok answer.Same) e = ap (λ (l : List ℕ). length l) (same_changes-nothing c s image e).1
+      go (Ok answer.Stored) e = stored_length (stored_changes e)
+      go (Ok answer.Repeated) e = ap (λ (l : List ℕ). length l) (repeated_changes-nothing c s image e).1

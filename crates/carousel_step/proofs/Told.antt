@@ -4,6 +4,7 @@ use mathlib.Core.Path.{◌≡◌, refl, ap}
 use mathlib.Core.Bool.{Bool, true, false, cond}
 use mathlib.Core.List.{List}
 use native.Mathlib.Omega.{arith}
+use Rattle.std.proofs.Common.{Ok, Err}
 use lib.Dec.{eqb, lit≤, lit<}
 use lib.ListN.{length}
 use borrow.Author.Tests.{eqb-false}
@@ -40,11 +41,11 @@ module _ (s : List ℕ) (r : Refusal) where
       go true f false w k at e = let v : ◌≡◌ {A = ℕ} 0 1 = cc in absurd (omega arith)
       go false f u w k at e = let q : refused (block_refusal c.announced (length image) d) ≡ r = cc in rw (← q) (above-told Carousels s _ (block-above _ _ d (eqb-false _ _ f)))
 
-  pub step-told : (c : Carousel) (image : List ℕ) → (stepped_of c s image).answer ≡ answer.Refused r → Told Carousels s r
+  pub step-told : (c : Carousel) (image : List ℕ) → (stepped_of c s image).answer ≡ Err r → Told Carousels s r
   unfolding stepped_of outcome_of on_heard on_announced
   step-told c image e = go (ruled_of c) (heard_of s) refl e
     where
-      by : (o : StepOutcome) → answer_of o ≡ answer.Refused r → o ≡ refusing r
+      by : (o : StepOutcome) → answer_of o ≡ Err r → o ≡ refusing r
       by (refusing n) e = let q : n ≡ r = cc in ap refusing q
       by (new a) e = let w : ◌≡◌ {A = ℕ} 0 1 = cc in absurd (omega arith)
       by same e = let w : ◌≡◌ {A = ℕ} 0 1 = cc in absurd (omega arith)
@@ -55,7 +56,7 @@ module _ (s : List ℕ) (r : Refusal) where
       no-refusal true a e = let w : ◌≡◌ {A = ℕ} 0 1 = cc in omega arith
       no-refusal false a e = let w : ◌≡◌ {A = ℕ} 0 1 = cc in omega arith
 
-      go : (t : Bool) (h : Heard) → heard_of s ≡ h → answer_of (cond t (on_heard (record_of c) image h) (refusing (refused 1))) ≡ answer.Refused r → Told Carousels s r
+      go : (t : Bool) (h : Heard) → heard_of s ≡ h → answer_of (cond t (on_heard (record_of c) image h) (refusing (refused 1))) ≡ Err r → Told Carousels s r
       go false h f e = let q : refused 1 ≡ r = cc in rw (← q) (broken-told Carousels s)
       go true (refusal n) f e = let q : n ≡ r = cc in heard-told s r (rw (← q) f)
       go true (announced a) f e = absurd (no-refusal (same_announced (record_of c).announced a) a (by (cond (same_announced (record_of c).announced a) same (new a)) e))

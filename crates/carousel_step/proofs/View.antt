@@ -5,6 +5,7 @@ use mathlib.Core.Bool.{Bool, true, false, not, cond, ◌&&◌}
 use mathlib.Core.List.{List}
 use mathlib.Core.Logic.{inl, inr}
 use native.Mathlib.Omega.{arith}
+use Rattle.std.proofs.Common.{Ok, Err}
 use lib.Dec.{eqb, ltb}
 use lib.ListN.{length, take, drop}
 use borrow.Author.Tests.{eqb-true, eqb-false, ltb-true, ltb-false, not-false}
@@ -124,7 +125,7 @@ module _ (x : Held) (i : ℕ) (d : Arrived) where
   matched-clear e = rw e
 
   answered : (t s : Bool) (k at : ℕ) (bytes : List ℕ) → answer_of (cond t (cond (not s) (refusing (refused 17)) repeated) (stored k at bytes))
-      ≡ cond t (cond s answer.Repeated (answer.Refused (refused 17))) answer.Stored
+      ≡ cond t (cond s (Ok answer.Repeated) (Err (refused 17))) (Ok answer.Stored)
   answered true true k at bytes = refl
   answered true false k at bytes = refl
   answered false s k at bytes = refl

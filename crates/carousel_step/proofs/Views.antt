@@ -3,12 +3,12 @@ use Prim.Native.Nat.{ℕ}
 use mathlib.Core.Bool.{Bool, true, false, cond}
 use mathlib.Core.List.{List}
 use lib.ListN.{take, drop}
+use Rattle.std.proofs.Common.{Ok, Err}
 use Rattle.wire.specs.Copies.{same_numbers}
 use Rattle.section.specs.Answer.{refused}
-use Rattle.carousel_step.specs.declared.Answer.{Answer}
 use Rattle.carousel_step.specs.declared.Answer.TheVariants as answer
 use Rattle.carousel_record.specs.Record.{Record, block_length, received, block_at}
-use Rattle.carousel_step.specs.Step.{StepOutcome, refusing, new, same, repeated, stored, record_after, image_after}
+use Rattle.carousel_step.specs.Step.{Answered, StepOutcome, refusing, new, same, repeated, stored, record_after, image_after}
 
 -- one record, by what it says, and one image, carried from call to call; and both after a section that came to o
 pub record Held : Type 0 where
@@ -30,8 +30,8 @@ slot x i b = record { marked = received x.says i b; bytes = take (block_length x
 unfoldable pub hit : List ℕ → Slot → Slot
 hit ds v = cond v.marked v (record { marked = true; bytes = ds })
 
-unfoldable pub reply : Slot → List ℕ → Answer
-reply v ds = cond v.marked (cond (same_numbers v.bytes ds) answer.Repeated (answer.Refused (refused 17))) answer.Stored
+unfoldable pub reply : Slot → List ℕ → Answered
+reply v ds = cond v.marked (cond (same_numbers v.bytes ds) (Ok answer.Repeated) (Err (refused 17))) (Ok answer.Stored)
 
 -- whether a section came to a new announcement
 unfoldable pub is_new : StepOutcome → Bool

@@ -1,5 +1,5 @@
 -- One section: refusals 12 to 17, what it comes to, and what it leaves. 01, "The carousel record", "Numbers a call may answer".
-use Rattle.std.specs.Prelude.{ℕ, Bool, true, false, not, cond, ◌&&◌, ◌||◌, List, [], ◌∷◌, ◌++◌, eqb, ltb, length, take, drop}
+use Rattle.std.specs.Prelude.{Result, Ok, Err, ℕ, Bool, true, false, not, cond, ◌&&◌, ◌||◌, List, [], ◌∷◌, ◌++◌, eqb, ltb, length, take, drop}
 use Rattle.wire.specs.Tests.{Tests, first_met}
 use Rattle.wire.specs.Copies.{same_numbers, overwrite}
 use Rattle.section.specs.declared.Refusal.{Refusal}
@@ -81,12 +81,15 @@ unfoldable pub outcome_of : Carousel → (s image : List ℕ) → StepOutcome
 outcome_of c s image = cond (ruled_of c) (on_heard (record_of c) image (heard_of s)) (refusing (refused 1))
 
 -- what it answers, and what it leaves of the record as the code holds it, of what the record says, and of the image
-abbrev pub answer_of : StepOutcome → Answer
-answer_of (refusing n) = answer.Refused n
-answer_of (new a) = answer.New
-answer_of same = answer.Same
-answer_of repeated = answer.Repeated
-answer_of (stored k at bytes) = answer.Stored
+abbrev pub Answered : Type 0
+Answered = Result Answer Refusal
+
+abbrev pub answer_of : StepOutcome → Answered
+answer_of (refusing n) = Err n
+answer_of (new a) = Ok answer.New
+answer_of same = Ok answer.Same
+answer_of repeated = Ok answer.Repeated
+answer_of (stored k at bytes) = Ok answer.Stored
 
 abbrev pub carousel_after : Carousel → StepOutcome → Carousel
 carousel_after c (refusing n) = c
@@ -120,12 +123,12 @@ unfoldable pub image_of : Carousel → (s image : List ℕ) → List ℕ
 image_of c s image = image_after image (outcome_of c s image)
 
 -- the paper's number of an answer; 0 is no refusal
-abbrev pub number_of_answer : Answer → ℕ
-number_of_answer (answer.Refused r) = r.number
-number_of_answer answer.New = 0
-number_of_answer answer.Same = 0
-number_of_answer answer.Stored = 0
-number_of_answer answer.Repeated = 0
+abbrev pub number_of_answer : Answered → ℕ
+number_of_answer (Err r) = r.number
+number_of_answer (Ok answer.New) = 0
+number_of_answer (Ok answer.Same) = 0
+number_of_answer (Ok answer.Stored) = 0
+number_of_answer (Ok answer.Repeated) = 0
 
 -- 17: "block marked, bytes differ"
 abbrev pub meets17 : Record → List ℕ → Arrived → Bool

@@ -18,13 +18,13 @@ pub fn take_announcement(c: Carousel, a: Announcement, list: &[u8]) -> Stepped
 {
     if is_same(c, a, list) {
         return Stepped {
-            answer: Answer::Same,
+            answer: Ok(Answer::Same),
             state: c,
         };
     }
     let next = made_afresh(c, a, list);
     Stepped {
-        answer: Answer::New,
+        answer: Ok(Answer::New),
         state: next,
     }
 }
@@ -52,14 +52,12 @@ fn is_same_list(ms: [Module; MOST_MODULES], n: usize, list: &[u8]) -> bool
     ensures { result ≡ same_modules (map listed_in (take n ms)) (list_of list.now) }
 {
     let mut at: usize = 0;
-    let mut i: usize = 0;
-    while i < n {
+    for i in 0..n {
         let from = &list[at..];
-        if !is_same_module(ms[i], module_at(from, 0)) {
+        if !is_same_module(ms[i], module_at(from, 0).unwrap_or_default()) {
             return false;
         }
-        at += wire::measured_size(from, 8, 7);
-        i += 1;
+        at += wire::measured_size(from, 8, 7).unwrap_or(0);
     }
     true
 }
@@ -67,13 +65,7 @@ fn is_same_list(ms: [Module; MOST_MODULES], n: usize, list: &[u8]) -> bool
 fn is_same_module(m: Module, l: Listed) -> bool
     ensures { result ≡ (eqb m.number l.number && eqb m.size l.size && eqb m.version l.version) }
 {
-    if m.number != l.number {
-        return false;
-    }
-    if m.size != l.size {
-        return false;
-    }
-    m.version == l.version
+    m.listed() == l
 }
 
 // The record after a new announcement: of the old one, the marks of modules that are the same stay.
@@ -98,14 +90,12 @@ fn bare(a: Announcement, list: &[u8]) -> Carousel
     next.count = a.count as u16;
     let mut sum: u32 = 0;
     let mut at: usize = 0;
-    let mut i: usize = 0;
-    while i < a.count {
+    for i in 0..a.count {
         let from = &list[at..];
-        let l = module_at(from, 0);
+        let l = module_at(from, 0).unwrap_or_default();
         next.modules[i] = entry(l, sum);
         sum += l.size;
-        at += wire::measured_size(from, 8, 7);
-        i += 1;
+        at += wire::measured_size(from, 8, 7).unwrap_or(0);
     }
     next
 }

@@ -13,8 +13,8 @@ ghost use Rattle.wire.specs.Tests.{first_met};
 ghost use Rattle.carousel_step.specs.Step.{stepped_of, image_of, number_of_answer, step_tests};
 
 use announce::take_announcement;
-use carousel_messages::{Judged, MOST_MODULES};
-use carousel_record::{Carousel, head_of, is_ruled, place_of};
+use carousel_messages::Message;
+use carousel_record::{Carousel, head_of, is_ruled, slot_of};
 use section::Refusal;
 use store::refuse;
 pub use store::take_block;
@@ -25,13 +25,12 @@ pub enum Answer {
     Same,
     Stored,
     Repeated,
-    Refused(Refusal),
 }
 
 // A step's answer, beside the record after it: an enum may hold no array.
 #[derive(Clone, Copy)]
 pub struct Stepped {
-    pub answer: Answer,
+    pub answer: Result<Answer, Refusal>,
     pub state: Carousel,
 }
 
@@ -49,25 +48,22 @@ pub fn step(c: Carousel, s: &[u8], image: &mut [u8]) -> Stepped
     }
     let judged = carousel_messages::judge_by(s, crc_tables::crc_of(s));
     match judged {
-        Judged::Refused(r) => Stepped {
-            answer: Answer::Refused(r),
+        Err(r) => Stepped {
+            answer: Err(r),
             state: c,
         },
-        Judged::Announced(a) => {
-            let at = a.start;
-            let e = at + a.size;
+        Ok(Message::Announced(a)) => {
+            let at = a.part.start;
+            let e = at + a.part.size;
             take_announcement(c, a, &s[at..e])
         }
-        Judged::Carried(b) => {
-            let at = b.start;
-            let e = at + b.size;
+        Ok(Message::Carried(b)) => {
+            let at = b.part.start;
+            let e = at + b.part.size;
             let h = head_of(c);
-            let ms = c.modules;
-            let i = place_of(c, b.number);
-            // past the entries any will do: it is not looked at
-            let m = ms[i % MOST_MODULES];
+            let slot = slot_of(c, b.number);
             let mut marks = c.marks;
-            let answer = take_block(h, i, m, b, &s[at..e], &mut marks, image);
+            let answer = take_block(h, slot, b, &s[at..e], &mut marks, image);
             let mut next = c;
             next.marks = marks;
             Stepped {
@@ -79,7 +75,7 @@ pub fn step(c: Carousel, s: &[u8], image: &mut [u8]) -> Stepped
 }
 
 // The wheelhouse loop's entry: the record is lent, and changed in place. Thin, over the step by value.
-pub fn step_in(c: &mut Carousel, s: &[u8], image: &mut [u8]) -> Answer
+pub fn step_in(c: &mut Carousel, s: &[u8], image: &mut [u8]) -> Result<Answer, Refusal>
     ensures { (result ≡ (stepped_of c.old s.now image.old).answer)
         × (c.new ≡ (stepped_of c.old s.now image.old).state)
         × (image.new ≡ image_of c.old s.now image.old)

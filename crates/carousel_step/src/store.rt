@@ -1,31 +1,29 @@
 // A block, the record's listing and marks, and the image.
-ghost use Rattle.std.specs.Prelude.{◌≡◌};
+ghost use Rattle.std.specs.Prelude.{◌≡◌, Err};
 ghost use Rattle.section.specs.Answer.{refused};
 ghost use Rattle.carousel_messages.specs.Heard.{arrived_in};
-ghost use Rattle.carousel_step.specs.declared.Answer.TheVariants.{Refused};
 ghost use Rattle.carousel_step.specs.Step.{answer_of, image_after};
 ghost use Rattle.carousel_step.specs.Held.{held_outcome, put_outcome, marks_after};
 
 use crate::Answer;
 use carousel_messages::{Block, MOST_BLOCKS};
-use carousel_record::{Head, Module, is_block, is_marked, set_mark};
-use section::{Refusal, Spot};
+use carousel_record::{Head, Slot, is_block, is_marked, set_mark};
+use section::Refusal;
 use wire::{copy_at, is_equal};
 
-// A block of a section, for the module `m` that was found for it at a place: 12 to 17, "stored" or "repeated". The rule is not
+// A block of a section, for the entry that was found for it: 12 to 17, "stored" or "repeated". The rule is not
 // checked: whoever takes many sections has checked it before.
 pub fn take_block(
     h: Head,
-    place: usize,
-    m: Module,
+    slot: Option<Slot>,
     b: Block,
     bytes: &[u8],
     marks: &mut [u32],
     image: &mut [u8],
-) -> Answer
-    ensures { (result ≡ answer_of (held_outcome h place m marks.old image.old (arrived_in b bytes.now)))
-        × (marks.new ≡ marks_after marks.old (held_outcome h place m marks.old image.old (arrived_in b bytes.now)))
-        × (image.new ≡ image_after image.old (held_outcome h place m marks.old image.old (arrived_in b bytes.now))) }
+) -> Result<Answer, Refusal>
+    ensures { (result ≡ answer_of (held_outcome h slot marks.old image.old (arrived_in b bytes.now)))
+        × (marks.new ≡ marks_after marks.old (held_outcome h slot marks.old image.old (arrived_in b bytes.now)))
+        × (image.new ≡ image_after image.old (held_outcome h slot marks.old image.old (arrived_in b bytes.now))) }
 {
     let n = h.count as usize;
     if n == 0 {
@@ -34,9 +32,14 @@ pub fn take_block(
     if h.download != b.download {
         return refuse(12);
     }
+    let Some(found) = slot else {
+        return refuse(13);
+    };
+    let place = found.place;
     if n <= place {
         return refuse(13);
     }
+    let m = found.entry;
     if m.version != b.version {
         return refuse(14);
     }
@@ -52,15 +55,23 @@ pub fn take_block(
 }
 
 // A refusal that has no place.
-pub fn refuse(number: u8) -> Answer
-    ensures { result ≡ Refused (refused number) }
+pub fn refuse(number: u8) -> Result<Answer, Refusal>
+    ensures { result ≡ Err (refused number) }
 {
-    let place = Spot::Nowhere;
-    Answer::Refused(Refusal { number, place })
+    Err(Refusal {
+        number,
+        place: None,
+    })
 }
 
 // A matching block, whose mark is k: "stored" from index `at` on, "repeated", or 17; 15 where the image does not hold it.
-fn put(at: usize, k: usize, bytes: &[u8], marks: &mut [u32], image: &mut [u8]) -> Answer
+fn put(
+    at: usize,
+    k: usize,
+    bytes: &[u8],
+    marks: &mut [u32],
+    image: &mut [u8],
+) -> Result<Answer, Refusal>
     ensures { (result ≡ answer_of (put_outcome k at marks.old image.old bytes.now))
         × (marks.new ≡ marks_after marks.old (put_outcome k at marks.old image.old bytes.now))
         × (image.new ≡ image_after image.old (put_outcome k at marks.old image.old bytes.now)) }
@@ -74,11 +85,11 @@ fn put(at: usize, k: usize, bytes: &[u8], marks: &mut [u32], image: &mut [u8]) -
     if is_marked(marks, k) {
         let e = at + bytes.len();
         if is_equal(&image[at..e], bytes) {
-            return Answer::Repeated;
+            return Ok(Answer::Repeated);
         }
         return refuse(17);
     }
     copy_at(image, at, bytes);
     set_mark(marks, k);
-    Answer::Stored
+    Ok(Answer::Stored)
 }

@@ -23,12 +23,12 @@ pub fn crc_by(tables: &[u32], s: &[u8]) -> u32
         return section::crc(s);
     }
     let mut r: u32 = 0xFFFF_FFFF;
-    let mut i: usize = 0;
-    while 16 <= s.len() - i {
-        r = with_sixteen(tables, r, &s[i..]);
-        i += 16;
+    let mut rest = s;
+    while 16 <= rest.len() {
+        r = with_sixteen(tables, r, rest);
+        rest = &rest[16..];
     }
-    up_to_15(tables, r, &s[i..])
+    up_to_15(tables, r, rest)
 }
 
 // Below so many bytes the CRC's own bits are as quick as making the tables.
@@ -76,12 +76,8 @@ fn from_clear(t: &[u32], s: &[u8]) -> u32
     ensures { result ≡ from_clear t.now s.now }
 {
     let mut x: u32 = 0;
-    let mut k = s.len();
-    let mut i: usize = 0;
-    while i < s.len() {
-        k -= 1;
-        x ^= entry(t, k, 0, s[i]);
-        i += 1;
+    for i in 0..s.len() {
+        x ^= entry(t, s.len() - 1 - i, 0, s[i]);
     }
     x
 }
@@ -103,10 +99,8 @@ fn with_ones(t: &[u32], r: u32, s: &[u8]) -> u32
     ensures { result ≡ ones t.now r s.now }
 {
     let mut x = r;
-    let mut i: usize = 0;
-    while i < s.len() {
-        x = (x << 8) ^ entry(t, 0, x >> 24, s[i]);
-        i += 1;
+    for b in s {
+        x = (x << 8) ^ entry(t, 0, x >> 24, *b);
     }
     x
 }

@@ -15,10 +15,8 @@ pub fn tables() -> [u32; WORDS]
 {
     let mut t: [u32; WORDS] = [0; WORDS];
     let mut x: u32 = GENERATOR;
-    let mut at: usize = 0;
-    while at < WORDS {
-        x = fill(&mut t, at, x);
-        at += 256;
+    for k in 0..16usize {
+        x = fill(&mut t, k * 256, x);
     }
     t
 }
@@ -30,11 +28,9 @@ fn fill(t: &mut [u32], at: usize, first: u32) -> u32
 {
     t[at] = 0;
     let mut x = first;
-    let mut w: usize = 1;
-    while w < 256 {
-        double(t, at, w, x);
+    for n in 0..8u32 {
+        double(t, at, 1 << n, x);
         x = with_zero(x);
-        w = w * 2;
     }
     x
 }
@@ -45,14 +41,12 @@ fn double(t: &mut [u32], at: usize, w: usize, x: u32)
     requires { (at % 256 ≡ 0) × (at + 256 ≤ length t.old) × (w ≤ 128) × ((n : ℕ) × (w ≡ 2 ^ n)) × (take (at + w) t.old ≡ first_entries (at + w)) × (x ≡ left (at / 256) w) }
     ensures { take (at + w + w) t.new ≡ first_entries (at + w + w) }
 {
-    let mut j: usize = 0;
-    while j < w {
+    for j in 0..w {
         t[at + w + j] = t[at + j] ^ x;
-        j += 1;
     }
 }
 
-// The register `r` after a clear bit.
+// The register `r` after a clear bit, as section takes one: its own step is not public.
 fn with_zero(r: u32) -> u32
     ensures { result ≡ crc_bit r 0 }
 {

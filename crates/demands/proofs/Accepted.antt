@@ -11,15 +11,11 @@ use Rattle.wire.specs.Fields.{byte_at}
 use Rattle.wire.proofs.Laws.Copies.{same-is, same_refl}
 use Rattle.wire.proofs.Laws.Tests.{both, clash}
 use Rattle.section.specs.declared.Refusal.{Refusal}
-use Rattle.section.specs.declared.Checked.{Checked}
-use Rattle.section.specs.declared.Checked.TheVariants as checked
 use Rattle.section.specs.declared.Rules.TheVariants.{Application}
 use Rattle.section.specs.Header.{header_of, application_table}
 use Rattle.section.specs.Answer.{refused, on_checked}
 use Rattle.section.proofs.Laws.Exact.{accepted_has}
 use Rattle.ait_read.specs.declared.Table.{Table}
-use Rattle.ait_read.specs.declared.ReadAnswer.{ReadAnswer}
-use Rattle.ait_read.specs.declared.ReadAnswer.TheVariants as reading
 use Rattle.ait_read.specs.Acceptance.{table_judged, FormedTable}
 use Rattle.ait_read.specs.Answers.{read_answer, read_table}
 use Rattle.ait_read.proofs.Laws.Acceptance.{judged_has}
@@ -28,8 +24,6 @@ use Rattle.carousel_messages.specs.Heard.{Arrived, Heard, announced, arrived, he
 use Rattle.carousel_messages.specs.Good.{GoodAnnouncement, GoodBlock, said_announcement, said_block}
 use Rattle.carousel_messages.proofs.Good.{announcement-says, announcement-heard, block-says, block-heard}
 use Rattle.carousel_record.specs.declared.Carousel.{Carousel}
-use Rattle.carousel_step.specs.declared.Answer.{Answer}
-use Rattle.carousel_step.specs.declared.Answer.TheVariants as answer
 use Rattle.carousel_record.specs.Record.{record_of, announced_by, module_at, place_of, received, block_at, ruled_of}
 use Rattle.carousel_step.specs.Step.{block_refusal, bytes_differ, same_announced, StepOutcome, refusing, matched, on_arrived, on_announced, on_heard, answer_of, stepped_of}
 use Rattle.carousel_step.specs.Matching.{Matching, block_matches, heard_matches}
@@ -40,19 +34,23 @@ use Rattle.carousel_step.proofs.Exact.{new-exactly, same-exactly, stored-exactly
 use Rattle.carousel_record.proofs.Laws.Places.{number_at, place_is}
 use Rattle.carousel_record.proofs.Laws.Rule.{kept, ruled-says}
 use Rattle.carousel_step.proofs.Laws.Outcomes.{announced-same, announced-new, matched-clear, matched-same, arrived-good}
-use Rattle.receiver.specs.declared.Fate.{Fate}
-use Rattle.receiver.specs.declared.Fate.TheVariants as fate
 use Rattle.receiver.specs.Run.{read_fate, table_fate, carousel_fate, given_of}
 use Rattle.receiver.proofs.Laws.Fates.{fate-table, fate-other, fate_tells}
+use Rattle.std.proofs.Common.{Result, Ok, Err}
+use Rattle.section.specs.Answer.{Checked}
+use Rattle.carousel_step.specs.Step.{Answered as Answer}
+use Rattle.receiver.specs.Run.{Fate}
+use Rattle.carousel_step.specs.declared.Answer.TheVariants as answer
+use Rattle.receiver.specs.declared.Kind.TheVariants as kind
 
 -- AN APPLICATION SECTION: whatever table is read, the section is a good one
-pub read-good : (s : List ℕ) (t : Table) → read_answer s ≡ reading.Accepted t → FormedTable s
+pub read-good : (s : List ℕ) (t : Table) → read_answer s ≡ Ok t → FormedTable s
 unfolding read_answer
 read-good s t e = go (table_judged s) refl e
   where
-    go : (c : Checked) → table_judged s ≡ c → on_checked c (λ r. reading.Refused r) (λ h. reading.Accepted (read_table h s)) ≡ reading.Accepted t → FormedTable s
-    go (checked.Refused r) j e = let z : ◌≡◌ {A = ℕ} 0 1 = cc in absurd (omega arith)
-    go (checked.Accepted h) j e = (accepted-exactly s).0 (j ∙ ap checked.Accepted (accepted_has Application s h (judged_has s h j).0).0)
+    go : (c : Checked) → table_judged s ≡ c → on_checked c (λ r. Err r) (λ h. Ok (read_table h s)) ≡ Ok t → FormedTable s
+    go (Err r) j e = let z : ◌≡◌ {A = ℕ} 0 1 = cc in absurd (omega arith)
+    go (Ok h) j e = (accepted-exactly s).0 (j ∙ ap Ok (accepted_has Application s h (judged_has s h j).0).0)
 
 -- ANNOUNCEMENTS AND BLOCKS
 module _ (c : Carousel) (s image : List ℕ) where
@@ -66,10 +64,10 @@ module _ (c : Carousel) (s image : List ℕ) where
     unfolding on_heard
     by_announcement o e = by-heard r (announced (said_announcement s)) (announcement-says s g) ∙ ap (λ (x : StepOutcome). answer_of x) e
 
-    pub is-same_announcement : announced_by c ≡ said_announcement s → (stepped_of c s image).answer ≡ answer.Same
+    pub is-same_announcement : announced_by c ≡ said_announcement s → (stepped_of c s image).answer ≡ Ok answer.Same
     is-same_announcement e = by_announcement _ (announced-same (record_of c) (said_announcement s) ((same_means (announced_by c) (said_announcement s)).1 e))
 
-    pub is-new_announcement : (announced_by c ≡ said_announcement s → ⊥) → (stepped_of c s image).answer ≡ answer.New
+    pub is-new_announcement : (announced_by c ≡ said_announcement s → ⊥) → (stepped_of c s image).answer ≡ Ok answer.New
     is-new_announcement n = by_announcement _ (announced-new (record_of c) (said_announcement s) (go (same_announced (announced_by c) (said_announcement s)) refl))
       where
         go : (t : Bool) → same_announced (announced_by c) (said_announcement s) ≡ t → t ≡ false
@@ -77,13 +75,13 @@ module _ (c : Carousel) (s image : List ℕ) where
         go false e = refl
 
   -- what is answered "same" or "new" is what the section says
-  pub same-says : (stepped_of c s image).answer ≡ answer.Same → (ruled_of c ≡ true) × GoodAnnouncement s × (announced_by c ≡ said_announcement s)
+  pub same-says : (stepped_of c s image).answer ≡ Ok answer.Same → (ruled_of c ≡ true) × GoodAnnouncement s × (announced_by c ≡ said_announcement s)
   same-says e =
       let w = (same-exactly c s image).0 e in
       let h = (announcement-heard s w.1.0).0 w.1.1 in
       (not-false (ruled_of c) w.0.0, h.0, (same_means (announced_by c) w.1.0).0 w.1.2 ∙ sym h.1)
 
-  pub new-says : (stepped_of c s image).answer ≡ answer.New → (ruled_of c ≡ true) × GoodAnnouncement s × (announced_by c ≡ said_announcement s → ⊥)
+  pub new-says : (stepped_of c s image).answer ≡ Ok answer.New → (ruled_of c ≡ true) × GoodAnnouncement s × (announced_by c ≡ said_announcement s → ⊥)
   new-says e =
       let w = (new-exactly c s image).0 e in
       let h = (announcement-heard s w.1.0).0 w.1.1 in
@@ -127,16 +125,16 @@ module _ (c : Carousel) (s image : List ℕ) where
         let q = arrived-good (record_of c) image (said_block s) p.0 ∙ ap (λ (j : ℕ). matched (record_of c) image j (said_block s)) p.1 in
         by-heard r (arrived (said_block s)) (block-says s g) ∙ ap (λ (x : StepOutcome). answer_of x) (q ∙ e)
 
-    pub is-stored : received (record_of c) i (said_block s).block ≡ false → (stepped_of c s image).answer ≡ answer.Stored
+    pub is-stored : received (record_of c) i (said_block s).block ≡ false → (stepped_of c s image).answer ≡ Ok answer.Stored
     is-stored e = by-block _ (matched-clear (record_of c) image i (said_block s) e)
 
     pub is_repeated_lem : received (record_of c) i (said_block s).block ≡ true
         → take (length (said_block s).bytes) (drop (block_at (record_of c) i (said_block s).block) image) ≡ (said_block s).bytes
-        → (stepped_of c s image).answer ≡ answer.Repeated
+        → (stepped_of c s image).answer ≡ Ok answer.Repeated
     is_repeated_lem e f = by-block _ (matched-same (record_of c) image i (said_block s) e (rw f (same_refl (said_block s).bytes)))
 
   -- a block that is not refused passes 12 to 16
-  passed : ruled_of c ≡ true → (d : Arrived) → heard_of s ≡ arrived d → (x : Answer) → ((n : Refusal) → x ≡ answer.Refused n → ⊥) → (stepped_of c s image).answer ≡ x
+  passed : ruled_of c ≡ true → (d : Arrived) → heard_of s ≡ arrived d → (x : Answer) → ((n : Refusal) → x ≡ Err n → ⊥) → (stepped_of c s image).answer ≡ x
       → block_refusal (announced_by c) (length image) d ≡ 0
   unfolding on_heard on_arrived
   passed r d h x n e = go (eqb (block_refusal (announced_by c) (length image) d) 0) refl (sym (by-heard r (arrived d) h) ∙ e)
@@ -153,68 +151,68 @@ module _ (c : Carousel) (s image : List ℕ) where
   abbrev pub Marked : Arrived → Type 0
   Marked d = (i : ℕ) × At d i × (received (record_of c) i d.block ≡ true) × (take (length d.bytes) (drop (block_at (record_of c) i d.block) image) ≡ d.bytes)
 
-  pub stored-says : (stepped_of c s image).answer ≡ answer.Stored → (ruled_of c ≡ true) × GoodBlock s × Clear (said_block s)
+  pub stored-says : (stepped_of c s image).answer ≡ Ok answer.Stored → (ruled_of c ≡ true) × GoodBlock s × Clear (said_block s)
   stored-says e =
       let w = (stored-exactly c s image).0 e in
       let d = w.1.0 in
       let r = not-false (ruled_of c) w.0.0 in
       let h = (block-heard s d).0 w.1.1 in
-      let p = passed r d w.1.1 answer.Stored (λ n f. let z : ◌≡◌ {A = ℕ} 0 1 = cc in omega arith) e in
+      let p = passed r d w.1.1 (Ok answer.Stored) (λ n f. let z : ◌≡◌ {A = ℕ} 0 1 = cc in omega arith) e in
       (r, h.0, subst Clear (sym h.1) (place_of (announced_by c) d.number, matches d p, w.1.2))
 
   equal : (i : ℕ) (d : Arrived) → bytes_differ (record_of c) image i d ≡ false → take (length d.bytes) (drop (block_at (record_of c) i d.block) image) ≡ d.bytes
   unfolding bytes_differ
   equal i d e = same-is _ _ (not-false _ e)
 
-  pub repeated-says : (stepped_of c s image).answer ≡ answer.Repeated → (ruled_of c ≡ true) × GoodBlock s × Marked (said_block s)
+  pub repeated-says : (stepped_of c s image).answer ≡ Ok answer.Repeated → (ruled_of c ≡ true) × GoodBlock s × Marked (said_block s)
   repeated-says e =
       let w = (repeated-exactly c s image).0 e in
       let d = w.1.0 in
       let r = not-false (ruled_of c) w.0.0 in
       let h = (block-heard s d).0 w.1.1 in
-      let p = passed r d w.1.1 answer.Repeated (λ n f. let z : ◌≡◌ {A = ℕ} 0 1 = cc in omega arith) e in
+      let p = passed r d w.1.1 (Ok answer.Repeated) (λ n f. let z : ◌≡◌ {A = ℕ} 0 1 = cc in omega arith) e in
       (r, h.0, subst Marked (sym h.1) (place_of (announced_by c) d.number, matches d p, w.1.2, equal (place_of (announced_by c) d.number) d w.1.3))
 
 -- THE RECEIVER'S KINDS
 -- the carousel's kinds, of which no table is one
 abbrev pub is_carousels : Fate → Bool
-is_carousels fate.New = true
-is_carousels fate.Same = true
-is_carousels fate.Stored = true
-is_carousels fate.Repeated = true
-is_carousels fate.Table = false
-is_carousels (fate.Refused r) = false
+is_carousels (Ok (kind.Carousel answer.New)) = true
+is_carousels (Ok (kind.Carousel answer.Same)) = true
+is_carousels (Ok (kind.Carousel answer.Stored)) = true
+is_carousels (Ok (kind.Carousel answer.Repeated)) = true
+is_carousels (Ok kind.Table) = false
+is_carousels (Err r) = false
 
-read_none : (a : ReadAnswer) → is_carousels (read_fate a) ≡ false
+read_none : (a : Result Table Refusal) → is_carousels (read_fate a) ≡ false
 unfolding read_fate
-read_none (reading.Refused r) = refl
-read_none (reading.Accepted t) = refl
+read_none (Err r) = refl
+read_none (Ok t) = refl
 
-no_table : (a : Answer) → carousel_fate a ≡ fate.Table → ⊥
+no_table : (a : Answer) → carousel_fate a ≡ Ok kind.Table → ⊥
 unfolding carousel_fate
-no_table answer.New e = let z : ◌≡◌ {A = ℕ} 0 1 = cc in omega arith
-no_table answer.Same e = let z : ◌≡◌ {A = ℕ} 0 1 = cc in omega arith
-no_table answer.Stored e = let z : ◌≡◌ {A = ℕ} 0 1 = cc in omega arith
-no_table answer.Repeated e = let z : ◌≡◌ {A = ℕ} 0 1 = cc in omega arith
-no_table (answer.Refused r) e = let z : ◌≡◌ {A = ℕ} 0 1 = cc in omega arith
+no_table (Ok answer.New) e = let z : ◌≡◌ {A = ℕ} 0 1 = cc in omega arith
+no_table (Ok answer.Same) e = let z : ◌≡◌ {A = ℕ} 0 1 = cc in omega arith
+no_table (Ok answer.Stored) e = let z : ◌≡◌ {A = ℕ} 0 1 = cc in omega arith
+no_table (Ok answer.Repeated) e = let z : ◌≡◌ {A = ℕ} 0 1 = cc in omega arith
+no_table (Err r) e = let z : ◌≡◌ {A = ℕ} 0 1 = cc in omega arith
 
-fate-good : (s : List ℕ) → table_fate s ≡ fate.Table → FormedTable s
+fate-good : (s : List ℕ) → table_fate s ≡ Ok kind.Table → FormedTable s
 unfolding read_fate
 fate-good s e = go (read_answer s) refl e
   where
-    go : (a : ReadAnswer) → read_answer s ≡ a → read_fate a ≡ fate.Table → FormedTable s
-    go (reading.Refused r) f e = let z : ◌≡◌ {A = ℕ} 0 1 = cc in absurd (omega arith)
-    go (reading.Accepted t) f e = read-good s t f
+    go : (a : Result Table Refusal) → read_answer s ≡ a → read_fate a ≡ Ok kind.Table → FormedTable s
+    go (Err r) f e = let z : ◌≡◌ {A = ℕ} 0 1 = cc in absurd (omega arith)
+    go (Ok t) f e = read-good s t f
 
 module _ (c : Carousel) (s image : List ℕ) where
-  pub table-good : (given_of c s image).fate ≡ fate.Table → FormedTable s
+  pub table-good : (given_of c s image).fate ≡ Ok kind.Table → FormedTable s
   table-good e = go (eqb (byte_at s 0) application_table) refl
     where
       go : (t : Bool) → eqb (byte_at s 0) application_table ≡ t → FormedTable s
       go true f = fate-good s (sym (fate-table c s image f) ∙ e)
       go false f = absurd (no_table (stepped_of c s image).answer (sym (fate-other c s image f) ∙ e))
 
-  pub good-table : FormedTable s → (given_of c s image).fate ≡ fate.Table
+  pub good-table : FormedTable s → (given_of c s image).fate ≡ Ok kind.Table
   unfolding read_fate
   good-table g = fate-table c s image g.section.table ∙ ap read_fate (read-exactly s g)
 

@@ -21,11 +21,10 @@ use Rattle.carousel_record.proofs.Laws.Rule.{Kept, number_small, ruled-says}
 use Rattle.carousel_record.proofs.Laws.Keeping.{same_means, keeping-marks}
 use Rattle.carousel_handout.specs.Calls.{handout_tests, handout_number, handed_out}
 use Rattle.carousel_handout.proofs.Complete.{complete_means, handout_part}
-use Rattle.carousel_step.specs.Step.{new}
 use Rattle.carousel_step.proofs.Views.{Held as Said, Slot, slot, hit}
 use Rattle.carousel_step.proofs.View.{slot-marked}
 use Rattle.receiver.specs.Run.{Held, given, walk}
-use Rattle.demands.specs.Demand.{fate_of, is_new, told, modules, place_now, Announces, blocks, matches, section_data, HasRoom, handout_of, same_in, Emptied}
+use Rattle.demands.specs.Demand.{fate_of, is_new, told, place_now, Announces, blocks, matches, section_data, HasRoom, handout_of, same_in, Emptied}
 use Rattle.demands.specs.Demand.{keeps_one, Keeps, bytes_in, missing_in, is_complete, Took, Matched, Came}
 use Rattle.demands.specs.Demand.{first_data, joined_blocks, RepeatsAgree, FoundIn}
 use Rattle.demands.proofs.Given.{saying, new-ruled, Renewal, renewal}

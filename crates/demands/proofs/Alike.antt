@@ -12,8 +12,6 @@ use Rattle.wire.proofs.Laws.Tests.{both, clash}
 use Rattle.section.specs.Answer.{refused}
 use Rattle.carousel_messages.specs.Limits.{most_blocks}
 use Rattle.carousel_messages.specs.Heard.{Announced, Arrived, Heard, refusal, announced, arrived}
-use Rattle.carousel_step.specs.declared.Answer.{Answer}
-use Rattle.carousel_step.specs.declared.Answer.TheVariants as answer
 use Rattle.carousel_record.specs.Marks.{clear_among}
 use Rattle.carousel_record.specs.Record.{Record, module_at, block_count, block_length, block_at, module_part, missing_of}
 use Rattle.carousel_step.specs.Step.{meets12, block_refusal, refusing, matched, on_arrived, on_heard, answer_of}
@@ -25,6 +23,8 @@ use Rattle.carousel_step.proofs.View.{fits, spot, matched-answer, slot-marked, a
 use Rattle.carousel_step.proofs.Matching.{matching_for}
 use Rattle.demands.specs.Demand.{joined_blocks}
 use Rattle.demands.proofs.Lists.{joined_ext, joined_pieces, clear_ext}
+use Rattle.std.proofs.Common.{Err}
+use Rattle.carousel_step.specs.Step.{Answered as Answer}
 
 -- a module's part of the image is its blocks' views laid end to end
 slot-bytes : (x : Said) (i b : ℕ) → take (block_length x.says.announced i b) (drop (b * x.says.announced.block_size) (drop (get_or x.says.starts i 0) x.image)) ≡ (slot x i b).bytes
@@ -74,7 +74,7 @@ alike_missing i x y al =
 
 -- The answer to a data section for a module, from the announcement, the image's length and one view alone.
 unfoldable answer_by : Announced → ℕ → Slot → Arrived → Answer
-answer_by a n v d = cond (eqb (block_refusal a n d) 0) (reply v d.bytes) (answer.Refused (refused (block_refusal a n d)))
+answer_by a n v d = cond (eqb (block_refusal a n d) 0) (reply v d.bytes) (Err (refused (block_refusal a n d)))
 
 -- the view counts only where no refusal comes before
 answer_ext : (a : Announced) (n : ℕ) (v w : Slot) (d : Arrived) → (block_refusal a n d ≡ 0 → v ≡ w) → answer_by a n v d ≡ answer_by a n w d
@@ -82,7 +82,7 @@ unfolding answer_by
 answer_ext a n v w d f = go (eqb (block_refusal a n d) 0) refl
   where
     go : (t : Bool) → eqb (block_refusal a n d) 0 ≡ t
-        → cond t (reply v d.bytes) (answer.Refused (refused (block_refusal a n d))) ≡ cond t (reply w d.bytes) (answer.Refused (refused (block_refusal a n d)))
+        → cond t (reply v d.bytes) (Err (refused (block_refusal a n d))) ≡ cond t (reply w d.bytes) (Err (refused (block_refusal a n d)))
     go true h = rw (f (eqb-true _ _ h))
     go false h = refl
 
@@ -93,7 +93,7 @@ module _ (x : Said) (k : Kept x.says) (i : ℕ) (u : i < length x.says.announced
     where
       go : (t : Bool) → eqb (block_refusal x.says.announced (length x.image) d) 0 ≡ t
           → answer_of (cond t (matched x.says x.image (spot x d) d) (refusing (refused (block_refusal x.says.announced (length x.image) d))))
-          ≡ cond t (reply (slot x i d.block) d.bytes) (answer.Refused (refused (block_refusal x.says.announced (length x.image) d)))
+          ≡ cond t (reply (slot x i d.block) d.bytes) (Err (refused (block_refusal x.says.announced (length x.image) d)))
       go true h = matched-answer x (spot x d) d (fits _ _ d (eqb-true _ _ h)).whole ∙ ap (λ (m : ℕ). reply (slot x m d.block) d.bytes) (at_place x k i u d e)
       go false h = refl
 

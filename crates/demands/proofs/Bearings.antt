@@ -10,7 +10,6 @@ use Rattle.carousel_messages.specs.Contents.{block_data_of}
 use Rattle.carousel_messages.specs.Heard.{Arrived, arrived, heard_of}
 use Rattle.carousel_messages.proofs.Good.{block-heard}
 use Rattle.carousel_record.specs.declared.Carousel.{Carousel}
-use Rattle.carousel_step.specs.declared.Answer.TheVariants as answer
 use Rattle.carousel_step.specs.Step.{stepped_of, image_of}
 use Rattle.carousel_record.specs.Blocks.{blocks_of, block_length_of}
 use Rattle.carousel_record.proofs.Laws.Blocks.{length_pos}
@@ -18,6 +17,7 @@ use Rattle.carousel_step.proofs.Steps.{refusal_changes-nothing}
 use Rattle.receiver.specs.Run.{Held, walk}
 use Rattle.demands.specs.Demand.{blocks, Emptied, Keeps, is_complete, Matched}
 use Rattle.demands.proofs.Three.{completeness}
+use Rattle.std.proofs.Common.{Err}
 
 -- "Counting arrivals and not distinct blocks: two copies of block 0 "complete" a two-block module." However many sections come: where none of them matched block b when it came,
 -- the module is not complete.
@@ -34,5 +34,5 @@ pub adaptation-is-no_data : (s : List ℕ) (d : Arrived) → heard_of s ≡ arri
 adaptation-is-no_data s d e = ap (λ (x : Arrived). x.bytes) (sym ((block-heard s d).0 e).1)
 
 -- "Overwriting on 17: a late bad copy moves a buoy." It changes neither record nor image.
-pub no_overwriting : (c : Carousel) (s image : List ℕ) → (stepped_of c s image).answer ≡ answer.Refused (refused 17) → ((stepped_of c s image).state ≡ c) × (image_of c s image ≡ image)
+pub no_overwriting : (c : Carousel) (s image : List ℕ) → (stepped_of c s image).answer ≡ Err (refused 17) → ((stepped_of c s image).state ≡ c) × (image_of c s image ≡ image)
 no_overwriting c s image e = refusal_changes-nothing c s image (refused 17) e

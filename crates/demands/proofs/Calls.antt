@@ -9,13 +9,13 @@ use Rattle.section.specs.Whole.{whole_at}
 use Rattle.carousel_record.specs.Record.{ruled_of}
 use Rattle.carousel_step.specs.Step.{outcome_of, stepped_of, image_of}
 use Rattle.receiver.specs.declared.Took.{Took}
-use Rattle.receiver.specs.declared.What.TheVariants as what
 use Rattle.receiver.specs.Run.{stop_at, stopped_by, given_of, image_given, took_of, image_took, RunOutcome, Held, given, walk}
 use Rattle.receiver.proofs.Laws.Runs.{took-state, run-state, run-ruled}
 use Rattle.receiver.proofs.Runs.{held_by, run_walks}
 use Rattle.demands.specs.Demand.{Call, stepping, taking, running, left_after, called, took_one, took_by}
 use Rattle.demands.proofs.Given.{given-steps}
 use Rattle.demands.proofs.Walks.{next_rule}
+use Rattle.std.proofs.Common.{Ok}
 
 pub walk-both : (x : Held) (ss us : List (List ℕ)) → walk x (ss ++ us) ≡ walk (walk x ss) us
 unfolding walk
@@ -53,7 +53,7 @@ ruled_call x (taking s n) r = rw r (go (eqb (whole_at s) 0 || eqb n 0))
     one = take (whole_at s) s
 
     taken : Took
-    taken = record { what = what.Taken (record { length = whole_at s; fate = (given_of x.state one x.image).fate }); state = (given_of x.state one x.image).state }
+    taken = record { what = Ok (record { length = whole_at s; fate = (given_of x.state one x.image).fate }); state = (given_of x.state one x.image).state }
 
     go : (t : Bool) → ◌≡◌ {A = Held} (record { state = (cond t (stopped_by x.state (stop_at s)) taken).state; image = cond t x.image (image_given x.state one x.image) })
         (walk x (cond t [] (one ∷ [])))

@@ -28,12 +28,13 @@ use Rattle.carousel_record.specs.Changes.{empty_record, with_mark}
 use Rattle.carousel_record.specs.Refusals.{meets13, meets15}
 use Rattle.carousel_record.proofs.Laws.Places.{bytes_most, few-modules}
 use Rattle.carousel_record.proofs.Laws.Rule.{kept, marks_mean, ruled-says}
-use Rattle.carousel_step.specs.declared.Answer.TheVariants as answer
 use Rattle.carousel_step.specs.Step.{meets12, meets14, block_refusal, refusing, on_heard, outcome_of, stepped_of, image_of}
 use Rattle.carousel_step.proofs.Laws.Outcomes.{arrived_bad, stepped-is}
 use Rattle.carousel_step.proofs.Simulation.{outcome-ruled}
 use Rattle.carousel_step.proofs.Charts as charts
 use Rattle.carousel_step.proofs.Charts.{charted, widened}
+use Rattle.std.proofs.Common.{Ok, Err}
+use Rattle.carousel_step.specs.declared.Answer.TheVariants as answer
 
 -- THE NUMBERS
 pub numbers : (most_modules ≡ 32) × (most_blocks ≡ 1024) × (most_bytes ≡ 262144) × (mark_words ≡ 1024) × ((i b : ℕ) → mark_of i b ≡ 1024 * i + b)
@@ -67,7 +68,7 @@ module _ (c : Carousel) (s image : List ℕ) (d : Arrived) (ruled : ruled_of c �
       outcome-ruled c s image ruled ∙ ap (on_heard (record_of c) image) heard ∙ arrived_bad (record_of c) image d (λ z. omega arith) ∙ ap (λ (n : ℕ). refusing (refused n)) e
 
   pub beyond_the-image : length image < bytes_of (announced_by c)
-      → (stepped_of c s image ≡ record { answer = answer.Refused (refused 15); state = c }) × (image_of c s image ≡ image)
+      → (stepped_of c s image ≡ record { answer = Err (refused 15); state = c }) × (image_of c s image ≡ image)
   beyond_the-image l = stepped-is c s image _ (comes_to-15 l)
 
 -- and an image of 262,144 bytes is never too short
@@ -79,9 +80,9 @@ image-enough c image e some l = let b = (rule c e some).1 in le-ltb (length imag
 -- gives 15 in an image of 65,536 bytes
 pub soundings : (image : List ℕ)
     → (1024 ≤ length image
-    → (stepped_of charted block1023 image ≡ record { answer = answer.Stored; state = with_mark charted 1023 }) × (image_of charted block1023 image ≡ overwrite image 1023 (0x42 ∷ []))
-    × (stepped_of charted block1024 image ≡ record { answer = answer.Refused (refused 16); state = charted }))
+    → (stepped_of charted block1023 image ≡ record { answer = Ok answer.Stored; state = with_mark charted 1023 }) × (image_of charted block1023 image ≡ overwrite image 1023 (0x42 ∷ []))
+    × (stepped_of charted block1024 image ≡ record { answer = Err (refused 16); state = charted }))
     × (length image ≡ 65536
-    → (stepped_of empty_record wide image ≡ record { answer = answer.New; state = widened })
-    × (stepped_of widened wide_block image ≡ record { answer = answer.Refused (refused 15); state = widened }))
+    → (stepped_of empty_record wide image ≡ record { answer = Ok answer.New; state = widened })
+    × (stepped_of widened wide_block image ≡ record { answer = Err (refused 15); state = widened }))
 soundings image = (charts.highest-block image, λ e. let b = charts.beyond_the-image image in (b.0, b.1 (omega arith)))

@@ -24,8 +24,6 @@ use Rattle.carousel_step.specs.Matching.{heard_matches}
 use Rattle.carousel_handout.proofs.Complete.{handout-empty}
 use Rattle.receiver.specs.Run.{Held, given, walk}
 use Rattle.drift_list.specs.declared.Fix.{Fix}
-use Rattle.drift_list.specs.declared.Reading.TheVariants as reading
-use Rattle.drift_list.specs.declared.FixAnswer.TheVariants as answer
 use Rattle.drift_list.specs.Values.{fix_of}
 use Rattle.drift_list.specs.Reading.{count_of, fix_at, read_refusal}
 use Rattle.drift_list.specs.Answers.{list_answer, fix_answer, walk_answer}
@@ -37,6 +35,7 @@ use Rattle.demands.proofs.Lists.{joined_ext}
 use Rattle.demands.proofs.Walks.{next_rule, old_fixed, also-new, keeps-parts, stays-there, one-long, came_by}
 use Rattle.demands.proofs.After.{emptied-ruled, came_means}
 use Rattle.demands.proofs.Three.{handed_out_lem, content-handed_out, calls-walk_any}
+use Rattle.std.proofs.Common.{Ok, Err}
 
 module _ (x : Held) (k : ℕ) (start : Emptied x k) (ss : List (List ℕ)) (keeps : Keeps x k ss) where
   abbrev y : Held
@@ -55,15 +54,15 @@ module _ (x : Held) (k : ℕ) (start : Emptied x k) (ss : List (List ℕ)) (keep
   -- "and while a block is missing nothing is read at all": the hand-out refuses, and who reads what it hands out all the same is refused with 30
   pub nothing_drawn : (b : ℕ) → b < blocks x k → (Came x k b ss → ⊥)
       → (handout_of y k ≡ 0 → ⊥)
-      × (list_answer (handed_of y k) ≡ reading.Refused 30)
-      × ((n : ℕ) → (fix_answer (handed_of y k) n ≡ answer.Refused 30) × (walk_answer (handed_of y k) n ≡ answer.Refused 30))
+      × (list_answer (handed_of y k) ≡ Err 30)
+      × ((n : ℕ) → (fix_answer (handed_of y k) n ≡ Err 30) × (walk_answer (handed_of y k) n ≡ Err 30))
   nothing_drawn b l none =
       let h : handout_of y k ≡ 0 → ⊥ = λ e. none (((handed_out_lem x k start ss keeps).0 e).1 b l) in
       let e = handout-empty _ _ _ h in
       (h, ap list_answer e ∙ nothing_read.0, λ n. (ap (λ (s : List ℕ). fix_answer s n) e ∙ (nothing_read.1 n).0, ap (λ (s : List ℕ). walk_answer s n) e ∙ (nothing_read.1 n).1))
 
   -- A POSITION THAT IS DRAWN WAS HEARD: every block of the list came since the announcement that emptied it, and the position stands in their data
-  pub position-heard : (n : ℕ) (f : Fix) → fix_answer (handed_of y k) n ≡ answer.Found f
+  pub position-heard : (n : ℕ) (f : Fix) → fix_answer (handed_of y k) n ≡ Ok f
       → ((b : ℕ) → b < blocks x k → Came x k b ss)
       × (read_refusal (heard_module x k ss) ≡ 0) × (n < count_of (heard_module x k ss)) × (f ≡ fix_of (fix_at (heard_module x k ss) n))
   position-heard n f e = go (eqb (handout_of y k) 0) refl
@@ -168,7 +167,7 @@ module _ (x z : Held) (k : ℕ) (start : Emptied x k) (other : Emptied z k) (sam
 
 -- OVER CALLS OF ANY KIND: the same, of the sections that they took
 module _ (x : Held) (k : ℕ) (start : Emptied x k) (cs : List Call) (keeps : Keeps x k (took_by cs)) where
-  pub position-heard_of-calls : (n : ℕ) (f : Fix) → fix_answer (handed_of (called x cs) k) n ≡ answer.Found f
+  pub position-heard_of-calls : (n : ℕ) (f : Fix) → fix_answer (handed_of (called x cs) k) n ≡ Ok f
       → ((b : ℕ) → b < blocks x k → Came x k b (took_by cs)) × (f ≡ fix_of (fix_at (heard_module x k (took_by cs)) n))
   position-heard_of-calls n f e =
       let c = calls-walk_any x cs in

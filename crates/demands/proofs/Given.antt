@@ -10,17 +10,12 @@ use Rattle.wire.proofs.Laws.Tests.{clash}
 use Rattle.section.specs.declared.Refusal.{Refusal}
 use Rattle.section.specs.Header.{application_table}
 use Rattle.section.specs.Answer.{refused}
-use Rattle.carousel_messages.specs.declared.Judged.{Judged}
-use Rattle.carousel_messages.specs.declared.Judged.TheVariants as judged
 use Rattle.carousel_messages.specs.Judged.{judged_of, number_of_judged}
 use Rattle.carousel_messages.specs.Heard.{Announced, Heard, refusal, announced, arrived, heard_in, heard_of}
 use Rattle.carousel_messages.proofs.Exact.{good-exactly}
-use Rattle.ait_read.specs.declared.ReadAnswer.{ReadAnswer}
-use Rattle.ait_read.specs.declared.ReadAnswer.TheVariants as reading
+use Rattle.ait_read.specs.declared.Table.{Table}
 use Rattle.ait_read.specs.Answers.{read_answer}
 use Rattle.carousel_record.specs.declared.Carousel.{Carousel}
-use Rattle.carousel_step.specs.declared.Answer.{Answer}
-use Rattle.carousel_step.specs.declared.Answer.TheVariants as answer
 use Rattle.carousel_record.specs.Record.{Record, announced_by, record_of, ruled_of}
 use Rattle.carousel_step.specs.Step.{StepOutcome, refusing, new, same, repeated, stored, same_announced, on_announced, on_heard, outcome_of, answer_of, carousel_after, image_after, stepped_of}
 use Rattle.carousel_step.specs.Step.{image_of}
@@ -33,6 +28,11 @@ use Rattle.receiver.specs.declared.Given.{Given}
 use Rattle.receiver.specs.Run.{read_fate, table_fate, carousel_fate, given_of, image_given, Held, given}
 use Rattle.demands.specs.Demand.{fate_of, is_new}
 use Rattle.receiver.proofs.Laws.Fates.{fate-table, fate-other}
+use Rattle.std.proofs.Common.{Result, Ok, Err}
+use Rattle.carousel_messages.specs.Judged.{Judged}
+use Rattle.carousel_step.specs.Step.{Answered as Answer}
+use Rattle.carousel_messages.specs.declared.Message.TheVariants as judged
+use Rattle.carousel_step.specs.declared.Answer.TheVariants as answer
 
 -- what the record says, and the image
 abbrev pub saying : Held → Said
@@ -47,9 +47,9 @@ table-refused s e = go (judged_of s) refl
     never z = clash _ ((good-exactly s).0 z).0.table (rw e)
 
     go : (j : Judged) → judged_of s ≡ j → (r : Refusal) × (heard_in s j ≡ refusal r)
-    go (judged.Refused r) f = (r, refl)
-    go (judged.Announced a) f = absurd (never (ap number_of_judged f))
-    go (judged.Carried b) f = absurd (never (ap number_of_judged f))
+    go (Err r) f = (r, refl)
+    go (Ok (judged.Announced a)) f = absurd (never (ap number_of_judged f))
+    go (Ok (judged.Carried b)) f = absurd (never (ap number_of_judged f))
 
 table_outcome : (c : Carousel) (s image : List ℕ) → byte_at s 0 ≡ application_table → (r : Refusal) × (outcome_of c s image ≡ refusing r)
 unfolding outcome_of on_heard
@@ -106,10 +106,10 @@ unfolding stepped_of
 for-came x s r a i e = for_fate x.state s x.image a i e ∙ ap (λ (o : StepOutcome). carousel_fate (answer_of o)) (outcome-ruled x.state s x.image r)
 
 -- WHO ANSWERS "NEW": no table, and of the carousel's outcomes the new announcement
-read_old : (a : ReadAnswer) → is_new (read_fate a) ≡ false
+read_old : (a : Result Table Refusal) → is_new (read_fate a) ≡ false
 unfolding read_fate
-read_old (reading.Refused r) = refl
-read_old (reading.Accepted t) = refl
+read_old (Err r) = refl
+read_old (Ok t) = refl
 
 new_outcome : (o : StepOutcome) → is_new (carousel_fate (answer_of o)) ≡ madeNew o
 unfolding carousel_fate madeNew
@@ -134,18 +134,18 @@ new-says x s r = go (eqb (byte_at s 0) application_table) refl
         ∙ new_outcome (came x s)
 
 -- only a record that keeps its rule is answered "new"
-fate-new : (c : Carousel) (s image : List ℕ) → is_new (given_of c s image).fate ≡ true → (stepped_of c s image).answer ≡ answer.New
+fate-new : (c : Carousel) (s image : List ℕ) → is_new (given_of c s image).fate ≡ true → (stepped_of c s image).answer ≡ Ok answer.New
 unfolding carousel_fate
 fate-new c s image e = go (eqb (byte_at s 0) application_table) refl
   where
-    is-new : (a : Answer) → is_new (carousel_fate a) ≡ true → a ≡ answer.New
-    is-new answer.New h = refl
-    is-new answer.Same h = absurd (clash _ h refl)
-    is-new answer.Stored h = absurd (clash _ h refl)
-    is-new answer.Repeated h = absurd (clash _ h refl)
-    is-new (answer.Refused n) h = absurd (clash _ h refl)
+    is-new : (a : Answer) → is_new (carousel_fate a) ≡ true → a ≡ Ok answer.New
+    is-new (Ok answer.New) h = refl
+    is-new (Ok answer.Same) h = absurd (clash _ h refl)
+    is-new (Ok answer.Stored) h = absurd (clash _ h refl)
+    is-new (Ok answer.Repeated) h = absurd (clash _ h refl)
+    is-new (Err n) h = absurd (clash _ h refl)
 
-    go : (t : Bool) → eqb (byte_at s 0) application_table ≡ t → (stepped_of c s image).answer ≡ answer.New
+    go : (t : Bool) → eqb (byte_at s 0) application_table ≡ t → (stepped_of c s image).answer ≡ Ok answer.New
     go true f = absurd (clash _ e (ap is_new (fate-table c s image f) ∙ read_old (read_answer s)))
     go false f = is-new (stepped_of c s image).answer (sym (ap is_new (fate-other c s image f)) ∙ e)
 

@@ -25,7 +25,6 @@ use Rattle.carousel_record.specs.Keeping.{same_at, SameAt, same_module, words_ke
 use Rattle.carousel_record.specs.Changes.{afresh}
 use Rattle.carousel_record.specs.Refusals.{meets13, meets15}
 use Rattle.carousel_handout.specs.Calls.{handout_number}
-use Rattle.carousel_step.specs.declared.Answer.TheVariants as answer
 use Rattle.carousel_step.specs.Step.{meets12, meets14, meets16, block_refusal, matched, on_arrived, on_heard, answer_of, stepped_of, image_of}
 use Rattle.carousel_step.specs.Matching.{block_matches, heard_matches}
 use Rattle.carousel_record.proofs.Laws.Keeping.{same_means}
@@ -35,10 +34,12 @@ use Rattle.demands.specs.Demand.{fate_of, is_new, told, place_now, blocks, bytes
 use Rattle.demands.proofs.Given.{new-ruled}
 use Rattle.demands.proofs.Walks.{next_rule}
 use Rattle.demands.proofs.After.{emptied-clear, one-leaves, complete-number}
+use Rattle.std.proofs.Common.{Ok, Err}
+use Rattle.carousel_step.specs.declared.Answer.TheVariants as answer
 
 -- AFTER "NEW", by any record, section and image: block b of the module at place j is marked exactly where some module of the record before is the same and had block b, at its own
 -- place. So nothing of a module that is not the same stays. And no image byte moves.
-module _ (c : Carousel) (s image : List ℕ) (answers : (stepped_of c s image).answer ≡ answer.New) where
+module _ (c : Carousel) (s image : List ℕ) (answers : (stepped_of c s image).answer ≡ Ok answer.New) where
   abbrev before : Record
   before = record_of c
 
@@ -153,8 +154,8 @@ abbrev block0 : Arrived
 block0 = record { download = 7; number = 3; version = 0; block = 0; bytes = replicate 100 1 }
 
 -- "at the same places among that module's sections": a block before that announcement is stored, and after it refused with 15
-pub places_count : (answer_of (on_heard (starting alone clear) short (arrived block0)) ≡ answer.Stored)
-    × (answer_of (on_heard (afresh (starting alone clear) more) short (arrived block0)) ≡ answer.Refused (refused 15))
+pub places_count : (answer_of (on_heard (starting alone clear) short (arrived block0)) ≡ Ok answer.Stored)
+    × (answer_of (on_heard (afresh (starting alone clear) more) short (arrived block0)) ≡ Err (refused 15))
 unfolding first_met meets12 meets13 meets14 meets15 meets16 total place_in
     blocks_of block_length_of is_marked on_heard on_arrived matched block_refusal afresh marks_kept words_from words_kept same_at sums
 places_count = (refl, refl)

@@ -26,7 +26,6 @@ use Rattle.carousel_record.proofs.Laws.Blocks.{some_block}
 use Rattle.carousel_record.proofs.Laws.Places.{block-size_pos, size_pos}
 use Rattle.carousel_record.proofs.Laws.Rule.{Kept}
 use Rattle.carousel_record.proofs.Laws.Keeping.{same_means, same_back}
-use Rattle.carousel_handout.specs.declared.Report.TheVariants as report
 use Rattle.carousel_handout.specs.declared.Lack.{Lack}
 use Rattle.carousel_handout.specs.Calls.{handout_number, handout_place, missing_number, lack_of, report_on, report_of}
 use Rattle.carousel_handout.proofs.Exact.{handout-exactly, handout_tests_lem, handout-given}
@@ -35,8 +34,6 @@ use Rattle.carousel_step.proofs.Views.{Held as Said, Slot, slot}
 use Rattle.carousel_step.proofs.View.{slot-marked}
 use Rattle.carousel_step.proofs.Renewed.{same_by}
 use Rattle.carousel_step.proofs.Steps.{image_length}
-use Rattle.receiver.specs.declared.Fate.{Fate}
-use Rattle.receiver.specs.declared.Fate.TheVariants as fate
 use Rattle.receiver.specs.Run.{Held, given, walk}
 use Rattle.drift_list.specs.Answers.{list_answer, fix_answer, walk_answer}
 use Rattle.demands.specs.Demand.{fate_of, is_new, told, modules, place_now, Announces, blocks, bytes_in, missing_in}
@@ -49,6 +46,10 @@ use Rattle.demands.proofs.Walks.{kept_in, next_rule, keeps-parts, keeps-new, Sta
 use Rattle.demands.proofs.After.{emptied-clear, took-first, took-later, bytes-moved, handed_means, complete-number}
 use Rattle.demands.proofs.Calls.{walk-both}
 use Rattle.demands.proofs.Charts.{image-enough}
+use Rattle.std.proofs.Common.{Ok, Err, Some, None}
+use Rattle.receiver.specs.Run.{Fate}
+use Rattle.receiver.specs.declared.Kind.TheVariants as kind
+use Rattle.carousel_step.specs.declared.Answer.TheVariants as answer
 
 -- a byte of equal parts
 part-byte : (n a : ℕ) (l m : List ℕ) → take n (drop a l) ≡ take n (drop a m) → (p : ℕ) → a ≤ p → p < a + n → byte_at l p ≡ byte_at m p
@@ -95,14 +96,14 @@ report-is : (x : Held) (k : ℕ) → ruled_of x.state ≡ true → Announces x k
 unfolding report_of missing_number first_met meets13
 report-is x k r u = rw (r, lt-ltb _ _ u)
 
-report-lacks : (bs cs : List ℕ) → length bs ≤ length cs → (l : Lack) → report_on bs ≡ report.Lacking l → (m : Lack) × (report_on cs ≡ report.Lacking m) × (l.count ≤ m.count)
+report-lacks : (bs cs : List ℕ) → length bs ≤ length cs → (l : Lack) → report_on bs ≡ Ok (Some l) → (m : Lack) × (report_on cs ≡ Ok (Some m)) × (l.count ≤ m.count)
 unfolding report_on
 report-lacks [] cs h l e = let z : ◌≡◌ {A = ℕ} 0 1 = cc in absurd (omega arith)
 report-lacks (b ∷ bs) [] h l e = absurd (omega arith)
 report-lacks (b ∷ bs) (c ∷ cs) h l e = let f : lack_of (b ∷ bs) ≡ l = cc in let g = ap (λ (w : Lack). w.count) f in (lack_of (c ∷ cs), refl, omega arith)
 
 report-falls : (x y : Held) (k : ℕ) → ruled_of x.state ≡ true → Announces x k → ruled_of y.state ≡ true → Announces y k → missing_count y k ≤ missing_count x k
-    → (l : Lack) → report_in y k ≡ report.Lacking l → (m : Lack) × (report_in x k ≡ report.Lacking m) × (l.count ≤ m.count)
+    → (l : Lack) → report_in y k ≡ Ok (Some l) → (m : Lack) × (report_in x k ≡ Ok (Some m)) × (l.count ≤ m.count)
 report-falls x y k r u s v h l e =
     let w = report-lacks (missing_in y k) (missing_in x k) h l (sym (report-is y k s v) ∙ e) in
     (w.0, report-is x k r u ∙ w.1, w.2)
@@ -156,7 +157,7 @@ module _ (x : Held) (k : ℕ) (r : ruled_of x.state ≡ true) (u : Announces x k
       let h = fewer-clear x.state.marks y.state.marks (most_blocks * place_now x k) (most_blocks * place_now y k) (blocks x k) 0 (λ q l. never-unmarked q (omega arith)) in
       subst (λ (m : ℕ). length (clear_among y.state.marks (most_blocks * place_now y k) 0 m) ≤ missing_count x k) (sym as_many_lem) h
 
-  report-never-rises : (l : Lack) → report_in y k ≡ report.Lacking l → (m : Lack) × (report_in x k ≡ report.Lacking m) × (l.count ≤ m.count)
+  report-never-rises : (l : Lack) → report_in y k ≡ Ok (Some l) → (m : Lack) × (report_in x k ≡ Ok (Some m)) × (l.count ≤ m.count)
   report-never-rises l e = report-falls x y k r u still.ruled still.same.now never-rises l e
 
   all-marked : is_complete x k ≡ true → (b : ℕ) → b < blocks x k → is_marked_in x k b ≡ true
@@ -167,7 +168,7 @@ module _ (x : Held) (k : ℕ) (r : ruled_of x.state ≡ true) (u : Announces x k
       let m = as_many_lem in
       (complete_means (record_of y.state) (place_now y k)).1 (λ b l. let q : b < blocks x k = omega arith in never-unmarked b q (all-marked c b q))
 
-  report-stays-whole : report_in x k ≡ report.Whole → report_in y k ≡ report.Whole
+  report-stays-whole : report_in x k ≡ Ok None → report_in y k ≡ Ok None
   report-stays-whole e =
       let c = (whole_means (record_of x.state) (place_now x k)).0 (sym (report-is x k r u) ∙ e) in
       report-is y k still.ruled still.same.now ∙ (whole_means (record_of y.state) (place_now y k)).1 (stays-complete c)
@@ -235,7 +236,7 @@ module _ (x : Held) (k : ℕ) (handed : handout_of x k ≡ 0) where
 
     same_place : handout_of z k ≡ 0 → handed_at z k ≡ handed_at x k
     unfolding handout_place
-    same_place e = rw (e, handed) (λ i. record { number = 0; start = sym stays.same.start i; size = sym stays.same.size i })
+    same_place e = rw (e, handed) (λ i. Ok (record { start = sym stays.same.start i; size = sym stays.same.size i }))
 
     read_alike : handout_of z k ≡ 0 → ReadAlike (handed_of z k) (handed_of x k)
     read_alike e =
@@ -268,15 +269,15 @@ module _ (x : Held) (k : ℕ) (handed : handout_of x k ≡ 0) where
     handed-again = record { equal = λ e. (same_bytes e, same_place e, read_alike e); or15 = either (meets15 (told z) (length z.image)) number; exactly15 = exactly-15; never15 = never-15 }
 
 -- A RUN THAT DOES NOT KEEP THE MODULE has a call that answered "new" and emptied or dropped it
-is-new : (f : Fate) → is_new f ≡ true → f ≡ fate.New
-is-new fate.New e = refl
-is-new fate.Table e = absurd (clash _ e refl)
-is-new fate.Same e = absurd (clash _ e refl)
-is-new fate.Stored e = absurd (clash _ e refl)
-is-new fate.Repeated e = absurd (clash _ e refl)
-is-new (fate.Refused n) e = absurd (clash _ e refl)
+is-new : (f : Fate) → is_new f ≡ true → f ≡ Ok (kind.Carousel answer.New)
+is-new (Ok (kind.Carousel answer.New)) e = refl
+is-new (Ok kind.Table) e = absurd (clash _ e refl)
+is-new (Ok (kind.Carousel answer.Same)) e = absurd (clash _ e refl)
+is-new (Ok (kind.Carousel answer.Stored)) e = absurd (clash _ e refl)
+is-new (Ok (kind.Carousel answer.Repeated)) e = absurd (clash _ e refl)
+is-new (Err n) e = absurd (clash _ e refl)
 
-undone-by : (x : Held) (k : ℕ) (s : List ℕ) → fate_of x s ≡ fate.New → same_in x (given x s) k ≡ false → Dropped (given x s) k ⊎ EmptiedBy x k s
+undone-by : (x : Held) (k : ℕ) (s : List ℕ) → fate_of x s ≡ Ok (kind.Carousel answer.New) → same_in x (given x s) k ≡ false → Dropped (given x s) k ⊎ EmptiedBy x k s
 undone-by x k s n o = go (ltb (place_now (given x s) k) (modules (given x s))) refl
   where
     go : (t : Bool) → ltb (place_now (given x s) k) (modules (given x s)) ≡ t → Dropped (given x s) k ⊎ EmptiedBy x k s
@@ -322,7 +323,7 @@ never_both x k ss w n =
     elim w.undone [ inl d ↦ absurd (omega (arith, d, m.now)) | inr e ↦ absurd (e.other m) ]
 
 -- AFTER SUCH A CALL the module is unfinished: an announced module has a block
-left_unfinished : (x : Held) (k : ℕ) (s : List ℕ) → fate_of x s ≡ fate.New → Dropped (given x s) k ⊎ EmptiedBy x k s → Unfinished k (given x s)
+left_unfinished : (x : Held) (k : ℕ) (s : List ℕ) → fate_of x s ≡ Ok (kind.Carousel answer.New) → Dropped (given x s) k ⊎ EmptiedBy x k s → Unfinished k (given x s)
 left_unfinished x k s n (inl d) = inl d
 left_unfinished x k s n (inr e) = inr (go (is_complete (given x s) k) refl)
   where
@@ -368,7 +369,7 @@ unfinished-number y k r l e = go (ltb (place_now y k) (modules y)) refl e
     go false f w = inr (rw (r, f))
 
 -- WHICH NEW ANNOUNCEMENT KEEPS IT
-pub new-keeps-exactly : (x : Held) (k : ℕ) (s : List ℕ) → fate_of x s ≡ fate.New
+pub new-keeps-exactly : (x : Held) (k : ℕ) (s : List ℕ) → fate_of x s ≡ Ok (kind.Carousel answer.New)
     → Keeps x k (s ∷ []) ↔ SameModule (record_of x.state) (unmarked (said_announcement s)) k
 unfolding keeps_all afresh
 new-keeps-exactly x k s n =

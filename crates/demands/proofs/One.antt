@@ -15,22 +15,20 @@ use Rattle.wire.specs.Fields.{byte_at}
 use Rattle.section.specs.declared.Rules.{Rules}
 use Rattle.section.specs.declared.Rules.TheVariants.{Application}
 use Rattle.section.specs.declared.Rules.TheVariants.{Carousel as Carousels}
-use Rattle.section.specs.declared.Spot.{Spot}
 use Rattle.section.specs.declared.Refusal.{Refusal}
 use Rattle.section.specs.Header.{application_table}
 use Rattle.section.specs.Answer.{refused_by, Told}
-use Rattle.ait_read.specs.declared.ReadAnswer.TheVariants as reading
 use Rattle.ait_read.specs.Answers.{read_answer, number_of_read}
 use Rattle.ait_read.proofs.Laws.Told.{read_told}
 use Rattle.carousel_record.specs.declared.Carousel.{Carousel}
 use Rattle.carousel_record.specs.Record.{ruled_of}
-use Rattle.carousel_step.specs.declared.Answer.TheVariants as answer
 use Rattle.carousel_step.specs.Step.{number_of_answer, stepped_of, image_of}
 use Rattle.carousel_step.proofs.Told as carousel
-use Rattle.receiver.specs.declared.Fate.TheVariants as fate
 use Rattle.receiver.specs.declared.Stop.TheVariants as stop
 use Rattle.receiver.specs.Run.{number_of_fate, rules_of, given_of, image_given, run_of, halted}
 use Rattle.receiver.proofs.Laws.Refusals as laws
+use Rattle.std.proofs.Common.{Err}
+use Rattle.section.specs.Refusals.{Spot}
 
 -- "Every one returns no value besides its number" (01) and, for 2 to 6, its place (02, §9): a refusal is its number. `Told` says that of a refusal, and the next theorems of every call;
 -- what the place is stands in Places.antt.
@@ -42,7 +40,7 @@ pub table-known : (s : List ℕ) → number_of_read (read_answer s) ≤ 18
 table-known s = laws.table-known s
 
 -- and none is 0, which is no refusal; its place is its number's
-pub table-told : (s : List ℕ) (r : Refusal) → read_answer s ≡ reading.Refused r → Told Application s r
+pub table-told : (s : List ℕ) (r : Refusal) → read_answer s ≡ Err r → Told Application s r
 table-told s r e = read_told s r e
 
 module _ (c : Carousel) (s image : List ℕ) where
@@ -54,17 +52,17 @@ module _ (c : Carousel) (s image : List ℕ) where
   take-known = laws.take-known c s image
 
   -- and none is 0; its place is its number's
-  pub step-told : (r : Refusal) → (stepped_of c s image).answer ≡ answer.Refused r → Told Carousels s r
+  pub step-told : (r : Refusal) → (stepped_of c s image).answer ≡ Err r → Told Carousels s r
   step-told r e = carousel.step-told s r c image e
 
-  pub take-told : (r : Refusal) → (given_of c s image).fate ≡ fate.Refused r → Told (rules_of s) s r
+  pub take-told : (r : Refusal) → (given_of c s image).fate ≡ Err r → Told (rules_of s) s r
   take-told r e = laws.take-told c s image r e
 
   -- A REFUSAL CHANGES NEITHER RECORD NOR IMAGE, of any record and image: the step's, and the receiver's
-  pub step-refused : (r : Refusal) → (stepped_of c s image).answer ≡ answer.Refused r → ((stepped_of c s image).state ≡ c) × (image_of c s image ≡ image)
+  pub step-refused : (r : Refusal) → (stepped_of c s image).answer ≡ Err r → ((stepped_of c s image).state ≡ c) × (image_of c s image ≡ image)
   step-refused r e = laws.step-refused c s image r e
 
-  pub take-refused : (r : Refusal) → (given_of c s image).fate ≡ fate.Refused r → ((given_of c s image).state ≡ c) × (image_given c s image ≡ image)
+  pub take-refused : (r : Refusal) → (given_of c s image).fate ≡ Err r → ((given_of c s image).state ≡ c) × (image_given c s image ≡ image)
   take-refused r e = laws.take-refused c s image r e
 
   -- so does a table, accepted or not

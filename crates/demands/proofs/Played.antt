@@ -15,7 +15,6 @@ use Rattle.carousel_messages.specs.Good.{said_announcement}
 use Rattle.carousel_record.specs.Record.{Record, record_of, announced_by, module_at, place_of, bytes_of, block_count, block_length, block_at, received, ruled_of}
 use Rattle.carousel_record.proofs.Laws.Places.{block-size_pos, some-modules, place_is}
 use Rattle.carousel_record.proofs.Laws.Rule.{Kept}
-use Rattle.carousel_step.specs.declared.Answer.TheVariants as answer
 use Rattle.carousel_step.specs.Step.{stepped_of}
 use Rattle.carousel_step.specs.Matching.{heard_matches, heard_bytes}
 use Rattle.carousel_step.proofs.Views.{Slot, slot, hit}
@@ -24,8 +23,6 @@ use Rattle.carousel_step.proofs.Matching.{matching_means}
 use Rattle.carousel_step.proofs.Steps.{new_changes, image_length}
 use Rattle.carousel_step.proofs.Simulation.{says-afresh}
 use Rattle.carousel_record.specs.Changes.{afresh}
-use Rattle.receiver.specs.declared.Fate.{Fate}
-use Rattle.receiver.specs.declared.Fate.TheVariants as fate
 use Rattle.receiver.specs.Run.{Held, given_of, given, walk}
 use Rattle.carousel_handout.specs.Calls.{handout_number, handed_out}
 use Rattle.carousel_handout.proofs.Complete.{complete_means, handout_part}
@@ -43,6 +40,10 @@ use Rattle.carousel_play.specs.Bytes.{announcement_bytes, start_of, shore_part, 
 use Rattle.carousel_play.specs.Rotation.{Playable, Holding, IsBlock}
 use Rattle.carousel_play.proofs.Laws.Limits.{not_ten, not_eleven}
 use Rattle.carousel_play.proofs.Heard.{announcement-heard_as, announcement_well, data-long, the_block, block-heard_as, block_well}
+use Rattle.std.proofs.Common.{Ok, Err}
+use Rattle.receiver.specs.Run.{Fate}
+use Rattle.receiver.specs.declared.Kind.TheVariants as kind
+use Rattle.carousel_step.specs.declared.Answer.TheVariants as answer
 
 -- a block of the shore's that hits a view: where the view is marked it is the shore's already
 pub hit_shores : (a : Announced) (image : List ℕ) (x : Held) (i : ℕ) → told x ≡ a → HasShores a image x i → (b : ℕ) → b < block_count a i
@@ -68,7 +69,7 @@ module _ (id : ℕ) (a : Announced) (ok : Playable a) (image : List ℕ) (holds 
   old : (x : Held) → told x ≡ a → (s : List ℕ) → Played s → is_new (given_of x.state s x.image).fate ≡ false
   old x e s p = go (given_of x.state s x.image).fate refl
     where
-      never : Played s → (given_of x.state s x.image).fate ≡ fate.New → ⊥
+      never : Played s → (given_of x.state s x.image).fate ≡ Ok (kind.Carousel answer.New) → ⊥
       never (inl q) n =
           let w = (new-accepted x.state s x.image).0 ((kind-new x.state s x.image).0 n) in
           w.2 (e ∙ sym (ap said_announcement q ∙ (announcement_well id a ok).1))
@@ -79,12 +80,12 @@ module _ (id : ℕ) (a : Announced) (ok : Playable a) (image : List ℕ) (holds 
           omega (arith, w.1.table, g, h)
 
       go : (f : Fate) → (given_of x.state s x.image).fate ≡ f → is_new f ≡ false
-      go fate.New n = absurd (never p n)
-      go fate.Table n = refl
-      go fate.Same n = refl
-      go fate.Stored n = refl
-      go fate.Repeated n = refl
-      go (fate.Refused r) n = refl
+      go (Ok (kind.Carousel answer.New)) n = absurd (never p n)
+      go (Ok kind.Table) n = refl
+      go (Ok (kind.Carousel answer.Same)) n = refl
+      go (Ok (kind.Carousel answer.Stored)) n = refl
+      go (Ok (kind.Carousel answer.Repeated)) n = refl
+      go (Err r) n = refl
 
   pub no-new : (x : Held) → ruled_of x.state ≡ true → told x ≡ a → (ss : List (List ℕ)) → ((s : List ℕ) → Holds ss s → Played s) → NoNew x ss
   unfolding fates none_new walk
@@ -144,12 +145,12 @@ module _ (id : ℕ) (a : Announced) (ok : Playable a) (image : List ℕ) (holds 
     abbrev pub begun-with : Held
     begun-with = given y (announcement_bytes id a)
 
-    answers-new : (stepped_of y.state (announcement_bytes id a) y.image).answer ≡ answer.New
+    answers-new : (stepped_of y.state (announcement_bytes id a) y.image).answer ≡ Ok answer.New
     answers-new =
         let w = announcement_well id a ok in
         (new-accepted y.state (announcement_bytes id a) y.image).1 (ruled, w.0, λ q. other (q ∙ w.1))
 
-    pub announcement-new : (given_of y.state (announcement_bytes id a) y.image).fate ≡ fate.New
+    pub announcement-new : (given_of y.state (announcement_bytes id a) y.image).fate ≡ Ok (kind.Carousel answer.New)
     announcement-new = (kind-new y.state (announcement_bytes id a) y.image).1 answers-new
 
     pub begun-ruled : ruled_of begun-with.state ≡ true

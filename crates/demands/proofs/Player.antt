@@ -27,19 +27,15 @@ use Rattle.carousel_record.specs.Changes.{empty_record}
 use Rattle.carousel_step.proofs.Simulation.{empty-ruled}
 use Rattle.carousel_handout.specs.Calls.{handed_out, handout_number}
 use Rattle.carousel_play.specs.declared.Playlist.{Playlist}
-use Rattle.carousel_play.specs.declared.Counted.TheVariants as counted
 use Rattle.carousel_play.specs.Bytes.{announcement_bytes, shore_part, block_data, block_bytes}
 use Rattle.carousel_play.specs.Rotation.{block_sections, rotation, section_count, Playable, Holding}
 use Rattle.carousel_play.specs.Calls.{to_play, count_answer}
 use Rattle.carousel_play.proofs.Heard.{announcement-heard_as, announcement_well, block-heard_as, block_well}
 use Rattle.carousel_play.proofs.Laws.Members.{rotation_has, rotation-holds}
 use Rattle.carousel_play.proofs.Laws.Places.{rotation-long}
-use Rattle.receiver.specs.declared.Fate.TheVariants as fate
 use Rattle.receiver.specs.declared.Stop.TheVariants as stop
 use Rattle.receiver.specs.Run.{Held, given, given_of, walk, RunOutcome, run_of, ran_of, image_ran}
 use Rattle.receiver.proofs.Laws.Runs.{run-ruled}
-use Rattle.drift_list.specs.declared.Reading.TheVariants as reading
-use Rattle.drift_list.specs.declared.FixAnswer.TheVariants as answer
 use Rattle.drift_list.specs.Values.{fix_of}
 use Rattle.drift_list.specs.Answers.{list_answer, fix_answer}
 use Rattle.drift_list.specs.Writing.{Draft, fix_given, write_refusal}
@@ -52,6 +48,9 @@ use Rattle.demands.proofs.Played.{Played, emptied-none, played-complete, played-
 use Rattle.demands.proofs.Taken.{again-same, block-again, block-first, rotation-fates}
 use Rattle.demands.proofs.Stretches.{Cut, joined-run, joined-sections}
 use Rattle.demands.proofs.Sent.{playable, count-is, sent_is}
+use Rattle.std.proofs.Common.{Ok}
+use Rattle.receiver.specs.declared.Kind.TheVariants as kind
+use Rattle.carousel_step.specs.declared.Answer.TheVariants as answer
 
 -- nothing is the same as in the empty record
 empty-none : (q : Record) (k : ℕ) → SameModule (record_of empty_record) q k → ⊥
@@ -120,20 +119,20 @@ module _ (id : ℕ) (a : Announced) (ok : Playable a) (image : List ℕ) (holds 
           (λ b v. every i b u v)
 
       -- and what each section is answered after them: the announcement again "same", a block that came or was kept "repeated", one that did not "stored". None is refused.
-      pub answered-same : let x = walk y (announcement_bytes id a ∷ ss) in (given_of x.state (announcement_bytes id a) x.image).fate ≡ fate.Same
+      pub answered-same : let x = walk y (announcement_bytes id a ∷ ss) in (given_of x.state (announcement_bytes id a) x.image).fate ≡ Ok (kind.Carousel answer.Same)
       unfolding walk
       answered-same = again-same id a ok image holds y ruled other room ss each
 
       module _ (i b : ℕ) (u : i < length a.modules) (v : b < block_count a i) where
         pub answered_repeated : let x = walk y (announcement_bytes id a ∷ ss) in
             HasShores a image told-first i → (received (record_of told-first.state) i b ≡ true) ⊎ Holds ss (block_bytes a i b image)
-            → (given_of x.state (block_bytes a i b image) x.image).fate ≡ fate.Repeated
+            → (given_of x.state (block_bytes a i b image) x.image).fate ≡ Ok (kind.Carousel answer.Repeated)
         unfolding walk
         answered_repeated had h = block-again id a ok image holds y ruled other room ss each i b u v had h
 
         pub answered-stored : let x = walk y (announcement_bytes id a ∷ ss) in
             (Holds ss (block_bytes a i b image) → ⊥) → received (record_of told-first.state) i b ≡ false
-            → (given_of x.state (block_bytes a i b image) x.image).fate ≡ fate.Stored
+            → (given_of x.state (block_bytes a i b image) x.image).fate ≡ Ok (kind.Carousel answer.Stored)
         unfolding walk
         answered-stored h c = block-first id a ok image holds y ruled other room ss each i b u v h c
 
@@ -162,7 +161,7 @@ module _ (id : ℕ) (a : Announced) (ok : Playable a) (image : List ℕ) (holds 
         go true e = absurd (empty-none (record_of (given start (announcement_bytes id a)).state) k (same_means _ _ _ _ e))
         go false e = e
 
-    pub one-rotation : (fates start (rotation id a image) ≡ fate.New ∷ replicate (length (block_sections a image)) fate.Stored)
+    pub one-rotation : (fates start (rotation id a image) ≡ (Ok (kind.Carousel answer.New)) ∷ replicate (length (block_sections a image)) (Ok (kind.Carousel answer.Stored)))
         × ((i : ℕ) → i < length a.modules → Ends a image (walk start (rotation id a image)) i)
     one-rotation = (
       rotation-fates id a ok image holds start empty-ruled nothing_yet room (λ i b u v. emptied-none id a ok image holds start empty-ruled nothing_yet room i u (none-same _) b v),
@@ -201,7 +200,7 @@ module _ (id : ℕ) (a : Announced) (ok : Playable a) (image : List ℕ) (holds 
   -- box, the box reads it record for record as it was given to the writer
   module _ (d : Draft) (buffer : List ℕ) (written : write_refusal d (length buffer) ≡ 0) (i : ℕ) (its : shore_part a image i ≡ written_list d buffer) (x : Held) (ends : Ends a image x i) where
     pub list_read : let out = handed_out x.state x.image (module_at a i).number in
-        (list_answer out ≡ reading.Issue d.issue d.count) × ((k : ℕ) → k < d.count → fix_answer out k ≡ answer.Found (fix_of (fix_given d.numbers k)))
+        (list_answer out ≡ Ok (record { issue = d.issue; count = d.count })) × ((k : ℕ) → k < d.count → fix_answer out k ≡ Ok (fix_of (fix_given d.numbers k)))
     list_read =
         let r = written-then-read d buffer written in
         let g = ends.handed ∙ its in
@@ -209,7 +208,7 @@ module _ (id : ℕ) (a : Announced) (ok : Playable a) (image : List ℕ) (holds 
 
 -- THE PLAYER'S CALLS. A playlist that `section_count` counts, n sections, and an image that holds its modules: calls of `write_section` at places 0 to n - 1, each into a buffer
 -- of 4,096 bytes or more, put one rotation (carousel_play `Exact` has when each call is refused)
-module _ (p : Playlist) (widths : Widths p) (n : ℕ) (told : count_answer p ≡ counted.Sections n) (id : ℕ) (image : List ℕ) (holds : Holding (to_play p) image)
+module _ (p : Playlist) (widths : Widths p) (n : ℕ) (told : count_answer p ≡ Ok n) (id : ℕ) (image : List ℕ) (holds : Holding (to_play p) image)
     (buffers : ℕ → List ℕ) (large : (k : ℕ) → k < n → 4096 ≤ length (buffers k)) where
   pub calls-send : (sent_by id p image buffers n ≡ rotation id (to_play p) image) × (n ≡ section_count (to_play p)) × Playable (to_play p)
   calls-send = (sent_is p n told id image holds buffers large, count-is p n told, playable p n told widths)
@@ -229,8 +228,8 @@ module _ (p : Playlist) (widths : Widths p) (n : ℕ) (told : count_answer p ≡
     out = handed_out x.state x.image (module_at (to_play p) i).number
 
     pub whole-way : (handout_number x.state x.image (module_at (to_play p) i).number ≡ 0)
-        × (list_answer out ≡ reading.Issue d.issue d.count)
-        × ((k : ℕ) → k < d.count → fix_answer out k ≡ answer.Found (fix_of (fix_given d.numbers k)))
+        × (list_answer out ≡ Ok (record { issue = d.issue; count = d.count }))
+        × ((k : ℕ) → k < d.count → fix_answer out k ≡ Ok (fix_of (fix_given d.numbers k)))
     whole-way =
         let a = to_play p in
         let ok = calls-send.2 in

@@ -18,7 +18,6 @@ use Rattle.carousel_handout.specs.Calls.{handout_number, handed_out}
 use Rattle.carousel_step.specs.Matching.{heard_for, heard_matches, Matching}
 use Rattle.carousel_step.proofs.Views.{slot, hit}
 use Rattle.carousel_step.proofs.Matching.{matching_means}
-use Rattle.receiver.specs.declared.Fate.{Fate}
 use Rattle.receiver.specs.Run.{Held, given, walk}
 use Rattle.demands.specs.Demand.{fate_of, fates, is_new, told, modules, blocks_at, is_for_at, matches_at, bytes_at, missing_at, is_complete_at, place_now, is_for, matches, section_data, HasRoom}
 use Rattle.demands.specs.Demand.{keeps_all, Keeps, trace, answers_for, Took, Matched, Came, first_data, joined_blocks, RepeatsAgree, FoundIn}
@@ -28,6 +27,7 @@ use Rattle.demands.proofs.Lists.{joined_ext, some, some_holds, holds-some}
 use Rattle.demands.proofs.Walks.{kept_in, next_rule, old_fixed, came_by, walk_view}
 use Rattle.demands.proofs.After.{emptied-ruled, emptied-kept, came_means}
 use Rattle.demands.proofs.Three as three
+use Rattle.receiver.specs.Run.{Fate}
 
 -- "with no further new announcement": not the first section, and none of the rest
 old-first : (f : Fate) (fs : List Fate) → none_new (f ∷ fs) ≡ true → (is_new f ≡ false) × (none_new fs ≡ true)

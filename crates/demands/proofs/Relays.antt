@@ -15,21 +15,20 @@ use Rattle.carousel_messages.specs.Message.{payload_of}
 use Rattle.carousel_messages.specs.Contents.{block_version_of}
 use Rattle.carousel_messages.specs.Good.{BlockSection}
 use Rattle.carousel_messages.specs.Heard.{Arrived, refusal, heard_in, heard_of}
-use Rattle.carousel_messages.specs.declared.Judged.TheVariants as judged
 use Rattle.carousel_messages.specs.Judged.{judged_of}
 use Rattle.carousel_messages.proofs.Good.{nine-exactly, block-heard}
 use Rattle.carousel_messages.proofs.Soundings as messages
 use Rattle.carousel_record.specs.Record.{module_at, record_of, ruled_of}
-use Rattle.carousel_step.specs.declared.Answer.TheVariants as answer
 use Rattle.carousel_step.specs.declared.Stepped.{Stepped}
 use Rattle.carousel_step.specs.Matching.{heard_for}
 use Rattle.carousel_step.specs.Step.{StepOutcome, refusing, on_heard, outcome_of, returning, image_after, stepped_of, image_of}
 use Rattle.carousel_step.proofs.Simulation.{outcome-ruled}
-use Rattle.receiver.specs.declared.Fate.TheVariants as fate
 use Rattle.receiver.specs.Run.{Held, carousel_fate, given_of}
 use Rattle.receiver.proofs.Laws.Fates.{fate-other}
 use Rattle.demands.specs.Demand.{told, place_now, is_for, Emptied, Keeps, Matched}
 use Rattle.demands.proofs.Three.{of_module}
+use Rattle.std.proofs.Common.{Ok, Err}
+use Rattle.carousel_messages.specs.declared.Message.TheVariants as judged
 
 module _ (x : Held) (ruled : ruled_of x.state ≡ true) (s : List ℕ) (formed : BlockSection s)
     (stale : version_of s ≡ block_version_of (payload_of (body_of s)) % 32 → ⊥) where
@@ -42,12 +41,12 @@ module _ (x : Held) (ruled : ruled_of x.state ≡ true) (s : List ℕ) (formed :
   comes_to_nine = outcome-ruled x.state s x.image ruled ∙ ap (on_heard (record_of x.state) x.image) says_nine
 
   -- REFUSED WITH 9, whatever was announced, if anything was, and whatever has come; and it changes nothing
-  pub stale-refused : (stepped_of x.state s x.image ≡ record { answer = answer.Refused (refused 9); state = x.state }) × (image_of x.state s x.image ≡ x.image)
+  pub stale-refused : (stepped_of x.state s x.image ≡ record { answer = Err (refused 9); state = x.state }) × (image_of x.state s x.image ≡ x.image)
   unfolding stepped_of image_of
   stale-refused = (ap (λ (o : StepOutcome). returning x.state o) comes_to_nine, ap (λ (o : StepOutcome). image_after x.image o) comes_to_nine)
 
   -- the receiver answers the same
-  pub stale-taken : (given_of x.state s x.image).fate ≡ fate.Refused (refused 9)
+  pub stale-taken : (given_of x.state s x.image).fate ≡ Err (refused 9)
   unfolding carousel_fate stepped_of
   stale-taken =
       fate-other x.state s x.image (rw formed.table) ∙ ap (λ (a : Stepped). carousel_fate a.answer) (ap (λ (o : StepOutcome). returning x.state o) comes_to_nine)
@@ -66,8 +65,8 @@ matching-version x k start ss n b s m =
     h.0.version ∙ ap (λ (v : ℕ). v % 32) (ap (λ (d : Arrived). d.version) h.1 ∙ w.announced_version)
 
 -- THE SOUNDINGS OF THE REQUEST, as whole sections: module version 32 under section version 0 passes; 33 under 0 gives 9; 0 under 31 gives 9; 255 under 31 passes
-pub soundings : (judged_of (messages.carrying 0xC1 32 (0xF3 ∷ 0x02 ∷ 0xC9 ∷ 0x0E ∷ [])) ≡ judged.Carried (messages.carried 32))
-    × (judged_of (messages.carrying 0xC1 33 (0xA8 ∷ 0xA3 ∷ 0x15 ∷ 0xC4 ∷ [])) ≡ judged.Refused (refused 9))
-    × (judged_of (messages.carrying 0xFF 0 (0x4C ∷ 0xA6 ∷ 0xDE ∷ 0x0E ∷ [])) ≡ judged.Refused (refused 9))
-    × (judged_of (messages.carrying 0xFF 255 (0x2B ∷ 0xC6 ∷ 0x0C ∷ 0x6A ∷ [])) ≡ judged.Carried (messages.carried 255))
+pub soundings : (judged_of (messages.carrying 0xC1 32 (0xF3 ∷ 0x02 ∷ 0xC9 ∷ 0x0E ∷ [])) ≡ Ok (judged.Carried (messages.carried 32)))
+    × (judged_of (messages.carrying 0xC1 33 (0xA8 ∷ 0xA3 ∷ 0x15 ∷ 0xC4 ∷ [])) ≡ Err (refused 9))
+    × (judged_of (messages.carrying 0xFF 0 (0x4C ∷ 0xA6 ∷ 0xDE ∷ 0x0E ∷ [])) ≡ Err (refused 9))
+    × (judged_of (messages.carrying 0xFF 255 (0x2B ∷ 0xC6 ∷ 0x0C ∷ 0x6A ∷ [])) ≡ Ok (judged.Carried (messages.carried 255)))
 soundings = messages.versions

@@ -6,15 +6,14 @@ use native.Mathlib.Omega.{arith}
 use lib.ListN.{length, take, drop}
 use lib.Seq.{take-suc, take-length, take-append_seam}
 use Rattle.carousel_play.specs.declared.Playlist.{Playlist}
-use Rattle.carousel_play.specs.declared.Counted.TheVariants as counted
-use Rattle.carousel_play.specs.declared.Played.{Played}
 use Rattle.carousel_play.specs.Rotation.{rotation, section_count, section_at, Playable, Holding}
 use Rattle.carousel_play.specs.Calls.{to_play, InLimits, Different, play_refusal, count_answer}
 use Rattle.carousel_play.proofs.Exact.{limits-exactly, written-exactly, written_is, count-exactly, keeps_limits, room-enough}
 use Rattle.carousel_play.proofs.Laws.Places.{rotation-long}
 use Rattle.demands.specs.Shore.{Widths, size_told, put_by, sent_by}
+use Rattle.std.proofs.Common.{Result, Ok}
 
-module _ (p : Playlist) (n : ℕ) (told : count_answer p ≡ counted.Sections n) where
+module _ (p : Playlist) (n : ℕ) (told : count_answer p ≡ Ok n) where
   limits : InLimits p × Different p
   limits = (limits-exactly p).0 ((count-exactly p n).0 told).0
 
@@ -37,7 +36,7 @@ module _ (p : Playlist) (n : ℕ) (told : count_answer p ≡ counted.Sections n)
         let f = room-enough id (to_play p) (keeps_limits p limits.0 limits.1) image holds k u in
         let z : play_refusal id p image k (length out) ≡ 0 = (written-exactly p id image k (length out)).1 (limits.0, limits.1, holds, u, omega (arith, f, room)) in
         let w = written_is id p image k out z in
-        ap₂ (λ (a : Played) (x : List ℕ). take (size_told a) x) w.0 w.1 ∙ take-append_seam s (drop (length s) out)
+        ap₂ (λ (a : Result ℕ ℕ) (x : List ℕ). take (size_told a) x) w.0 w.1 ∙ take-append_seam s (drop (length s) out)
 
     -- all of them
     module _ (buffers : ℕ → List ℕ) (room : (k : ℕ) → k < n → 4096 ≤ length (buffers k)) where

@@ -6,7 +6,6 @@ use mathlib.Core.List.{List, [], ◌∷◌, map}
 use native.Mathlib.Omega.{arith}
 use lib.ListN.{length}
 use Rattle.section.specs.declared.Header.{Header}
-use Rattle.section.specs.declared.Checked.TheVariants.{Accepted}
 use Rattle.section.specs.Answer.{refused}
 use Rattle.section.specs.Header.{header_of, body_of}
 use Rattle.section.specs.Header.{length_of as said_length}
@@ -25,18 +24,18 @@ use Rattle.carousel_messages.specs.Heard.{Arrived, arrived, heard_of}
 use Rattle.carousel_messages.proofs.Exact.{Passed, message-taken, exactly-10}
 use Rattle.carousel_messages.proofs.Good.{distinct-back}
 use Rattle.carousel_messages.proofs.Soundings as messages
-use Rattle.carousel_handout.specs.declared.Report.TheVariants as report
 use Rattle.carousel_record.specs.Blocks.{blocks_of, block_length_of}
 use Rattle.carousel_record.specs.Record.{missing_of}
 use Rattle.carousel_record.specs.Changes.{empty_record}
-use Rattle.carousel_step.specs.declared.Answer.{Answer}
-use Rattle.carousel_step.specs.declared.Answer.TheVariants as answer
 use Rattle.carousel_step.specs.declared.Stepped.{Stepped}
 use Rattle.carousel_step.specs.Step.{block_refusal, stepped_of}
 use Rattle.carousel_handout.specs.Calls.{report_on}
 use Rattle.carousel_step.proofs.Soundings as carousel
 use Rattle.carousel_step.proofs.Charts.{taken_as-new}
 use Rattle.carousel_step.proofs.Longest.{longest-block, longest}
+use Rattle.std.proofs.Common.{Ok, Err, Some}
+use Rattle.carousel_step.specs.Step.{Answered as Answer}
+use Rattle.carousel_step.specs.declared.Answer.TheVariants as answer
 
 -- a message body b announces modules of these sizes in blocks of this size, and passes 7 and 8
 abbrev pub Announces : List ℕ → (block_size : ℕ) → (sizes : List ℕ) → Type 0
@@ -76,21 +75,21 @@ pub soundings :
     × ((blocks_of 4066 65536 ≡ 17) × (block_length_of 4066 65536 16 ≡ 480))
     -- "blockSize 1: size 1,024 taken, 1,025 gives 10" (02 §8); a whole section of each: the step answers "new", and refuses with 10
     × ((h : Header) (b : List ℕ) → (Announces b 1 (1024 ∷ []) → message_refusal Announcements h b ≡ 0) × (Announces b 1 (1025 ∷ []) → message_refusal Announcements h b ≡ 10))
-    × ((image : List ℕ) → (answer_to messages.chart image ≡ answer.New) × (answer_to messages.chart_beyond image ≡ answer.Refused (refused 10)))
+    × ((image : List ℕ) → (answer_to messages.chart image ≡ Ok answer.New) × (answer_to messages.chart_beyond image ≡ Err (refused 10)))
     -- "blockSize 400: sizes 262,143 and 1 taken; 262,144 and 1 give 10" (02 §8), the two modules having two numbers; and a whole section of each
     × ((h : Header) (b : List ℕ) → (Announces b 400 (262143 ∷ 1 ∷ []) → Distinct (announced_numbers (payload_of b)) → message_refusal Announcements h b ≡ 0)
     × (Announces b 400 (262144 ∷ 1 ∷ []) → message_refusal Announcements h b ≡ 10))
-    × ((image : List ℕ) → (answer_to messages.charts image ≡ answer.New) × (answer_to messages.charts_beyond image ≡ answer.Refused (refused 10)))
+    × ((image : List ℕ) → (answer_to messages.charts image ≡ Ok answer.New) × (answer_to messages.charts_beyond image ≡ Err (refused 10)))
     -- "A 4,066-byte block without adaptation has L = 4,093", every one that is heard; and for any 4,066 bytes there is one
     × (((s : List ℕ) (d : Arrived) → heard_of s ≡ arrived d → adaptation_of (body_of s) ≡ 0 → length d.bytes ≡ 4066 → said_length s ≡ 4093)
     × ((ds : List ℕ) → length ds ≡ 4066
     → (heard_of (longest ds) ≡ arrived (record { download = 1; number = 1; version = 0; block = 0; bytes = ds })) × (adaptation_of (body_of (longest ds)) ≡ 0) × (said_length (longest ds) ≡ 4093)))
     -- "Blocks 0 and 2 of three: missing 1, lowest 1."
-    × (report_on (missing_of (carousel.marked (carousel.one 400 1000) 5) 0) ≡ report.Lacking (record { count = 1; lowest = 1 }))
+    × (report_on (missing_of (carousel.marked (carousel.one 400 1000) 5) 0) ≡ Ok (Some (record { count = 1; lowest = 1 })))
     -- "An empty AIT has L = 13", and is accepted
-    × ((said_length (tables.whole tables.empty_front) ≡ 13) × (table_judged (tables.whole tables.empty_front) ≡ Accepted (header_of (tables.whole tables.empty_front))))
+    × ((said_length (tables.whole tables.empty_front) ≡ 13) × (table_judged (tables.whole tables.empty_front) ≡ Ok (header_of (tables.whole tables.empty_front))))
     -- "72 applications of the least length, 14 bytes, without common descriptors give L = 1,021", and are accepted
-    × ((length tables.least ≡ 14) × (said_length (tables.whole tables.full_front) ≡ 1021) × (table_judged (tables.whole tables.full_front) ≡ Accepted (header_of (tables.whole tables.full_front))))
+    × ((length tables.least ≡ 14) × (said_length (tables.whole tables.full_front) ≡ 1021) × (table_judged (tables.whole tables.full_front) ≡ Ok (header_of (tables.whole tables.full_front))))
     -- "Application 0x3FFF unsigned, 0x4000 signed."
     × ((class_of 0x3FFF ≡ Unsigned) × (class_of 0x4000 ≡ Signed))
     -- "Control code 5 reserved."

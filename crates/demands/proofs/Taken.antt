@@ -14,8 +14,6 @@ use Rattle.carousel_record.proofs.Laws.Places.{some-modules}
 use Rattle.carousel_step.specs.Matching.{Matching, heard_matches}
 use Rattle.carousel_step.proofs.Views.{Slot, slot, hit}
 use Rattle.carousel_step.proofs.View.{hit-marked, slot-marked}
-use Rattle.receiver.specs.declared.Fate.{Fate}
-use Rattle.receiver.specs.declared.Fate.TheVariants as fate
 use Rattle.receiver.specs.Run.{Held, given_of, given, walk}
 use Rattle.demands.specs.Demand.{fates, told}
 use Rattle.demands.specs.Quiet.{NoNew, Holds, first_matching}
@@ -31,6 +29,10 @@ use Rattle.carousel_play.proofs.Laws.Limits.{not_ten}
 use Rattle.carousel_play.proofs.Heard.{announcement_well, data-long, the_block, block_well}
 use Rattle.carousel_play.proofs.Laws.Members.{in_either, module_has, sections_have}
 use Rattle.demands.proofs.Played.{hit_shores, Played, no-new, matches_it, matches-only, matched-is, matched_data, begun-with, announcement-new, begun-ruled, told_it, long-enough}
+use Rattle.std.proofs.Common.{Ok}
+use Rattle.receiver.specs.Run.{Fate}
+use Rattle.receiver.specs.declared.Kind.TheVariants as kind
+use Rattle.carousel_step.specs.declared.Answer.TheVariants as answer
 
 module _ (id : ℕ) (a : Announced) (ok : Playable a) (image : List ℕ) (holds : Holding a image)
     (y : Held) (ruled : ruled_of y.state ≡ true) (other : announced_by y.state ≡ a → ⊥) (room : Holding a y.image) where
@@ -64,7 +66,7 @@ module _ (id : ℕ) (a : Announced) (ok : Playable a) (image : List ℕ) (holds 
     still-told = stays.same ∙ is-told
 
     -- the announcement again answers "same"
-    pub again-same : (given_of z.state (announcement_bytes id a) z.image).fate ≡ fate.Same
+    pub again-same : (given_of z.state (announcement_bytes id a) z.image).fate ≡ Ok (kind.Carousel answer.Same)
     again-same =
         let w = announcement_well id a ok in
         (kind-same z.state (announcement_bytes id a) z.image).1 ((same-accepted z.state (announcement_bytes id a) z.image).1 (stays.ruled, w.0, still-told ∙ sym w.1))
@@ -114,7 +116,7 @@ module _ (id : ℕ) (a : Announced) (ok : Playable a) (image : List ℕ) (holds 
           let k : slot (saying z) i b ≡ slot (saying x) i b = view ∙ rw e in
           sym (slot-marked (saying z) i b) ∙ ap (λ (w : Slot). w.marked) k ∙ slot-marked (saying x) i b ∙ f
 
-      pub first-stored : came ≡ false → received (record_of x.state) i b ≡ false → (given_of z.state s z.image).fate ≡ fate.Stored
+      pub first-stored : came ≡ false → received (record_of x.state) i b ≡ false → (given_of z.state s z.image).fate ≡ Ok (kind.Carousel answer.Stored)
       first-stored e f =
           let w = subst Clear says (matches-now, not-received e f) in
           (kind-stored z.state s z.image).1 ((stored-accepted z.state s z.image).1 (stays.ruled, good, (i, w.0, w.1)))
@@ -153,7 +155,7 @@ module _ (id : ℕ) (a : Announced) (ok : Playable a) (image : List ℕ) (holds 
             let l = data-long a ok image holds i b u v ∙ ap (λ (c : Announced). block_length c i b) (sym still-told) in
             ap (λ (k : ℕ). take k (drop (block_at (record_of z.state) i b) z.image)) l ∙ ap (λ (w : Slot). w.bytes) view-there
 
-        pub later_repeated : (given_of z.state s z.image).fate ≡ fate.Repeated
+        pub later_repeated : (given_of z.state s z.image).fate ≡ Ok (kind.Carousel answer.Repeated)
         later_repeated =
             let m = sym (slot-marked (saying z) i b) ∙ ap (λ (w : Slot). w.marked) view-there in
             let w = subst Marked says (matches-now, m, bytes-there) in
@@ -163,13 +165,13 @@ module _ (id : ℕ) (a : Announced) (ok : Playable a) (image : List ℕ) (holds 
       held-came : Holds ss s → came ≡ true
       held-came h = holds-some (λ s. heard_matches a n i b (heard_of s)) ss s h (matches_it id a ok image holds n fits i b u v)
 
-      pub block-again : HasShores a image x i → (received (record_of x.state) i b ≡ true) ⊎ Holds ss s → (given_of z.state s z.image).fate ≡ fate.Repeated
+      pub block-again : HasShores a image x i → (received (record_of x.state) i b ≡ true) ⊎ Holds ss s → (given_of z.state s z.image).fate ≡ Ok (kind.Carousel answer.Repeated)
       block-again had h = later_repeated had (elim h [ inl e ↦ inl e | inr m ↦ inr (held-came m) ])
 
-      pub block-first : (Holds ss s → ⊥) → received (record_of x.state) i b ≡ false → (given_of z.state s z.image).fate ≡ fate.Stored
+      pub block-first : (Holds ss s → ⊥) → received (record_of x.state) i b ≡ false → (given_of z.state s z.image).fate ≡ Ok (kind.Carousel answer.Stored)
       block-first h c = go came refl
         where
-          go : (t : Bool) → came ≡ t → (given_of z.state s z.image).fate ≡ fate.Stored
+          go : (t : Bool) → came ≡ t → (given_of z.state s z.image).fate ≡ Ok (kind.Carousel answer.Stored)
           go true e =
               let f = some_holds (λ s. heard_matches a n i b (heard_of s)) ss e in
               let k = matched-is id a ok image holds n fits i b u f.0 (own f.0 f.1) f.2 in
@@ -178,15 +180,15 @@ module _ (id : ℕ) (a : Announced) (ok : Playable a) (image : List ℕ) (holds 
 
   -- THEOREM 2, the answers: "one rotation is taken without refusal", and every block is stored, where the announcement kept none
   abbrev stored : List (List ℕ) → List Fate
-  stored ss = replicate (length ss) fate.Stored
+  stored ss = replicate (length ss) (Ok (kind.Carousel answer.Stored))
 
   fates_snoc : (w : Held) (ss : List (List ℕ)) (s : List ℕ) → fates w (ss ++ (s ∷ [])) ≡ fates w ss ++ ((given_of (walk w ss).state s (walk w ss).image).fate ∷ [])
   unfolding fates walk
   fates_snoc w [] s = refl
   fates_snoc w (r ∷ ss) s = ap (λ (l : List Fate). (given_of w.state r w.image).fate ∷ l) (fates_snoc (given w r) ss s)
 
-  stored_snoc : (ss : List (List ℕ)) (s : List ℕ) → stored ss ++ (fate.Stored ∷ []) ≡ stored (ss ++ (s ∷ []))
-  stored_snoc ss s = replicate-append-replicate (length ss) 1 fate.Stored ∙ ap (λ (k : ℕ). replicate k fate.Stored) (sym (length-append ss (s ∷ [])))
+  stored_snoc : (ss : List (List ℕ)) (s : List ℕ) → stored ss ++ ((Ok (kind.Carousel answer.Stored)) ∷ []) ≡ stored (ss ++ (s ∷ []))
+  stored_snoc ss s = replicate-append-replicate (length ss) 1 (Ok (kind.Carousel answer.Stored)) ∙ ap (λ (k : ℕ). replicate k (Ok (kind.Carousel answer.Stored))) (sym (length-append ss (s ∷ [])))
 
   abbrev pub NoneHad : Type 0
   NoneHad = (i b : ℕ) → i < length a.modules → b < block_count a i → received (record_of x.state) i b ≡ false
@@ -240,6 +242,6 @@ module _ (id : ℕ) (a : Announced) (ok : Playable a) (image : List ℕ) (holds 
   all-stored none zero l = refl
   all-stored none (suc k) l = module-stored k (omega arith) none (all-stored none k (omega arith)) (block_count a k) (omega arith)
 
-  pub rotation-fates : NoneHad → fates y (rotation id a image) ≡ fate.New ∷ replicate (length (block_sections a image)) fate.Stored
+  pub rotation-fates : NoneHad → fates y (rotation id a image) ≡ (Ok (kind.Carousel answer.New)) ∷ replicate (length (block_sections a image)) (Ok (kind.Carousel answer.Stored))
   unfolding fates
   rotation-fates none = ap₂ (λ (f : Fate) (fs : List Fate). f ∷ fs) (announcement-new id a ok image holds y ruled other room) (all-stored none (length a.modules) (omega arith))

@@ -1,6 +1,6 @@
 -- §2. "DEMAND 3 THEN SPEAKS OF THE SECTIONS HANDED ON": the record and the image after calls over packets are those of the sections that the
 -- packets handed on, given to the receiver one after another; so each part of demand 3 is one of these sections.
-use Prim.Native.Nat.{ℕ, ◌+◌, ◌≤◌, ◌<◌}
+use Prim.Native.Nat.{ℕ, ◌≤◌, ◌<◌}
 use mathlib.Core.Path.{◌≡◌, refl, sym, ap, ap₂, subst, ◌∙◌}
 use mathlib.Core.Logic.{◌↔◌}
 use mathlib.Core.Bool.{Bool, true, false, cond, ◌||◌}

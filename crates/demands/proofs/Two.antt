@@ -19,9 +19,9 @@ use mathlib.Core.List.{List}
 use native.Mathlib.Omega.{arith}
 use lib.ListN.{length, take, drop}
 use Rattle.wire.proofs.Laws.Order.{First, None, first-exactly, none-exactly}
+use Rattle.section.specs.declared.Refusal.{Refusal}
 use Rattle.section.specs.Header.{header_of}
 use Rattle.ait_read.specs.declared.Table.{Table}
-use Rattle.ait_read.specs.declared.ReadAnswer.TheVariants as reading
 use Rattle.ait_read.specs.Acceptance.{application_tests}
 use Rattle.ait_read.specs.Answers.{read_answer, read_table, number_of_read, read_number}
 use Rattle.ait_read.proofs.Laws.Exact.{rising, read-exactly}
@@ -31,16 +31,17 @@ use Rattle.ait_grammar.specs.Good.{GoodTable}
 use Rattle.ait_grammar.proofs.Exact.{good-exactly}
 use Rattle.carousel_messages.specs.Good.{GoodAnnouncement, GoodBlock, said_announcement, said_block}
 use Rattle.carousel_record.specs.declared.Carousel.{Carousel}
-use Rattle.carousel_step.specs.declared.Answer.TheVariants as answer
 use Rattle.carousel_record.specs.Record.{record_of, announced_by, received, block_at, ruled_of}
 use Rattle.carousel_step.specs.Step.{number_of_answer, step_tests, stepped_of}
 use Rattle.carousel_step.specs.Matching.{Matching}
 use Rattle.carousel_step.proofs.Exact.{step-exactly, step-taken}
 use Rattle.carousel_record.proofs.Laws.Tests.{rising_numbered}
-use Rattle.receiver.specs.declared.Fate.TheVariants as fate
 use Rattle.receiver.specs.Run.{carousel_fate, given_of, given_number}
 use Rattle.receiver.specs.Run.{number_of_fate}
 use Rattle.receiver.proofs.Laws.Takes.{given-number}
+use Rattle.std.proofs.Common.{Result, Ok}
+use Rattle.carousel_step.specs.declared.Answer.TheVariants as answer
+use Rattle.receiver.specs.declared.Kind.TheVariants as kind
 use Rattle.demands.proofs.Accepted.{
   read-good,
   new-says,
@@ -60,14 +61,14 @@ use Rattle.demands.proofs.Accepted.{
 -- AN APPLICATION SECTION
 module _ (s : List ℕ) where
   -- accepted exactly when well formed, and then with the header's fields and the counts of its loops
-  pub table-accepted : Bytes s → (t : Table) → (read_answer s ≡ reading.Accepted t) ↔ (GoodTable s × (read_table (header_of s) s ≡ t))
+  pub table-accepted : Bytes s → (t : Table) → (read_answer s ≡ Ok t) ↔ (GoodTable s × (read_table (header_of s) s ≡ t))
   table-accepted y t =
       let same-said = good-exactly s y in (
         λ e. let g = read-good s t e in (same-said.0 g, same (sym (read-exactly s g) ∙ e)),
-        λ w. read-exactly s (same-said.1 w.0) ∙ ap reading.Accepted w.1,
+        λ w. read-exactly s (same-said.1 w.0) ∙ ap Ok w.1,
       )
     where
-      same : reading.Accepted (read_table (header_of s) s) ≡ reading.Accepted t → read_table (header_of s) s ≡ t
+      same : ◌≡◌ {A = Result Table Refusal} (Ok (read_table (header_of s) s)) (Ok t) → read_table (header_of s) s ≡ t
       same e = cc
 
   pub table-number : (n : ℕ) → 0 < n → (number_of_read (read_answer s) ≡ n) ↔ First n (application_tests s)
@@ -81,10 +82,10 @@ module _ (s : List ℕ) where
 -- ANNOUNCEMENTS AND BLOCKS: one section, for any record and any image
 module _ (c : Carousel) (s image : List ℕ) where
   -- "new" exactly to a well-formed announcement that is not the record's own, "same" exactly to one that is
-  pub new-accepted : ((stepped_of c s image).answer ≡ answer.New) ↔ ((ruled_of c ≡ true) × GoodAnnouncement s × (announced_by c ≡ said_announcement s → ⊥))
+  pub new-accepted : ((stepped_of c s image).answer ≡ Ok answer.New) ↔ ((ruled_of c ≡ true) × GoodAnnouncement s × (announced_by c ≡ said_announcement s → ⊥))
   new-accepted = (new-says c s image, λ w. is-new_announcement c s image w.0 w.1 w.2)
 
-  pub same-accepted : ((stepped_of c s image).answer ≡ answer.Same) ↔ ((ruled_of c ≡ true) × GoodAnnouncement s × (announced_by c ≡ said_announcement s))
+  pub same-accepted : ((stepped_of c s image).answer ≡ Ok answer.Same) ↔ ((ruled_of c ≡ true) × GoodAnnouncement s × (announced_by c ≡ said_announcement s))
   same-accepted = (same-says c s image, λ w. is-same_announcement c s image w.0 w.1 w.2)
 
   -- what a block says matches block b of the module at place i of the record's announcement
@@ -92,11 +93,11 @@ module _ (c : Carousel) (s image : List ℕ) where
   MatchesAt i = (i < length (announced_by c).modules) × Matching (announced_by c) (length image) i (said_block s).block (said_block s)
 
   -- "stored" exactly to a well-formed block that matches one that has not come, "repeated" exactly to one that matches one that has, with equal bytes
-  pub stored-accepted : ((stepped_of c s image).answer ≡ answer.Stored)
+  pub stored-accepted : ((stepped_of c s image).answer ≡ Ok answer.Stored)
       ↔ ((ruled_of c ≡ true) × GoodBlock s × ((i : ℕ) × MatchesAt i × (received (record_of c) i (said_block s).block ≡ false)))
   stored-accepted = (stored-says c s image, λ w. is-stored c s image w.0 w.1 w.2.0 w.2.1 w.2.2)
 
-  pub repeated-accepted : ((stepped_of c s image).answer ≡ answer.Repeated)
+  pub repeated-accepted : ((stepped_of c s image).answer ≡ Ok answer.Repeated)
       ↔ ((ruled_of c ≡ true) × GoodBlock s × ((i : ℕ) × MatchesAt i × (received (record_of c) i (said_block s).block ≡ true)
       × (take (length (said_block s).bytes) (drop (block_at (record_of c) i (said_block s).block) image) ≡ (said_block s).bytes)))
   repeated-accepted = (repeated-says c s image, λ w. is_repeated_lem c s image w.0 w.1 w.2.0 w.2.1 w.2.2 w.2.3)
@@ -113,21 +114,21 @@ module _ (c : Carousel) (s image : List ℕ) where
   take-number = given-number c s image
 
   -- THE RECEIVER'S KINDS are these answers': a section is a "table", "new", "same", "stored" or "repeated" exactly where it is accepted as such
-  pub kind-table : Bytes s → ((given_of c s image).fate ≡ fate.Table) ↔ GoodTable s
+  pub kind-table : Bytes s → ((given_of c s image).fate ≡ Ok kind.Table) ↔ GoodTable s
   kind-table y = let same-said = good-exactly s y in (λ e. same-said.0 (table-good c s image e), λ g. good-table c s image (same-said.1 g))
 
-  pub kind-new : ((given_of c s image).fate ≡ fate.New) ↔ ((stepped_of c s image).answer ≡ answer.New)
+  pub kind-new : ((given_of c s image).fate ≡ Ok (kind.Carousel answer.New)) ↔ ((stepped_of c s image).answer ≡ Ok answer.New)
   unfolding carousel_fate
-  kind-new = (kind-answer c s image answer.New refl, λ e. answer_kind c s image answer.New (λ z. omega (arith, (new-says c s image e).1.table)) e)
+  kind-new = (kind-answer c s image (Ok answer.New) refl, λ e. answer_kind c s image (Ok answer.New) (λ z. omega (arith, (new-says c s image e).1.table)) e)
 
-  pub kind-same : ((given_of c s image).fate ≡ fate.Same) ↔ ((stepped_of c s image).answer ≡ answer.Same)
+  pub kind-same : ((given_of c s image).fate ≡ Ok (kind.Carousel answer.Same)) ↔ ((stepped_of c s image).answer ≡ Ok answer.Same)
   unfolding carousel_fate
-  kind-same = (kind-answer c s image answer.Same refl, λ e. answer_kind c s image answer.Same (λ z. omega (arith, (same-says c s image e).1.table)) e)
+  kind-same = (kind-answer c s image (Ok answer.Same) refl, λ e. answer_kind c s image (Ok answer.Same) (λ z. omega (arith, (same-says c s image e).1.table)) e)
 
-  pub kind-stored : ((given_of c s image).fate ≡ fate.Stored) ↔ ((stepped_of c s image).answer ≡ answer.Stored)
+  pub kind-stored : ((given_of c s image).fate ≡ Ok (kind.Carousel answer.Stored)) ↔ ((stepped_of c s image).answer ≡ Ok answer.Stored)
   unfolding carousel_fate
-  kind-stored = (kind-answer c s image answer.Stored refl, λ e. answer_kind c s image answer.Stored (λ z. omega (arith, (stored-says c s image e).1.formed.table)) e)
+  kind-stored = (kind-answer c s image (Ok answer.Stored) refl, λ e. answer_kind c s image (Ok answer.Stored) (λ z. omega (arith, (stored-says c s image e).1.formed.table)) e)
 
-  pub kind_repeated : ((given_of c s image).fate ≡ fate.Repeated) ↔ ((stepped_of c s image).answer ≡ answer.Repeated)
+  pub kind_repeated : ((given_of c s image).fate ≡ Ok (kind.Carousel answer.Repeated)) ↔ ((stepped_of c s image).answer ≡ Ok answer.Repeated)
   unfolding carousel_fate
-  kind_repeated = (kind-answer c s image answer.Repeated refl, λ e. answer_kind c s image answer.Repeated (λ z. omega (arith, (repeated-says c s image e).1.formed.table)) e)
+  kind_repeated = (kind-answer c s image (Ok answer.Repeated) refl, λ e. answer_kind c s image (Ok answer.Repeated) (λ z. omega (arith, (repeated-says c s image e).1.formed.table)) e)

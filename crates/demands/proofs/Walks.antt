@@ -16,18 +16,18 @@ use Rattle.carousel_record.specs.Changes.{afresh}
 use Rattle.carousel_record.proofs.Laws.Places.{few-modules}
 use Rattle.carousel_record.proofs.Laws.Rule.{Kept, kept, ruled-says}
 use Rattle.carousel_record.proofs.Laws.Keeping.{same_means, same_back, fresh_kept}
-use Rattle.carousel_step.specs.declared.Answer.{Answer}
 use Rattle.carousel_step.specs.Step.{same_announced, StepOutcome, new, on_announced, on_heard}
 use Rattle.carousel_step.specs.Matching.{heard_for, heard_matches}
 use Rattle.carousel_step.proofs.Views.{Held as Said, Slot, slot, hit, after, is_new as madeNew}
 use Rattle.carousel_step.proofs.View.{Fixed, hit-marked, hit_hit, fixed, view_law}
 use Rattle.carousel_step.proofs.Renewed.{afresh-told, same_by, kept-blocks, kept_slot}
-use Rattle.receiver.specs.declared.Fate.{Fate}
 use Rattle.receiver.specs.Run.{carousel_fate, Held, given, walk}
 use Rattle.receiver.proofs.Runs.{given_rule}
 use Rattle.demands.specs.Demand.{fate_of, is_new, told, modules, place_now, Announces, blocks, is_for, matches, section_data, same_in, keeps_one, keeps_all, Keeps, trace, answers_for, first_data}
 use Rattle.demands.proofs.Given.{saying, came, given-says, for-came, new-says, renewal}
 use Rattle.demands.proofs.Alike.{Alike, for_old, for-answer, both-alike, left-alike}
+use Rattle.carousel_step.specs.Step.{Answered as Answer}
+use Rattle.receiver.specs.Run.{Fate}
 
 -- the rule, taken apart, of a record with modules; and one call keeps it
 pub kept_in : (x : Held) → ruled_of x.state ≡ true → 0 < modules x → Kept (record_of x.state)

@@ -24,11 +24,9 @@ use Rattle.carousel_record.specs.Changes.{empty_record, unmarked}
 use Rattle.carousel_handout.proofs.Complete.{handout-empty}
 use Rattle.carousel_step.proofs.Simulation.{empty-ruled}
 use Rattle.carousel_play.specs.Rotation.{rotation, Playable, Holding}
-use Rattle.receiver.specs.declared.Fate.TheVariants as fate
 use Rattle.receiver.specs.Run.{Held, walk}
 use Rattle.transport.specs.Grouped.{all_given}
 use Rattle.drift_list.specs.declared.Fix.{Fix}
-use Rattle.drift_list.specs.declared.FixAnswer.TheVariants as answer
 use Rattle.drift_list.specs.Answers.{fix_answer}
 use Rattle.drift_list.proofs.Answers.{found-not-refused, nothing_read}
 use Rattle.demands.specs.Demand.{fate_of, Announces, is_complete, handout_of, handed_of, keeps_all, Keeps, Call, called, took_by}
@@ -44,6 +42,9 @@ use Rattle.demands.proofs.Played.{no-new}
 use Rattle.demands.proofs.Player.{own-one, one-rotation, rotation-told}
 use Rattle.demands.proofs.Completed.{ends-complete, any_box}
 use Rattle.demands.proofs.Lasting.{number_unfinished, ruled-stays, same_whole, handed-again, not-kept, never_both, undone_unfinished, walk-long, unfinished-number, new-keeps-exactly}
+use Rattle.std.proofs.Common.{Ok}
+use Rattle.receiver.specs.declared.Kind.TheVariants as kind
+use Rattle.carousel_step.specs.declared.Answer.TheVariants as answer
 
 -- THE THEOREM. "While no announcement empties or drops a module, more sections never unmark a block, never change a stored byte, and never turn "complete" into refusal 20; the missing
 -- number never rises." Of any record: one that breaks its rule is left as it is by every call.
@@ -74,7 +75,7 @@ module _ (x : Held) (k : ℕ) (handed : handout_of x k ≡ 0) where
   hands_out-again_of-packets pid s ks l n = subst (HandsOutAgain x k) (sym (packets-walk_any pid ks x s l)) (hands_out-again (all_given pid s (gathers ks)) n)
 
 -- A POSITION THAT IS DRAWN LATER IS THE POSITION THAT WAS DRAWN FIRST: where the box answers 15 it hands out nothing, and nothing is read (30)
-pub position-again : (x y : Held) (k : ℕ) → HandsOutAgain x k y → (n : ℕ) (f : Fix) → fix_answer (handed_of y k) n ≡ answer.Found f → fix_answer (handed_of x k) n ≡ answer.Found f
+pub position-again : (x y : Held) (k : ℕ) → HandsOutAgain x k y → (n : ℕ) (f : Fix) → fix_answer (handed_of y k) n ≡ Ok f → fix_answer (handed_of x k) n ≡ Ok f
 position-again x y k w n f e = elim w.or15 [
   | inl z ↦ sym ((w.equal z).2.each n) ∙ e
   | inr z ↦
@@ -130,7 +131,7 @@ module _ (x : Held) (k : ℕ) (u : Announces x k) (whole : is_complete x k ≡ t
 
 -- WHICH ANNOUNCEMENTS THESE ARE: a section that answers "new" keeps the module exactly where downloadId, blockSize, number, version, size and start, as it says them, are those of the
 -- record. (Which sections answer "new": Two.antt, `new-accepted`, `kind-new`.)
-pub announcement-decides : (x : Held) (k : ℕ) (s : List ℕ) → fate_of x s ≡ fate.New → Keeps x k (s ∷ []) ↔ SameModule (record_of x.state) (unmarked (said_announcement s)) k
+pub announcement-decides : (x : Held) (k : ℕ) (s : List ℕ) → fate_of x s ≡ Ok (kind.Carousel answer.New) → Keeps x k (s ∷ []) ↔ SameModule (record_of x.state) (unmarked (said_announcement s)) k
 announcement-decides = new-keeps-exactly
 
 -- NOT VACUOUS: "for every announcement within the limits and an image long enough there is a run that completes every module (the player of §13 gives it)". From the empty record it is

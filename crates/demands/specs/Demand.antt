@@ -3,7 +3,7 @@
 -- One record and one image, carried from call to call: `Held`, `given` and `walk` (Run). A run is any list of sections: tables, refused ones, other modules', announcements.
 -- A module is meant by its number k, for a new announcement that keeps it may move it; its place i is looked up at each call. Block numbers are b.
 -- "For" and "matching" are the carousel's (carousel_step `Matching`), and so demand 2's; they are read at the call, by the record and image that it was lent.
-use Rattle.std.specs.Prelude.{ℕ, zero, suc, ◌≤◌, ◌<◌, ◌≡◌, Bool, true, false, cond, ◌&&◌, ◌||◌, List, [], ◌∷◌, ◌++◌, eqb, length, take}
+use Rattle.std.specs.Prelude.{Ok, Err, ℕ, zero, suc, ◌≤◌, ◌<◌, ◌≡◌, Bool, true, false, cond, ◌&&◌, ◌||◌, List, [], ◌∷◌, ◌++◌, eqb, length, take}
 use Rattle.section.specs.Whole.{whole_at}
 use Rattle.carousel_messages.specs.Heard.{Announced, Arrived, arrived, heard_of}
 use Rattle.carousel_record.specs.Record.{record_of, announced_by, module_at, place_of, bytes_of, block_count, block_length, module_part, missing_of, complete_of}
@@ -11,9 +11,10 @@ use Rattle.carousel_record.specs.Keeping.{same_module}
 use Rattle.carousel_handout.specs.Calls.{handout_number, handed_out}
 use Rattle.carousel_step.specs.Step.{stepped_of, image_of}
 use Rattle.carousel_step.specs.Matching.{heard_for, heard_matches, heard_bytes}
-use Rattle.receiver.specs.declared.Fate.{Fate}
-use Rattle.receiver.specs.declared.Fate.TheVariants as fate
 use Rattle.receiver.specs.Run.{Held, given, given_of, walk, sections_of, ran_of, image_ran, took_of, image_took}
+use Rattle.receiver.specs.Run.{Fate}
+use Rattle.receiver.specs.declared.Kind.TheVariants as kind
+use Rattle.carousel_step.specs.declared.Answer.TheVariants as answer
 
 -- what became of a section; and of each section of a run, in order
 abbrev pub fate_of : Held → List ℕ → Fate
@@ -24,12 +25,12 @@ fates x [] = []
 fates x (s ∷ ss) = fate_of x s ∷ fates (given x s) ss
 
 abbrev pub is_new : Fate → Bool
-is_new fate.New = true
-is_new fate.Table = false
-is_new fate.Same = false
-is_new fate.Stored = false
-is_new fate.Repeated = false
-is_new (fate.Refused r) = false
+is_new (Ok (kind.Carousel answer.New)) = true
+is_new (Ok kind.Table) = false
+is_new (Ok (kind.Carousel answer.Same)) = false
+is_new (Ok (kind.Carousel answer.Stored)) = false
+is_new (Ok (kind.Carousel answer.Repeated)) = false
+is_new (Err r) = false
 
 -- what was announced, and the number of its modules
 abbrev pub told : Held → Announced
@@ -108,7 +109,7 @@ same_in x y k = same_module (record_of x.state) (record_of y.state) k
 pub record Emptied (x : Held) (k : ℕ) : Type 0 where
   pub before : Held
   pub section : List ℕ
-  pub new : fate_of before section ≡ fate.New
+  pub new : fate_of before section ≡ Ok (kind.Carousel answer.New)
   pub left : given before section ≡ x
   pub announces : Announces x k
   pub other : same_in before x k ≡ false

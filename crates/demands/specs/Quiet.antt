@@ -2,9 +2,9 @@
 use Rattle.std.specs.Prelude.{ℕ, ◌≡◌, Bool, true, false, cond}
 use mathlib.Core.List.{List, [], ◌∷◌, Memᴰ}
 use Rattle.carousel_record.specs.Record.{module_at}
-use Rattle.receiver.specs.declared.Fate.{Fate}
 use Rattle.receiver.specs.Run.{Held}
 use Rattle.demands.specs.Demand.{fates, is_new, told, Emptied, is_for_at, matches_at, section_data}
+use Rattle.receiver.specs.Run.{Fate}
 
 unfoldable pub none_new : List Fate → Bool
 none_new [] = true

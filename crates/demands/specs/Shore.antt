@@ -1,11 +1,9 @@
 -- THE WORDS OF 02, §13, over the player's calls and the box's.
-use Rattle.std.specs.Prelude.{ℕ, zero, suc, ◌^◌, ◌<◌, ◌≡◌, true, List, [], ◌∷◌, ◌++◌, length, take, drop}
+use Rattle.std.specs.Prelude.{Result, Ok, Err, ℕ, zero, suc, ◌^◌, ◌<◌, ◌≡◌, true, List, [], ◌∷◌, ◌++◌, length, take, drop}
 use Rattle.carousel_messages.specs.Heard.{Announced}
 use Rattle.carousel_record.specs.Record.{record_of, module_at, block_count, block_length, block_at, received}
 use Rattle.carousel_handout.specs.Calls.{handout_number, handed_out}
 use Rattle.carousel_play.specs.declared.Playlist.{Playlist}
-use Rattle.carousel_play.specs.declared.Played.{Played}
-use Rattle.carousel_play.specs.declared.Played.TheVariants as played
 use Rattle.carousel_play.specs.Bytes.{shore_part, block_data}
 use Rattle.carousel_play.specs.Calls.{to_play, play_answer, played_bytes}
 use Rattle.receiver.specs.Run.{Held}
@@ -31,9 +29,9 @@ pub record Widths (p : Playlist) : Type 0 where
   pub version : (i : ℕ) → i < length (to_play p).modules → (module_at (to_play p) i).version < 2 ^ 8
 
 -- what one call of `write_section` put into the buffer that it was lent: as many bytes as it answers, none on a refusal
-abbrev pub size_told : Played → ℕ
-size_told (played.Size n) = n
-size_told (played.Refused r) = 0
+abbrev pub size_told : Result ℕ ℕ → ℕ
+size_told (Ok n) = n
+size_told (Err r) = 0
 
 unfoldable pub put_by : (identifier : ℕ) → Playlist → (image : List ℕ) → (k : ℕ) → (out : List ℕ) → List ℕ
 put_by id p image k out = take (size_told (play_answer id p image k (length out))) (played_bytes id p image k out)

@@ -1,20 +1,18 @@
 -- THE WORDS OF 02 §12: "Prove over any sequence of section calls: while no announcement empties or drops a module, more sections never unmark a block, never change a stored byte, and
 -- never turn "complete" into refusal 20; the missing number never rises. Premise: the same record and image, carried from call to call and written by nobody else."
 -- Carried from call to call: `walk` (Run), `called` (Demand). "While no announcement empties or drops a module": `Keeps` (Demand). A module is meant by its number k.
-use Rattle.std.specs.Prelude.{ℕ, ◌+◌, ◌≤◌, ◌<◌, ◌≡◌, Bool, true, false, ◌↔◌, ◌⊎◌, List, ◌++◌, length}
+use Rattle.std.specs.Prelude.{Ok, Some, None, ℕ, ◌+◌, ◌≤◌, ◌<◌, ◌≡◌, Bool, true, false, ◌↔◌, ◌⊎◌, List, ◌++◌, length}
 use Rattle.wire.specs.Fields.{byte_at}
 use Rattle.carousel_messages.specs.Heard.{Announced}
 use Rattle.carousel_record.specs.Record.{record_of, module_at, bytes_of, block_length, block_at, received}
 use Rattle.carousel_record.specs.Keeping.{SameModule}
-use Rattle.carousel_handout.specs.declared.Handed.{Handed}
-use Rattle.carousel_handout.specs.declared.Report.{Report}
-use Rattle.carousel_handout.specs.declared.Report.TheVariants as report
 use Rattle.carousel_handout.specs.declared.Lack.{Lack}
-use Rattle.carousel_handout.specs.Calls.{handout_place, report_of}
-use Rattle.receiver.specs.declared.Fate.TheVariants as fate
+use Rattle.carousel_handout.specs.Calls.{Handed, handout_place, Report, report_of}
 use Rattle.receiver.specs.Run.{Held, given, walk}
 use Rattle.drift_list.specs.Answers.{list_answer, fix_answer, walk_answer}
 use Rattle.demands.specs.Demand.{fate_of, told, modules, place_now, Announces, blocks, missing_in, is_complete, handout_of, handed_of, Took}
+use Rattle.receiver.specs.declared.Kind.TheVariants as kind
+use Rattle.carousel_step.specs.declared.Answer.TheVariants as answer
 
 -- whether block b of module k is marked, and where in the image its place begins and ends
 abbrev pub is_marked_in : Held → (k b : ℕ) → Bool
@@ -49,9 +47,9 @@ pub record StaysWhole (x : Held) (k : ℕ) (y : Held) : Type 0 where
   pub never_unmarked : (b : ℕ) → b < blocks x k → is_marked_in x k b ≡ true → is_marked_in y k b ≡ true
   pub never_changed : (p : ℕ) → StoredAt x k p → StoredAt y k p × (byte_at y.image p ≡ byte_at x.image p)
   pub never_rises : missing_count y k ≤ missing_count x k
-  pub report_never_rises : (l : Lack) → report_in y k ≡ report.Lacking l → (m : Lack) × (report_in x k ≡ report.Lacking m) × (l.count ≤ m.count)
+  pub report_never_rises : (l : Lack) → report_in y k ≡ Ok (Some l) → (m : Lack) × (report_in x k ≡ Ok (Some m)) × (l.count ≤ m.count)
   pub stays_complete : is_complete x k ≡ true → is_complete y k ≡ true
-  pub report_stays_whole : report_in x k ≡ report.Whole → report_in y k ≡ report.Whole
+  pub report_stays_whole : report_in x k ≡ Ok None → report_in y k ≡ Ok None
   pub never13 : handout_of y k ≡ 13 → ⊥
   pub never20 : is_complete x k ≡ true → handout_of y k ≡ 20 → ⊥
 
@@ -92,7 +90,7 @@ pub record Undone (x : Held) (k : ℕ) (ss : List (List ℕ)) : Type 0 where
   pub before : List (List ℕ)
   pub section : List ℕ
   pub took : Took ss before section
-  pub new : fate_of (walk x before) section ≡ fate.New
+  pub new : fate_of (walk x before) section ≡ Ok (kind.Carousel answer.New)
   pub undone : Dropped (given (walk x before) section) k ⊎ EmptiedBy (walk x before) k section
 
 -- unfinished: it is not announced, or a block is missing; and as the box tells it: the hand-out answers 20 or 13

@@ -7,17 +7,31 @@ use mathlib.Core.List.{List, []}
 use native.Mathlib.Omega.{arith}
 use lib.Dec.{eqb, ltb}
 use lib.ListN.{length}
-use borrow.Author.Tests.{eq-eqb, ne_eqb, eqb-true, lt-ltb, le-ltb, ltb-true, ltb-false}
+use borrow.Author.Tests.{eq-eqb, ne_eqb, eqb-true, eqb-false, lt-ltb, le-ltb, ltb-true, ltb-false}
 use Rattle.drift_list.specs.declared.Fix.{Fix}
-use Rattle.drift_list.specs.declared.Reading.TheVariants as reading
-use Rattle.drift_list.specs.declared.FixAnswer.{FixAnswer}
-use Rattle.drift_list.specs.declared.FixAnswer.TheVariants as answer
+use Rattle.std.proofs.Common.{Result, Ok, Err}
+use Rattle.wire.specs.Outcomes.{answered}
+use Rattle.wire.proofs.Laws.Outcomes.{is_refused, refused_by_lem, not_refused}
 use Rattle.wire.specs.Tests.{first_met}
 use Rattle.drift_list.specs.Values.{fix_of, fix_tests, buoy_before, refusal_at}
-use Rattle.drift_list.specs.Reading.{fields_from, spare_from, issue_of, count_of, fix_at, read_refusal}
-use Rattle.drift_list.specs.Answers.{list_answer, fix_answer, walk_refusal, walk_answer}
+use Rattle.drift_list.specs.Reading.{fields_from, spare_from, count_of, fix_at, read_refusal}
+use Rattle.drift_list.specs.Answers.{heading_of, list_answer, fix_refusal, fix_answer, walk_refusal, walk_answer}
 use Rattle.drift_list.proofs.Exact.{refused_at, by_length, accepted-exactly, exact_answers, inexact_answers, fault-within}
 use Rattle.drift_list.proofs.Laws.Words.{part, part_record, part-spare}
+
+-- an answer by the number that decides it
+pub refused-with : {A : Type 0} (n m : ℕ) (a : A) → n ≡ m → (n ≡ 0 → ⊥) → Err n ≡ answered m a
+refused-with n m a e z = ap Err e ∙ sym (is_refused m a (λ f. z (e ∙ f)))
+
+pub taken-with : {A : Type 0} (m : ℕ) (a : A) → m ≡ 0 → Ok a ≡ answered m a
+taken-with m a z = ap (λ (n : ℕ). answered n a) (sym z)
+
+-- an answer that is passed on, and one that lets go on
+pub passed-on : {A B : Type 0} (n m : ℕ) (a : A) (b : B) → Err n ≡ answered m a → Err n ≡ answered m b
+passed-on n m a b e = let w = refused_by_lem n m a e in refused-with n m b w.0 (λ z. w.1 (sym w.0 ∙ z))
+
+pub let-on : {A B : Type 0} (m : ℕ) (a x : A) (b : B) → Ok x ≡ answered m a → Ok b ≡ answered m b
+let-on m a x b e = taken-with m b (not_refused m a x e)
 
 -- what is asked of record k in a part of the list
 pub asked : (s : List ℕ) (k last n : ℕ) → last ≡ buoy_before (fix_at s) k → n ≡ first_met (fix_tests last (fields_from (part s k) 0) (spare_from (part s k) 0)) → n ≡ refused_at s k
@@ -25,25 +39,25 @@ unfolding refusal_at
 asked s k last n b e = e ∙ (λ i. first_met (fix_tests (b i) (part_record s k i) (part-spare s k i)))
 
 module _ (s : List ℕ) (n : ℕ) (e : n ≡ read_refusal s) where
-  pub list-refused : (n ≡ 0 → ⊥) → reading.Refused n ≡ list_answer s
+  pub list-refused : (n ≡ 0 → ⊥) → Err n ≡ list_answer s
   unfolding list_answer
-  list-refused z = ap reading.Refused e ∙ sym (rw (ne_eqb (read_refusal s) 0 (λ f. z (e ∙ f))))
+  list-refused z = refused-with n (read_refusal s) _ e z
 
-  pub list-taken : n ≡ 0 → reading.Issue (issue_of s) (count_of s) ≡ list_answer s
+  pub list-taken : n ≡ 0 → Ok (heading_of s) ≡ list_answer s
   unfolding list_answer
-  list-taken z = sym (rw (eq-eqb (read_refusal s) 0 (sym e ∙ z)))
+  list-taken z = taken-with (read_refusal s) (heading_of s) (sym e ∙ z)
 
-  pub fix-refused : (k : ℕ) → (n ≡ 0 → ⊥) → answer.Refused n ≡ fix_answer s k
-  unfolding fix_answer
-  fix-refused k z = ap answer.Refused e ∙ sym (rw (ne_eqb (read_refusal s) 0 (λ f. z (e ∙ f))))
+  pub fix-refused : (k : ℕ) → (n ≡ 0 → ⊥) → Err n ≡ fix_answer s k
+  unfolding fix_answer fix_refusal
+  fix-refused k z = refused-with n (fix_refusal s k) _ (e ∙ sym (rw (ne_eqb (read_refusal s) 0 (λ f. z (e ∙ f))))) z
 
-  pub fix-past : (k : ℕ) → n ≡ 0 → count_of s ≤ k → answer.Refused 19 ≡ fix_answer s k
-  unfolding fix_answer
-  fix-past k z h = sym (rw (eq-eqb (read_refusal s) 0 (sym e ∙ z), le-ltb k (count_of s) h))
+  pub fix-past : (k : ℕ) → n ≡ 0 → count_of s ≤ k → Err 19 ≡ fix_answer s k
+  unfolding fix_answer fix_refusal
+  fix-past k z h = refused-with 19 (fix_refusal s k) _ (sym (rw (eq-eqb (read_refusal s) 0 (sym e ∙ z), le-ltb k (count_of s) h))) (λ x. omega (arith, x))
 
-  pub fix-there : (k : ℕ) → n ≡ 0 → k < count_of s → answer.Found (fix_of (fix_at s k)) ≡ fix_answer s k
-  unfolding fix_answer
-  fix-there k z h = sym (rw (eq-eqb (read_refusal s) 0 (sym e ∙ z), lt-ltb k (count_of s) h))
+  pub fix-there : (k : ℕ) → n ≡ 0 → k < count_of s → Ok (fix_of (fix_at s k)) ≡ fix_answer s k
+  unfolding fix_answer fix_refusal
+  fix-there k z h = taken-with (fix_refusal s k) _ (rw (eq-eqb (read_refusal s) 0 (sym e ∙ z), lt-ltb k (count_of s) h))
 
   -- a record of an accepted list lies in it
   pub place-within : (k : ℕ) → n ≡ 0 → k < count_of s → 4 + 12 * k ≤ length s
@@ -63,13 +77,13 @@ module _ (s : List ℕ) (k : ℕ) where
   unfolding walk_refusal
   walk-own e h = rw (eq-eqb (length s) (4 + 12 * count_of s) e, lt-ltb k (count_of s) h)
 
-  pub walk_refused : (n : ℕ) → n ≡ walk_refusal s k → (n ≡ 0 → ⊥) → answer.Refused n ≡ walk_answer s k
+  pub walk_refused : (n : ℕ) → n ≡ walk_refusal s k → (n ≡ 0 → ⊥) → Err n ≡ walk_answer s k
   unfolding walk_answer
-  walk_refused n e z = ap answer.Refused e ∙ sym (rw (ne_eqb (walk_refusal s k) 0 (λ f. z (e ∙ f))))
+  walk_refused n e z = refused-with n (walk_refusal s k) _ e z
 
-  pub walk-there : walk_refusal s k ≡ 0 → answer.Found (fix_of (fix_at s k)) ≡ walk_answer s k
+  pub walk-there : walk_refusal s k ≡ 0 → Ok (fix_of (fix_at s k)) ≡ walk_answer s k
   unfolding walk_answer
-  walk-there z = sym (rw (eq-eqb (walk_refusal s k) 0 z))
+  walk-there z = taken-with (walk_refusal s k) _ z
 
   -- what it hands out lies in the list
   pub walk-within : walk_refusal s k ≡ 0 → (length s ≡ 4 + 12 * count_of s) × (k < count_of s)
@@ -80,35 +94,25 @@ module _ (s : List ℕ) (k : ℕ) where
       go x false e = let r = walk-19 x (ltb-false k (count_of s) e) in absurd (omega (arith, r, z))
 
 -- an answer that is a record is no refusal, and no other record
-abbrev number : FixAnswer → ℕ
-number (answer.Refused n) = n
-number (answer.Found g) = 0
+pub found-not-refused : (f : Fix) (n : ℕ) → ◌≡◌ {A = Result Fix ℕ} (Ok f) (Err n) → ⊥
+found-not-refused f n e = cc
 
-abbrev is_found : FixAnswer → ℕ
-is_found (answer.Found f) = 1
-is_found (answer.Refused n) = 0
-
-abbrev fix_in : Fix → FixAnswer → Fix
-fix_in g (answer.Found f) = f
-fix_in g (answer.Refused n) = g
-
-pub found-not-refused : (f : Fix) (n : ℕ) → answer.Found f ≡ answer.Refused n → ⊥
-found-not-refused f n e = let z : ◌≡◌ {A = ℕ} 1 0 = ap is_found e in omega (arith, z)
-
-pub found-same : (f g : Fix) → answer.Found f ≡ answer.Found g → f ≡ g
-found-same f g e = ap (fix_in f) e
+pub found-same : (f g : Fix) → ◌≡◌ {A = Result Fix ℕ} (Ok f) (Ok g) → f ≡ g
+found-same f g e = cc
 
 -- a record that was found is one of an accepted list
-pub found-told : (s : List ℕ) (k : ℕ) (f : Fix) → fix_answer s k ≡ answer.Found f → (read_refusal s ≡ 0) × (k < count_of s) × (f ≡ fix_of (fix_at s k))
-unfolding fix_answer
-found-told s k f e = go (eqb (read_refusal s) 0) (ltb k (count_of s)) refl refl e
+pub found-told : (s : List ℕ) (k : ℕ) (f : Fix) → fix_answer s k ≡ Ok f → (read_refusal s ≡ 0) × (k < count_of s) × (f ≡ fix_of (fix_at s k))
+unfolding fix_answer fix_refusal
+found-told s k f e =
+    let z = not_refused (fix_refusal s k) _ f (sym e) in
+    let w = go (eqb (read_refusal s) 0) (ltb k (count_of s)) refl refl z in
+    (w.0, w.1, found-same f (fix_of (fix_at s k)) (sym e ∙ sym (fix-there s (read_refusal s) refl k w.0 w.1)))
   where
     go : (t u : Bool) → eqb (read_refusal s) 0 ≡ t → ltb k (count_of s) ≡ u
-        → cond t (cond u (answer.Found (fix_of (fix_at s k))) (answer.Refused 19)) (answer.Refused (read_refusal s)) ≡ answer.Found f
-        → (read_refusal s ≡ 0) × (k < count_of s) × (f ≡ fix_of (fix_at s k))
-    go true true t u e = (eqb-true (read_refusal s) 0 t, ltb-true k (count_of s) u, found-same f (fix_of (fix_at s k)) (sym e))
-    go true false t u e = absurd (found-not-refused f 19 (sym e))
-    go false u t v e = absurd (found-not-refused f (read_refusal s) (sym e))
+        → cond t (cond u 0 19) (read_refusal s) ≡ 0 → (read_refusal s ≡ 0) × (k < count_of s)
+    go true true t u e = (eqb-true (read_refusal s) 0 t, ltb-true k (count_of s) u)
+    go true false t u e = absurd (omega (arith, e))
+    go false u t v e = absurd (eqb-false (read_refusal s) 0 t e)
 
 -- 19 exactly past the last record of an accepted list
 not-19 : (s : List ℕ) → read_refusal s ≡ 19 → ⊥
@@ -116,18 +120,18 @@ not-19 s e = by_length s
     (λ x. let r = exact_answers s x in let w = (fault-within s (λ z. omega (arith, r, e, z))).0 in omega (arith, r, e, w))
     (λ n. let r = inexact_answers s n in omega (arith, r, e))
 
-pub past-exactly : (s : List ℕ) (k : ℕ) → (fix_answer s k ≡ answer.Refused 19) ↔ ((read_refusal s ≡ 0) × (count_of s ≤ k))
-unfolding fix_answer
-past-exactly s k = (λ e. there (eqb (read_refusal s) 0) (ltb k (count_of s)) refl refl e, λ w. sym (fix-past s (read_refusal s) refl k w.0 w.1))
+pub past-exactly : (s : List ℕ) (k : ℕ) → (fix_answer s k ≡ Err 19) ↔ ((read_refusal s ≡ 0) × (count_of s ≤ k))
+unfolding fix_answer fix_refusal
+past-exactly s k = (λ e. there (eqb (read_refusal s) 0) (ltb k (count_of s)) refl refl (refused_by_lem 19 (fix_refusal s k) _ (sym e)).0, λ w. sym (fix-past s (read_refusal s) refl k w.0 w.1))
   where
     there : (t u : Bool) → eqb (read_refusal s) 0 ≡ t → ltb k (count_of s) ≡ u
-        → cond t (cond u (answer.Found (fix_of (fix_at s k))) (answer.Refused 19)) (answer.Refused (read_refusal s)) ≡ answer.Refused 19 → (read_refusal s ≡ 0) × (count_of s ≤ k)
-    there true true t u e = let z : ◌≡◌ {A = ℕ} 0 19 = ap number e in absurd (omega (arith, z))
+        → 19 ≡ cond t (cond u 0 19) (read_refusal s) → (read_refusal s ≡ 0) × (count_of s ≤ k)
+    there true true t u e = absurd (omega (arith, e))
     there true false t u e = (eqb-true (read_refusal s) 0 t, ltb-false k (count_of s) u)
-    there false u t v e = absurd (not-19 s (ap number e))
+    there false u t v e = absurd (not-19 s (sym e))
 
 -- of no bytes nothing is read
-pub nothing_read : (list_answer [] ≡ reading.Refused 30) × ((k : ℕ) → (fix_answer [] k ≡ answer.Refused 30) × (walk_answer [] k ≡ answer.Refused 30))
+pub nothing_read : (list_answer [] ≡ Err 30) × ((k : ℕ) → (fix_answer [] k ≡ Err 30) × (walk_answer [] k ≡ Err 30))
 nothing_read =
     let short : length {A = ℕ} [] ≡ 4 + 12 * count_of [] → ⊥ = λ e. omega (arith, e) in
     let r = inexact_answers [] short in (

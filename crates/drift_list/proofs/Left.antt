@@ -11,13 +11,14 @@ use Rattle.wire.specs.Fields.{spelled}
 use Rattle.wire.proofs.Laws.Fields.{spelled_length}
 use Rattle.wire.proofs.Laws.Meaning.{append-nil}
 use Rattle.drift_list.specs.declared.Fields.{Fields}
-use Rattle.drift_list.specs.declared.Written.TheVariants as written
+use Rattle.std.proofs.Common.{Ok, Err}
 use Rattle.drift_list.specs.Reading.{FitsFix, fixes_from, spell_fix, spell_fixes, spell_list}
 use Rattle.drift_list.specs.Writing.{Draft, fix_given, value_of, GoodDraft, write_refusal, write_answer, written_bytes}
 use Rattle.wire.proofs.Laws.Spelled.{shift, spelled-join}
 use Rattle.drift_list.proofs.Laws.Lists.{spelled-fixes_length, fixes_length}
 use Rattle.drift_list.proofs.Laws.Puts.{sets_more}
 use Rattle.drift_list.proofs.Laws.Records.{good-fits}
+use Rattle.drift_list.proofs.Answers.{refused-with, taken-with}
 use Rattle.drift_list.proofs.Writer.{writes-exactly, buoy_in}
 
 -- one record more
@@ -109,13 +110,12 @@ module _ (d : Draft) (out : List ℕ) (e : write_refusal d (length out) ≡ 0) w
       ∙ ap₂ (λ (y : List ℕ) (j : ℕ). y ++ drop j out) all-begun v
       ∙ sym (rw (eq-eqb (write_refusal d (length out)) 0 e))
 
-  pub answer-is : written.Size (4 + 12 * d.count) ≡ write_answer d (length out)
+  pub answer-is : Ok (4 + 12 * d.count) ≡ write_answer d (length out)
   unfolding write_answer
-  answer-is = sym (rw (eq-eqb (write_refusal d (length out)) 0 e))
+  answer-is = taken-with (write_refusal d (length out)) _ e
 
 -- and where it is refused
-pub kept-is : (d : Draft) (out : List ℕ) (n : ℕ) → n ≡ write_refusal d (length out) → (n ≡ 0 → ⊥) → (written.Refused n ≡ write_answer d (length out)) × (out ≡ written_bytes d out)
+pub kept-is : (d : Draft) (out : List ℕ) (n : ℕ) → n ≡ write_refusal d (length out) → (n ≡ 0 → ⊥) → (Err n ≡ write_answer d (length out)) × (out ≡ written_bytes d out)
 unfolding write_answer written_bytes
 kept-is d out n e z =
-    let t = ne_eqb (write_refusal d (length out)) 0 (λ f. z (e ∙ f)) in
-    (ap written.Refused e ∙ sym (rw t), sym (rw t))
+    (refused-with n (write_refusal d (length out)) _ e z, sym (rw (ne_eqb (write_refusal d (length out)) 0 (λ f. z (e ∙ f)))))

@@ -7,12 +7,10 @@ use native.Mathlib.Omega.{arith}
 use lib.ListN.{length, take, drop}
 use Rattle.wire.specs.Bits.{AllBytes}
 use Rattle.drift_list.specs.declared.Fields.{Fields}
-use Rattle.drift_list.specs.declared.Reading.TheVariants as reading
-use Rattle.drift_list.specs.declared.FixAnswer.TheVariants as answer
-use Rattle.drift_list.specs.declared.Written.TheVariants as written
+use Rattle.std.proofs.Common.{Ok}
 use Rattle.drift_list.specs.Values.{Drift, fix_of, fix_among}
 use Rattle.drift_list.specs.Reading.{issue_of, count_of, fix_at, GoodList, read_refusal, fixes_from, read_list, spell_list}
-use Rattle.drift_list.specs.Answers.{list_answer, fix_answer}
+use Rattle.drift_list.specs.Answers.{heading_of, list_answer, fix_answer}
 use Rattle.drift_list.specs.Writing.{Draft, fix_given, value_of, write_refusal, write_answer, written_bytes, draft_of}
 use Rattle.drift_list.proofs.Laws.Lists.{fixes_length, fixes-at}
 use Rattle.drift_list.proofs.Exact.{accepted-exactly, read-write, read-good, out-bytes}
@@ -54,10 +52,13 @@ module _ (d : Draft) (out : List ℕ) (e : write_refusal d (length out) ≡ 0) w
       ap (fix_at s) (sym z) ∙ sym (fixes-at (count_of s) 0 (fix_at s) k (omega (arith, c, h)))
       ∙ ap (λ (fs : List Fields). fix_among fs k) fixes-again ∙ fixes-at d.count 0 (fix_given d.numbers) k h ∙ ap (fix_given d.numbers) z
 
-  pub written-then-read : (list_answer s ≡ reading.Issue d.issue d.count) × ((k : ℕ) → k < d.count → fix_answer s k ≡ answer.Found (fix_of (fix_given d.numbers k)))
+  headed : heading_of s ≡ record { issue = d.issue; count = d.count }
+  headed i = record { issue = issue-again i; count = count-again i }
+
+  pub written-then-read : (list_answer s ≡ Ok (record { issue = d.issue; count = d.count })) × ((k : ℕ) → k < d.count → fix_answer s k ≡ Ok (fix_of (fix_given d.numbers k)))
   written-then-read = (
-    sym (list-taken s (read_refusal s) refl accepted) ∙ ap₂ reading.Issue issue-again count-again,
-    λ k h. let c = count-again in sym (fix-there s (read_refusal s) refl k accepted (omega (arith, c, h))) ∙ ap (λ (f : Fields). answer.Found (fix_of f)) (fix-again k h),
+    sym (list-taken s (read_refusal s) refl accepted) ∙ ap Ok headed,
+    λ k h. let c = count-again in sym (fix-there s (read_refusal s) refl k accepted (omega (arith, c, h))) ∙ ap (λ (f : Fields). Ok (fix_of f)) (fix-again k h),
   )
 
 -- READING, THEN WRITING "gives back the bytes, with no side condition": what was read of an accepted list, given to the writer with room for it, leaves that list, and behind it what was there
@@ -78,10 +79,10 @@ module _ (s : List ℕ) (b : AllBytes s) (e : read_refusal s ≡ 0) where
   pub taken-again : (room : ℕ) → length s ≤ room → write_refusal d room ≡ 0
   taken-again room h = let l = long in (writes-exactly d room).1 (draft-good (read_list s) (read-good s good), omega (arith, l, h))
 
-  pub read-then-written : (out : List ℕ) → length s ≤ length out → (write_answer d (length out) ≡ written.Size (length s)) × (written_bytes d out ≡ s ++ drop (length s) out)
+  pub read-then-written : (out : List ℕ) → length s ≤ length out → (write_answer d (length out) ≡ Ok (length s)) × (written_bytes d out ≡ s ++ drop (length s) out)
   read-then-written out h =
       let t = taken-again (length out) h in (
-        sym (answer-is d out t) ∙ ap written.Size long,
+        sym (answer-is d out t) ∙ ap Ok long,
         written_is d out t
             ∙ ap₂ (λ (l : List ℕ) (n : ℕ). l ++ drop n out) (ap spell_list (values-again (read_list s) (read-good s good)) ∙ read-write s b good) long,
       )

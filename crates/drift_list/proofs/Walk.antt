@@ -1,15 +1,15 @@
 -- THE WALK AND THE LIST: on an accepted list the walk answers what `record_at` answers;
 -- and a walk from record 0 on judges as `read` does: its first refusal is the list's own, or 19 after the last record of an accepted list.
 use Prim.Native.Nat.{ℕ, ◌+◌, ◌*◌, ◌<◌, ◌≤◌}
-use mathlib.Core.Path.{◌≡◌, refl, sym, ap, ◌∙◌}
+use mathlib.Core.Path.{◌≡◌, refl, sym, ◌∙◌}
 use mathlib.Core.Bool.{Bool, true, false}
 use mathlib.Core.List.{List}
 use native.Mathlib.Omega.{arith}
-use lib.Dec.{eqb, ltb}
+use lib.Dec.{ltb}
 use lib.ListN.{length}
-use borrow.Author.Tests.{eqb-true, eqb-false, ltb-true, ltb-false}
-use Rattle.drift_list.specs.declared.FixAnswer.{FixAnswer}
-use Rattle.drift_list.specs.declared.FixAnswer.TheVariants as answer
+use borrow.Author.Tests.{ltb-true, ltb-false}
+use Rattle.std.proofs.Common.{Ok, Err}
+use Rattle.wire.proofs.Laws.Outcomes.{refused_by_lem}
 use Rattle.drift_list.specs.Values.{fix_of}
 use Rattle.drift_list.specs.Reading.{count_of, fix_at, read_refusal}
 use Rattle.drift_list.specs.Answers.{fix_answer, walk_refusal, walk_answer}
@@ -23,7 +23,7 @@ walk_none s k e h =
     let x = ((accepted-exactly s).0 e).exact in
     walk-own s k x h ∙ none_faulty (count_of s) (refused_at s) (sym (exact_answers s x) ∙ e) k h
 
-pub walk-found : (s : List ℕ) (k : ℕ) → read_refusal s ≡ 0 → k < count_of s → walk_answer s k ≡ answer.Found (fix_of (fix_at s k))
+pub walk-found : (s : List ℕ) (k : ℕ) → read_refusal s ≡ 0 → k < count_of s → walk_answer s k ≡ Ok (fix_of (fix_at s k))
 walk-found s k e h = sym (walk-there s k (walk_none s k e h))
 
 pub walk_agrees : (s : List ℕ) (k : ℕ) → read_refusal s ≡ 0 → walk_answer s k ≡ fix_answer s k
@@ -41,20 +41,12 @@ abbrev pub FoundBefore : List ℕ → ℕ → Type 0
 FoundBefore s k = (j : ℕ) → j < k → walk_refusal s j ≡ 0
 
 -- a refusal says so, and a record says that there was none
-pub refused-told : (s : List ℕ) (k n : ℕ) → walk_answer s k ≡ answer.Refused n → walk_refusal s k ≡ n
+pub refused-told : (s : List ℕ) (k n : ℕ) → walk_answer s k ≡ Err n → walk_refusal s k ≡ n
 unfolding walk_answer
-refused-told s k n e = go (eqb (walk_refusal s k) 0) refl
-  where
-    number : FixAnswer → ℕ
-    number (answer.Refused m) = m
-    number (answer.Found f) = 0
-
-    go : (t : Bool) → eqb (walk_refusal s k) 0 ≡ t → walk_refusal s k ≡ n
-    go true t = let z = eqb-true (walk_refusal s k) 0 t in z ∙ ap number (walk-there s k z ∙ e)
-    go false t = ap number (walk_refused s k (walk_refusal s k) refl (eqb-false (walk_refusal s k) 0 t) ∙ e)
+refused-told s k n e = sym (refused_by_lem n (walk_refusal s k) _ (sym e)).0
 
 -- 19 after records that were all found: the list is accepted, and these are all
-pub walk_ends : (s : List ℕ) (k : ℕ) → FoundBefore s k → walk_answer s k ≡ answer.Refused 19 → (read_refusal s ≡ 0) × (count_of s ≤ k)
+pub walk_ends : (s : List ℕ) (k : ℕ) → FoundBefore s k → walk_answer s k ≡ Err 19 → (read_refusal s ≡ 0) × (count_of s ≤ k)
 walk_ends s k f e =
     let w = refused-told s k 19 e in
     by_length s (λ x. there x w (ltb k (count_of s)) refl) (λ n. let r = walk-30 s k n in absurd (omega (arith, r, w)))
@@ -72,7 +64,7 @@ walk_ends s k f e =
         (exact_answers s x ∙ all_clean (count_of s) (refused_at s) (λ j l. sym (walk-own s j x l) ∙ f j (omega (arith, l, h))), h)
 
 -- any other refusal after records that were all found is the list's own
-pub walk_refuses : (s : List ℕ) (k n : ℕ) → FoundBefore s k → walk_answer s k ≡ answer.Refused n → (n ≡ 0 → ⊥) → (n ≡ 19 → ⊥) → read_refusal s ≡ n
+pub walk_refuses : (s : List ℕ) (k n : ℕ) → FoundBefore s k → walk_answer s k ≡ Err n → (n ≡ 0 → ⊥) → (n ≡ 19 → ⊥) → read_refusal s ≡ n
 walk_refuses s k n f e z m =
     let w = refused-told s k n e in
     by_length s (λ x. there x w (ltb k (count_of s)) refl) (λ o. inexact_answers s o ∙ sym (walk-30 s k o) ∙ w)

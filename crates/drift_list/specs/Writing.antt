@@ -1,9 +1,8 @@
 -- WHAT THE WRITER IS GIVEN, AND ITS REFUSALS. 02, §1: 36 "before all others", 37 "last".
-use Rattle.std.specs.Prelude.{ℕ, ◌+◌, ◌*◌, ◌%◌, ◌^◌, ◌<◌, ◌≡◌, Bool, true, not, cond, ◌||◌, List, [], ◌∷◌, ◌++◌, leb, ltb, eqb, length, get_or, drop, ℤ, pos, negsuc}
+use Rattle.std.specs.Prelude.{ℕ, ◌+◌, ◌*◌, ◌%◌, ◌^◌, ◌<◌, ◌≡◌, Bool, true, not, cond, ◌||◌, List, [], ◌∷◌, ◌++◌, Result, leb, ltb, eqb, length, get_or, drop, ℤ, pos, negsuc}
 use Rattle.std.specs.Int.Signed.{mag}
 use Rattle.drift_list.specs.declared.Fields.{Fields}
-use Rattle.drift_list.specs.declared.Written.{Written}
-use Rattle.drift_list.specs.declared.Written.TheVariants as written
+use Rattle.wire.specs.Outcomes.{answered}
 use Rattle.wire.specs.Tests.{Tests}
 use Rattle.wire.specs.Signed.{InBits}
 use Rattle.drift_list.specs.Values.{Drift, GoodFix, Rising, refusal_at, first_fault}
@@ -117,8 +116,8 @@ write_tests d room =
     ∷ []
 
 -- WHAT THE WRITER ANSWERS: the size, or the refusal
-unfoldable pub write_answer : Draft → (room : ℕ) → Written
-write_answer d room = cond (eqb (write_refusal d room) 0) (written.Size (4 + 12 * d.count)) (written.Refused (write_refusal d room))
+unfoldable pub write_answer : Draft → (room : ℕ) → Result ℕ ℕ
+write_answer d room = answered (write_refusal d room) (4 + 12 * d.count)
 
 -- AND WHAT IT LEAVES in the lent bytes: the list and, after it, what was there; "a refusal writes nothing"
 unfoldable pub written_bytes : Draft → (out : List ℕ) → List ℕ

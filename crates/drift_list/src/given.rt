@@ -1,93 +1,67 @@
-// What the writer is given: an issue, a count and numbers; and its refusals, 0 where there is none.
+// What the writer is given: an issue, a count and numbers; and its refusals.
 ghost use Rattle.std.specs.Prelude.{◌≡◌, ◌*◌, ◌<◌, length};
 ghost use Rattle.std.specs.Int.Signed.{mag};
+ghost use Rattle.wire.specs.Outcomes.{passed};
 ghost use Rattle.drift_list.specs.Values.{refusal_at, first_fault};
 ghost use Rattle.drift_list.specs.Writing.{cell, fix_in, fix_given, outside, wide_at, wide_refusal, write_refusal, draft};
 
 use crate::Fields;
-use crate::judge::fields_refusal;
+use crate::judge::judge_fields;
 
-// The refusal of what is to be written, 0 where there is none.
-pub fn write_refusal(issue: u32, count: u32, numbers: &[i32], room: usize) -> u8
-    ensures { result ≡ write_refusal (draft issue count numbers.now) room }
+// Judges what is to be written.
+pub fn judge_draft(issue: u32, count: u32, numbers: &[i32], room: usize) -> Result<(), u8>
+    ensures { result ≡ passed (write_refusal (draft issue count numbers.now) room) }
 {
-    if 65_536 <= issue {
-        return 36;
-    }
-    if 65_536 <= count {
-        return 36;
-    }
     let c = count as usize;
-    let five = 5 * c;
-    if numbers.len() != five {
-        return 36;
+    if 65_536 <= issue || 65_536 <= count || numbers.len() != 5 * c {
+        return Err(36);
     }
-    let w = widths_refusal(numbers, count);
-    if w != 0 {
-        return w;
-    }
-    let f = records_refusal(numbers, count);
-    if f != 0 {
-        return f;
-    }
+    judge_widths(numbers, count)?;
+    judge_records(numbers, count)?;
     let size = 4 + 12 * c;
     if room < size {
-        return 37;
+        return Err(37);
     }
-    0
+    Ok(())
 }
 
-fn widths_refusal(numbers: &[i32], count: u32) -> u8
+// Whether every number fits its field.
+fn judge_widths(numbers: &[i32], count: u32) -> Result<(), u8>
     requires { length numbers.now ≡ 5 * count }
-    ensures { result ≡ first_fault count 0 (wide_refusal numbers.now) }
+    ensures { result ≡ passed (first_fault count 0 (wide_refusal numbers.now)) }
 {
-    let c = count as usize;
-    let mut k: usize = 0;
-    while k < c {
-        let from = 5 * k;
-        if wide(&numbers[from..]) {
-            return 36;
+    for k in 0..count as usize {
+        if wide(&numbers[5 * k..]) {
+            return Err(36);
         }
-        k += 1;
     }
-    0
+    Ok(())
 }
 
-fn records_refusal(numbers: &[i32], count: u32) -> u8
+// Whether every record is good and its buoy above the one before.
+fn judge_records(numbers: &[i32], count: u32) -> Result<(), u8>
     requires { length numbers.now ≡ 5 * count }
-    ensures { result ≡ first_fault count 0 (refusal_at (fix_given numbers.now) (λ k. 0)) }
+    ensures { result ≡ passed (first_fault count 0 (refusal_at (fix_given numbers.now) (λ k. 0))) }
 {
-    let c = count as usize;
     let mut last: u32 = 0;
-    let mut k: usize = 0;
-    while k < c {
-        let from = 5 * k;
-        let f = fields_in(&numbers[from..]);
-        let n = fields_refusal(f, last, 0);
-        if n != 0 {
-            return n;
-        }
+    for k in 0..count as usize {
+        let f = fields_in(&numbers[5 * k..]);
+        judge_fields(f, last, 0)?;
         last = f.buoy;
-        k += 1;
     }
-    0
+    Ok(())
 }
 
 // The record that the five numbers say, as far as they fit its fields.
 pub fn fields_in(numbers: &[i32]) -> Fields
     ensures { result ≡ fix_in numbers.now 0 }
 {
-    let buoy = magnitude(cell_at(numbers, 0));
-    let state = (magnitude(cell_at(numbers, 1)) % 256) as u8;
-    let longitude = cell_at(numbers, 2);
-    let latitude = cell_at(numbers, 3);
-    let minute = (magnitude(cell_at(numbers, 4)) % 65_536) as u16;
     Fields {
-        buoy: buoy,
-        state: state,
-        longitude: longitude,
-        latitude: latitude,
-        minute: minute,
+        buoy: magnitude(cell_at(numbers, 0)),
+        state: (magnitude(cell_at(numbers, 1)) % 256) as u8,
+        longitude: cell_at(numbers, 2),
+        latitude: cell_at(numbers, 3),
+        minute: (magnitude(cell_at(numbers, 4)) % 65_536) as u16,
     }
 }
 
@@ -95,29 +69,18 @@ pub fn fields_in(numbers: &[i32]) -> Fields
 fn wide(numbers: &[i32]) -> bool
     ensures { result ≡ wide_at numbers.now 0 }
 {
-    if is_outside(cell_at(numbers, 0), 0x10_0000) {
-        return true;
-    }
-    if is_outside(cell_at(numbers, 1), 4) {
-        return true;
-    }
-    if 0x800_0000 <= magnitude(cell_at(numbers, 2)) {
-        return true;
-    }
-    if 0x400_0000 <= magnitude(cell_at(numbers, 3)) {
-        return true;
-    }
-    is_outside(cell_at(numbers, 4), 0x4000)
+    is_outside(cell_at(numbers, 0), 0x10_0000)
+        || is_outside(cell_at(numbers, 1), 4)
+        || 0x800_0000 <= magnitude(cell_at(numbers, 2))
+        || 0x400_0000 <= magnitude(cell_at(numbers, 3))
+        || is_outside(cell_at(numbers, 4), 0x4000)
 }
 
 // The number at a place, 0 past the end.
 fn cell_at(numbers: &[i32], at: usize) -> i32
     ensures { (result ≡ cell numbers.now at) × (mag result < 2147483648) }
 {
-    if numbers.len() <= at {
-        return 0;
-    }
-    numbers[at]
+    numbers.get(at).copied().unwrap_or(0)
 }
 
 // n for n, and n for -(n + 1).
@@ -134,8 +97,5 @@ fn magnitude(z: i32) -> u32
 fn is_outside(z: i32, top: u32) -> bool
     ensures { result ≡ outside top z }
 {
-    if z < 0 {
-        return true;
-    }
-    top <= z as u32
+    z < 0 || top <= z as u32
 }

@@ -1,5 +1,6 @@
-// The refusals of a record and of a list of them, 0 where there is none.
+// Whether a record, or a list of them, is accepted; else the number of its refusal.
 ghost use Rattle.std.specs.Prelude.{◌≡◌, ◌&&◌, ◌+◌, ◌*◌, ◌≤◌, length};
+ghost use Rattle.wire.specs.Outcomes.{passed};
 ghost use Rattle.wire.specs.Tests.{first_met};
 ghost use Rattle.wire.specs.Signed.{between, is_zero};
 ghost use Rattle.drift_list.specs.Values.{state_fault, fix_tests, buoy_before};
@@ -9,44 +10,36 @@ ghost use Rattle.drift_list.specs.Answers.{walk_refusal};
 use crate::Fields;
 use crate::unpack::{buoy_of, fields_of, spare_of};
 
-// Of a whole list.
-pub fn list_refusal(s: &[u8]) -> u8
-    ensures { result ≡ read_refusal s.now }
+// Judges a whole list.
+pub fn judge_list(s: &[u8]) -> Result<(), u8>
+    ensures { result ≡ passed (read_refusal s.now) }
 {
     let count = wire::sixteen_at(s, 2) as usize;
     let size = 4 + 12 * count;
     if s.len() != size {
-        return 30;
+        return Err(30);
     }
     let mut last: u32 = 0;
-    let mut k: usize = 0;
-    while k < count {
-        let at = 4 + 12 * k;
-        let part = &s[at..];
-        let n = record_refusal(part, last);
-        if n != 0 {
-            return n;
-        }
+    for k in 0..count {
+        let part = &s[4 + 12 * k..];
+        judge_record(part, last)?;
         last = buoy_of(part);
-        k += 1;
     }
-    0
+    Ok(())
 }
 
-// Of record k in a walk.
-pub fn walk_refusal(s: &[u8], k: usize) -> u8
-    ensures { result ≡ walk_refusal s.now k }
+// Judges record k in a walk.
+pub fn judge_walk(s: &[u8], k: usize) -> Result<(), u8>
+    ensures { result ≡ passed (walk_refusal s.now k) }
 {
     let count = wire::sixteen_at(s, 2) as usize;
     if s.len() != 4 + 12 * count {
-        return 30;
+        return Err(30);
     }
     if count <= k {
-        return 19;
+        return Err(19);
     }
-    let before = buoy_before(s, k);
-    let at = 4 + 12 * k;
-    record_refusal(&s[at..], before)
+    judge_record(&s[4 + 12 * k..], buoy_before(s, k))
 }
 
 // The buoy before record k, 0 before the first.
@@ -61,69 +54,59 @@ fn buoy_before(s: &[u8], k: usize) -> u32
     buoy_of(&s[at..])
 }
 
-// Of the record that a slice begins with.
-fn record_refusal(s: &[u8], before: u32) -> u8
-    ensures { result ≡ first_met (fix_tests before (fields_from s.now 0) (spare_from s.now 0)) }
+// Judges the record that a slice begins with.
+fn judge_record(s: &[u8], before: u32) -> Result<(), u8>
+    ensures { result ≡ passed (first_met (fix_tests before (fields_from s.now 0) (spare_from s.now 0))) }
 {
-    let f = fields_of(s);
-    let spare = spare_of(s);
-    fields_refusal(f, before, spare)
+    judge_fields(fields_of(s), before, spare_of(s))
 }
 
-// Of a record's values.
-pub fn fields_refusal(f: Fields, before: u32, spare: u8) -> u8
-    ensures { result ≡ first_met (fix_tests before f spare) }
+// Judges the values of a record.
+pub fn judge_fields(f: Fields, before: u32, spare: u8) -> Result<(), u8>
+    ensures { result ≡ passed (first_met (fix_tests before f spare)) }
 {
     let x = f.longitude;
     let y = f.latitude;
     if !within(x, -107_999_999, 108_000_000) {
-        return 31;
+        return Err(31);
     }
     if !within(y, -54_000_000, 54_000_000) {
-        return 31;
+        return Err(31);
     }
     if 10_080 <= f.minute {
-        return 32;
+        return Err(32);
     }
     if f.buoy <= before {
-        return 33;
+        return Err(33);
     }
     if 0 < spare {
-        return 34;
+        return Err(34);
     }
     if state_fault(f.state, at_zero(x, y)) {
-        return 35;
+        return Err(35);
     }
-    0
+    Ok(())
 }
 
 fn within(z: i32, lo: i32, hi: i32) -> bool
     ensures { result ≡ between lo hi z }
 {
-    if z < lo {
-        return false;
-    }
-    z <= hi
+    (lo..=hi).contains(&z)
 }
 
 fn at_zero(x: i32, y: i32) -> bool
     ensures { result ≡ (is_zero x && is_zero y) }
 {
-    if x != 0 {
-        return false;
-    }
-    y == 0
+    x == 0 && y == 0
 }
 
 // Whether a state does not go with coordinates that are both zero, or not.
 fn state_fault(state: u8, origin: bool) -> bool
     ensures { result ≡ state_fault state origin }
 {
-    if 3 <= state {
-        return true;
+    match state {
+        0 => !origin,
+        1 | 2 => origin,
+        _ => true,
     }
-    if state == 0 {
-        return !origin;
-    }
-    origin
 }

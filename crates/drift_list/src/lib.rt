@@ -15,8 +15,8 @@ ghost use Rattle.drift_list.specs.Values.{state_of, state_number, fix_of};
 ghost use Rattle.drift_list.specs.Answers.{list_answer, fix_answer, walk_answer};
 ghost use Rattle.drift_list.specs.Writing.{draft, write_answer, written_bytes};
 
-use given::{fields_in, write_refusal};
-use judge::{list_refusal, walk_refusal};
+use given::{fields_in, judge_draft};
+use judge::{judge_list, judge_walk};
 use pack::{put_fix, put_four};
 use unpack::fields_of;
 
@@ -49,93 +49,58 @@ pub struct Fields {
     pub minute: u16,
 }
 
-// What reading a list answers: the refusal's number, or its issue and how many records it has.
+// What a list begins with: its issue, and how many records it has.
 #[derive(Clone, Copy)]
-pub enum Reading {
-    Refused(u8),
-    Issue { issue: u16, count: u16 },
+pub struct Heading {
+    pub issue: u16,
+    pub count: u16,
 }
 
-// A record asked for by its place, from 0.
-#[derive(Clone, Copy)]
-pub enum FixAnswer {
-    Refused(u8),
-    Found(Fix),
-}
-
-// What writing a list answers: the refusal's number, and nothing is written; or the list's size.
-#[derive(Clone, Copy)]
-pub enum Written {
-    Refused(u8),
-    Size(usize),
-}
-
-// Judges a whole list.
-pub fn read(list: &[u8]) -> Reading
+// Judges a whole list: the refusal's number, or its heading.
+pub fn read(list: &[u8]) -> Result<Heading, u8>
     ensures { result ≡ list_answer list.now }
 {
-    let n = list_refusal(list);
-    if n != 0 {
-        return Reading::Refused(n);
-    }
+    judge_list(list)?;
     let issue = wire::sixteen_at(list, 0);
     let count = wire::sixteen_at(list, 2);
-    Reading::Issue {
-        issue: issue,
-        count: count,
-    }
+    Ok(Heading { issue, count })
 }
 
-// Record k of a list that is accepted; 19 past its last. It judges the whole list each time.
-pub fn record_at(list: &[u8], k: usize) -> FixAnswer
+// Record k, from 0, of a list that is accepted; 19 past its last. It judges the whole list each time.
+pub fn record_at(list: &[u8], k: usize) -> Result<Fix, u8>
     ensures { result ≡ fix_answer list.now k }
 {
-    let n = list_refusal(list);
-    if n != 0 {
-        return FixAnswer::Refused(n);
-    }
+    judge_list(list)?;
     let count = wire::sixteen_at(list, 2) as usize;
     if count <= k {
-        return FixAnswer::Refused(19);
+        return Err(19);
     }
-    let at = 4 + 12 * k;
-    FixAnswer::Found(fix_of(fields_of(&list[at..])))
+    Ok(Fix::from(fields_of(&list[4 + 12 * k..])))
 }
 
 // Record k, judged by itself and against the buoy before it: what record_at answers wherever read
 // accepts the list. Asked from 0 on, its first refusal is the list's own, or 19 after the last
 // record of an accepted list.
-pub fn walk_at(list: &[u8], k: usize) -> FixAnswer
+pub fn walk_at(list: &[u8], k: usize) -> Result<Fix, u8>
     ensures { result ≡ walk_answer list.now k }
 {
-    let n = walk_refusal(list, k);
-    if n != 0 {
-        return FixAnswer::Refused(n);
-    }
-    let at = 4 + 12 * k;
-    FixAnswer::Found(fix_of(fields_of(&list[at..])))
+    judge_walk(list, k)?;
+    Ok(Fix::from(fields_of(&list[4 + 12 * k..])))
 }
 
-// Writes a whole list: five numbers for each record, buoy, state, longitude, latitude and minute.
-pub fn write(issue: u32, count: u32, numbers: &[i32], out: &mut [u8]) -> Written
+// Writes a whole list: five numbers for each record, buoy, state, longitude, latitude and minute. It
+// answers the list's size, or the refusal's number, and then nothing is written.
+pub fn write(issue: u32, count: u32, numbers: &[i32], out: &mut [u8]) -> Result<usize, u8>
     ensures { (result ≡ write_answer (draft issue count numbers.now) (length out.old))
         × (out.new ≡ written_bytes (draft issue count numbers.now) out.old) }
 {
-    let n = write_refusal(issue, count, numbers, out.len());
-    if n != 0 {
-        return Written::Refused(n);
-    }
+    judge_draft(issue, count, numbers, out.len())?;
     let c = count as usize;
     put_four(out, 0, issue * 65_536 + count);
-    let mut k: usize = 0;
-    while k < c {
-        let from = 5 * k;
-        let f = fields_in(&numbers[from..]);
-        let at = 4 + 12 * k;
-        put_fix(out, at, f);
-        k += 1;
+    for k in 0..c {
+        put_fix(out, 4 + 12 * k, fields_in(&numbers[5 * k..]));
     }
-    Written::Size(4 + 12 * c)
+    Ok(4 + 12 * c)
 }
 
 // The paper's number of a state.
@@ -150,27 +115,27 @@ pub fn state_number(s: State) -> u8
 }
 
 // What a record is handed out as.
-fn fix_of(f: Fields) -> Fix
-    ensures { result ≡ fix_of f }
-{
-    let state = state_of(f.state);
-    Fix {
-        buoy: f.buoy,
-        state: state,
-        longitude: f.longitude,
-        latitude: f.latitude,
-        minute: f.minute,
+impl From<Fields> for Fix {
+    ghost from_gives = { λ f r. r ≡ fix_of f };
+
+    fn from(f: Fields) -> Fix {
+        Fix {
+            buoy: f.buoy,
+            state: state_of(f.state),
+            longitude: f.longitude,
+            latitude: f.latitude,
+            minute: f.minute,
+        }
     }
 }
 
+// What a good record's state says: it is 0, 1 or 2.
 fn state_of(n: u8) -> State
     ensures { result ≡ state_of n }
 {
-    if n == 0 {
-        return State::None;
+    match n {
+        0 => State::None,
+        1 => State::Fix,
+        _ => State::LastKnown,
     }
-    if n == 1 {
-        return State::Fix;
-    }
-    State::LastKnown
 }

@@ -30,10 +30,7 @@ pub fn put_four(out: &mut [u8], at: usize, x: u32)
     requires { at + 4 ≤ length out.old }
     ensures { out.new ≡ sets out.old at (spelled 4 x) }
 {
-    out[at] = (x / 16_777_216) as u8;
-    out[at + 1] = (x / 65_536 % 256) as u8;
-    out[at + 2] = (x / 256 % 256) as u8;
-    out[at + 3] = (x % 256) as u8;
+    out[at..at + 4].copy_from_slice(&x.to_be_bytes());
 }
 
 // The bits of a number in two's complement, where the sign's is `half`.

@@ -18,11 +18,11 @@ pub fn fields_of(s: &[u8]) -> Fields
     let latitude = signed(((low >> 19) % 0x0800_0000) as u32, 0x0400_0000);
     let minute = ((low >> 5) % 0x4000) as u16;
     Fields {
-        buoy: buoy,
-        state: state,
-        longitude: longitude,
-        latitude: latitude,
-        minute: minute,
+        buoy,
+        state,
+        longitude,
+        latitude,
+        minute,
     }
 }
 

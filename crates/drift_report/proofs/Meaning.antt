@@ -1,6 +1,6 @@
 -- What a reader of the text finds: digits that are the number, an angle's and a minute's parts that come to it, and an argument that is taken back.
 use Prim.Native.Nat.{ℕ, zero, suc, ◌+◌, ◌*◌, ◌/◌, ◌%◌, ◌^◌, ◌≤◌, ◌<◌}
-use mathlib.Core.Path.{◌≡◌, refl, ap, ◌∙◌}
+use mathlib.Core.Path.{◌≡◌, refl, ◌∙◌}
 use mathlib.Core.List.{[], ◌∷◌}
 use native.Mathlib.Omega.{arith}
 use lib.ListN.{length, length-append}
@@ -8,10 +8,10 @@ use Rattle.text.specs.Text.{digit, decimal}
 use Rattle.text.specs.Digits.{value_from}
 use Rattle.text.proofs.Laws.Digits.{tenth}
 use Rattle.text.proofs.Meaning.{value-last, said-again}
-use Rattle.drift_report.specs.declared.Asked.TheVariants as asked
+use Rattle.std.proofs.Common.{Some}
 use Rattle.drift_report.specs.Lines.{padded}
 use Rattle.drift_report.specs.Argument.{module_asked}
-use Rattle.drift_report.proofs.Laws.Asked.{asked_by, asked-said}
+use Rattle.drift_report.proofs.Laws.Asked.{asked-said}
 
 -- SO MANY DIGITS AS ARE ASKED FOR, and they say the number
 pub padded_length : (w n : ℕ) → length (padded w n) ≡ w
@@ -37,5 +37,5 @@ pub time-says : (m : ℕ) → (m ≡ m / 1_440 * 1_440 + m % 1_440 / 60 * 60 + m
 time-says m = (omega arith, omega arith, omega arith)
 
 -- A MODULE'S NUMBER IN DECIMAL ASKS FOR IT
-pub asked-again : (n : ℕ) → n < 65_536 → module_asked (decimal n) ≡ asked.Module n
-asked-again n h = asked-said (decimal n) ∙ ap asked_by (said-again 65535 n (omega arith) (omega arith))
+pub asked-again : (n : ℕ) → n < 65_536 → module_asked (decimal n) ≡ Some n
+asked-again n h = asked-said (decimal n) ∙ said-again 65535 n (omega arith) (omega arith)

@@ -4,7 +4,7 @@ use lib.IntN.{pos, negsuc}
 use Rattle.text.specs.Text.{codes, digits_in}
 use Rattle.text.specs.Digits.{all_digits, value_from}
 use Rattle.drift_list.specs.declared.State.TheVariants as state
-use Rattle.drift_report.specs.declared.Asked.TheVariants as asked
+use Rattle.std.proofs.Common.{Some, None}
 use Rattle.drift_report.specs.Lines.{state_name, signed_decimal, padded, side_of, position, fix_line}
 use Rattle.drift_report.specs.Argument.{module_asked}
 
@@ -26,22 +26,22 @@ unfolding fix_line state_name signed_decimal digits_in padded side_of position
 unknown = refl
 
 -- the greatest number of 16 bits, the next one, nothing, a letter, and zeros in front
-greatest : module_asked (codes "65535") ≡ asked.Module 65_535
+greatest : module_asked (codes "65535") ≡ Some 65_535
 unfolding module_asked all_digits value_from
 greatest = refl
 
-too_great : module_asked (codes "65536") ≡ asked.Nothing
+too_great : module_asked (codes "65536") ≡ None
 unfolding module_asked all_digits value_from
 too_great = refl
 
-empty : module_asked (codes "") ≡ asked.Nothing
+empty : module_asked (codes "") ≡ None
 unfolding module_asked
 empty = refl
 
-a_letter : module_asked (codes "1x") ≡ asked.Nothing
+a_letter : module_asked (codes "1x") ≡ None
 unfolding module_asked all_digits value_from
 a_letter = refl
 
-zeros_in-front : module_asked (codes "00001") ≡ asked.Module 1
+zeros_in-front : module_asked (codes "00001") ≡ Some 1
 unfolding module_asked all_digits value_from
 zeros_in-front = refl

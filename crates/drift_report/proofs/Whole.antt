@@ -17,8 +17,6 @@ use Rattle.carousel_record.specs.Record.{Record, record_of, module_at, module_pa
 use Rattle.carousel_record.specs.Changes.{empty_record}
 use Rattle.carousel_step.specs.Step.{image_of}
 use Rattle.carousel_step.proofs.Steps.{image_length}
-use Rattle.carousel_handout.specs.declared.Report.{Report}
-use Rattle.carousel_handout.specs.declared.Report.TheVariants as report
 use Rattle.carousel_handout.specs.Calls.{handout_number, handed_out, report_of}
 use Rattle.section.specs.Header.{application_table}
 use Rattle.wire.specs.Fields.{byte_at}
@@ -36,6 +34,8 @@ use Rattle.drift_list.proofs.Exact.{accepted-exactly}
 use Rattle.drift_report.specs.Lines.{state_name, signed_decimal, padded, angle, side_of, place, position, week_time, fix_line, fix_lines, list_header, list_text}
 use Rattle.drift_report.specs.Page.{lack_text, refused_text, module_text, page_budget, page_text}
 use Rattle.drift_report.proofs.Meaning.{padded_length}
+use Rattle.std.proofs.Common.{Ok, Err, Some, None}
+use Rattle.carousel_handout.specs.Calls.{Report}
 
 -- a text has at most n bytes; two texts
 pub record Most (a : List ℕ) (n : ℕ) : Type 0 where
@@ -151,9 +151,9 @@ list-most s h = go (eqb (read_refusal s) 0) refl
 -- WHY A MODULE IS NOT HANDED OUT
 lack-most : (r : Report) → Most (lack_text r) 42
 unfolding lack_text
-lack-most (report.Lacking l) = and (and (and (exact (codes ",")) (any l.count)) (exact (codes ","))) (any l.lowest)
-lack-most report.Whole = record { most = omega arith }
-lack-most (report.Refused r) = record { most = omega arith }
+lack-most (Ok (Some l)) = and (and (and (exact (codes ",")) (any l.count)) (exact (codes ","))) (any l.lowest)
+lack-most (Ok None) = record { most = omega arith }
+lack-most (Err r) = record { most = omega arith }
 
 refused-most : (c : Carousel) (number n : ℕ) → Most (refused_text c number n) 71
 unfolding refused_text

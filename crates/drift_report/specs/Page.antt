@@ -1,19 +1,18 @@
 -- WHAT THE PROGRAM PRINTS of a stretch and a module's number. 02, §1, the program `driftlist`: standard input as the paper's program has it ("empty record", budget 65,536).
-use Rattle.std.specs.Prelude.{ℕ, cond, List, [], ◌++◌, eqb}
+use Rattle.std.specs.Prelude.{Ok, Err, Some, None, ℕ, cond, List, [], ◌++◌, eqb}
 use Rattle.text.specs.Text.{codes, decimal}
 use Rattle.carousel_record.specs.declared.Carousel.{Carousel}
 use Rattle.carousel_record.specs.Changes.{empty_record}
-use Rattle.carousel_handout.specs.declared.Report.{Report}
-use Rattle.carousel_handout.specs.declared.Report.TheVariants as report
 use Rattle.carousel_handout.specs.Calls.{handout_number, handed_out, report_of}
 use Rattle.receiver.specs.Run.{run_of}
 use Rattle.drift_report.specs.Lines.{list_text}
+use Rattle.carousel_handout.specs.Calls.{Report}
 
 -- the missing report's two numbers: how many blocks are missing, and the lowest of them
 unfoldable pub lack_text : Report → List ℕ
-lack_text (report.Lacking l) = codes "," ++ decimal l.count ++ codes "," ++ decimal l.lowest
-lack_text report.Whole = []
-lack_text (report.Refused r) = []
+lack_text (Ok (Some l)) = codes "," ++ decimal l.count ++ codes "," ++ decimal l.lowest
+lack_text (Ok None) = []
+lack_text (Err r) = []
 
 -- "handout,N" where the hand-out answers 1, 13 or 15; "handout,20,COUNT,LOWEST" where it answers 20
 unfoldable pub refused_text : Carousel → (number n : ℕ) → List ℕ

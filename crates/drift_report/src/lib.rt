@@ -13,22 +13,16 @@ ghost use Rattle.receiver.specs.Run.{image_ran};
 ghost use Rattle.drift_report.specs.Page.{page_budget, lack_text, refused_text, module_text, page_text};
 
 pub use argument::module_asked;
-use carousel_handout::Report;
+use carousel_handout::Lack;
 use carousel_record::Carousel;
 use lines::put_list;
+use section::Refusal;
 
 // The sections that the program takes at most.
 const BUDGET: usize = 65_536;
 
 // Bytes enough for the text of any image of 65,536: proofs/Whole.antt.
 pub const ROOM: usize = 409_700;
-
-// What an argument asks for: a module by its number, or nothing that could be one.
-#[derive(Clone, Copy)]
-pub enum Asked {
-    Module(u16),
-    Nothing,
-}
 
 // Runs an empty record over a stretch and puts the text of the module with this number at the start
 // of `out`; answers the bytes put. Where `out` is shorter than the text, the rest of it is left out.
@@ -47,14 +41,13 @@ fn put_module(out: &mut [u8], c: Carousel, image: &[u8], number: u16) -> usize
     ensures { (out.new ≡ sets out.old 0 (module_text c image.now number))
         × (result ≡ reached 0 (length (module_text c image.now number)) (length out.old)) }
 {
-    let h = carousel_handout::handout_place(c, image, number);
-    let n = h.number;
-    if n != 0 {
-        return put_refused(out, c, number, n);
+    match carousel_handout::handout_place(c, image, number) {
+        Ok(part) => {
+            let e = part.start + part.size;
+            put_list(out, &image[part.start..e])
+        }
+        Err(refusal) => put_refused(out, c, number, refusal.number),
     }
-    let at = h.start;
-    let e = at + h.size;
-    put_list(out, &image[at..e])
 }
 
 fn put_refused(out: &mut [u8], c: Carousel, number: u16, n: u8) -> usize
@@ -71,17 +64,17 @@ fn put_refused(out: &mut [u8], c: Carousel, number: u16, n: u8) -> usize
 }
 
 // The two numbers of the missing report, a comma before each; nothing where it has none.
-fn put_lack(out: &mut [u8], at: usize, report: Report) -> usize
+fn put_lack(out: &mut [u8], at: usize, report: Result<Option<Lack>, Refusal>) -> usize
     ensures { (out.new ≡ sets out.old at (lack_text report)) × (result ≡ reached at (length (lack_text report)) (length out.old)) }
 {
     match report {
-        Report::Refused(_) => at,
-        Report::Whole => at,
-        Report::Lacking(lack) => {
+        Ok(Some(lack)) => {
             let mut end = text::put(out, at, b",");
             end = text::put_decimal(out, end, lack.count as u64);
             end = text::put(out, end, b",");
             text::put_decimal(out, end, lack.lowest as u64)
         }
+        Ok(None) => at,
+        Err(_) => at,
     }
 }

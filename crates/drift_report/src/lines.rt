@@ -1,12 +1,12 @@
 // A drift list as text: a line for each record.
-ghost use Rattle.std.specs.Prelude.{◌≡◌, ◌++◌, length, nat_abs};
+ghost use Rattle.std.specs.Prelude.{◌≡◌, ◌++◌, length};
 ghost use Rattle.std.proofs.lemmas.List.Edits.{sets};
 ghost use Rattle.text.specs.Text.{reached, codes, decimal};
 ghost use Rattle.drift_list.specs.Values.{fix_of};
 ghost use Rattle.drift_list.specs.Reading.{count_of, fix_at, read_refusal};
 ghost use Rattle.drift_report.specs.Lines.{state_name, signed_decimal, padded, angle, side_of, position, week_time, fix_line, fix_lines, list_text};
 
-use drift_list::{Fix, FixAnswer, Reading, State};
+use drift_list::{Fix, State};
 
 // The text of a list, or of its refusal.
 pub fn put_list(out: &mut [u8], list: &[u8]) -> usize
@@ -14,21 +14,21 @@ pub fn put_list(out: &mut [u8], list: &[u8]) -> usize
         × (result ≡ reached 0 (length (list_text list.now)) (length out.old)) }
 {
     match drift_list::read(list) {
-        Reading::Refused(n) => {
+        Err(n) => {
             let mut end = text::put(out, 0, b"list,");
             end = text::put_decimal(out, end, n as u64);
             text::put(out, end, b"\n")
         }
-        Reading::Issue { issue, count } => {
+        Ok(heading) => {
             let mut end = text::put(out, 0, b"issue,");
-            end = text::put_decimal(out, end, issue as u64);
+            end = text::put_decimal(out, end, heading.issue as u64);
             end = text::put(out, end, b"\n");
             end = text::put(
                 out,
                 end,
                 b"buoy,state,longitude,latitude,minute,position,time\n",
             );
-            put_fixes(out, end, list, count as usize)
+            put_fixes(out, end, list, heading.count as usize)
         }
     }
 }
@@ -41,18 +41,12 @@ fn put_fixes(out: &mut [u8], at: usize, list: &[u8], count: usize) -> usize
         × (result ≡ reached at (length (fix_lines count 0 (λ k. fix_of (fix_at list.now k)))) (length out.old)) }
 {
     let mut end = at;
-    let mut k: usize = 0;
-    while k < count {
-        match drift_list::walk_at(list, k) {
-            // no record of an accepted list is
-            FixAnswer::Refused(_) => {
-                return end;
-            }
-            FixAnswer::Found(fix) => {
-                end = put_fix(out, end, fix);
-            }
-        }
-        k += 1;
+    for k in 0..count {
+        // no record of an accepted list is refused
+        let Ok(fix) = drift_list::walk_at(list, k) else {
+            return end;
+        };
+        end = put_fix(out, end, fix);
     }
     end
 }
@@ -72,14 +66,13 @@ fn put_named(out: &mut [u8], at: usize, f: Fix) -> usize
     ensures { (out.new ≡ sets out.old at (decimal f.buoy ++ codes "," ++ state_name f.state ++ codes ","))
         × (result ≡ reached at (length (decimal f.buoy ++ codes "," ++ state_name f.state ++ codes ",")) (length out.old)) }
 {
-    let state = f.state;
     let mut end = text::put_decimal(out, at, f.buoy as u64);
     end = text::put(out, end, b",");
     end = text::put_word(
         out,
         end,
         b"none fix last",
-        drift_list::state_number(state) as usize,
+        drift_list::state_number(f.state) as usize,
     );
     text::put(out, end, b",")
 }
@@ -100,8 +93,7 @@ fn put_meant(out: &mut [u8], at: usize, f: Fix) -> usize
     ensures { (out.new ≡ sets out.old at (position f.state f.longitude f.latitude ++ codes "," ++ week_time f.minute ++ codes "\n"))
         × (result ≡ reached at (length (position f.state f.longitude f.latitude ++ codes "," ++ week_time f.minute ++ codes "\n")) (length out.old)) }
 {
-    let state = f.state;
-    let mut end = put_position(out, at, state, f.longitude, f.latitude);
+    let mut end = put_position(out, at, f.state, f.longitude, f.latitude);
     end = text::put(out, end, b",");
     end = put_time(out, end, f.minute);
     text::put(out, end, b"\n")
@@ -113,18 +105,9 @@ fn put_signed(out: &mut [u8], at: usize, z: i32) -> usize
 {
     if z < 0 {
         let end = text::put(out, at, b"-");
-        return text::put_decimal(out, end, absolute(z) as u64);
+        return text::put_decimal(out, end, z.unsigned_abs() as u64);
     }
-    text::put_decimal(out, at, absolute(z) as u64)
-}
-
-fn absolute(z: i32) -> u32
-    ensures { result ≡ nat_abs z }
-{
-    if z < 0 {
-        return (!z) as u32 + 1;
-    }
-    z as u32
+    text::put_decimal(out, at, z.unsigned_abs() as u64)
 }
 
 // Nothing where the state is "none".
@@ -135,10 +118,10 @@ fn put_position(out: &mut [u8], at: usize, s: State, longitude: i32, latitude: i
     if drift_list::state_number(s) == 0 {
         return at;
     }
-    let mut end = put_angle(out, at, 2, absolute(latitude));
+    let mut end = put_angle(out, at, 2, latitude.unsigned_abs());
     end = put_side(out, end, b" N", b" S", latitude);
     end = text::put(out, end, b" ");
-    end = put_angle(out, end, 3, absolute(longitude));
+    end = put_angle(out, end, 3, longitude.unsigned_abs());
     put_side(out, end, b" E", b" W", longitude)
 }
 

@@ -4,29 +4,24 @@
 // them. A read that fails ends the input; an output that is closed ends the program.
 #![tactic(auto)]
 
-ghost use Rattle.std.specs.Prelude.{◌≡◌, length};
-
-use drift_report::Asked;
 use std::env::Env;
 use std::io::Read;
 
 fn main(rt: HostRuntime) {
     match asked(&rt) {
-        Asked::Nothing => usage(&rt.stderr()),
-        Asked::Module(number) => print_list(&mut rt.stdin(), &rt, number),
+        None => usage(&rt.stderr()),
+        Some(number) => print_list(&mut rt.stdin(), &rt, number),
     }
 }
 
 // The module that the program's one argument asks for.
-fn asked(env: &impl Env) -> Asked {
+fn asked(env: &impl Env) -> Option<u16> {
     if streams::argument_count(env) != 2 {
-        return Asked::Nothing;
+        return None;
     }
-    let mut argument = streams::buffer();
-    match streams::argument(env, 1, &mut argument) {
-        Some(n) => drift_report::module_asked(&argument[..n]),
-        None => Asked::Nothing,
-    }
+    let mut argument = [0; streams::PATH];
+    let n = streams::argument(env, 1, &mut argument)?;
+    drift_report::module_asked(&argument[..n])
 }
 
 fn usage(log: &impl Print) {
@@ -34,17 +29,10 @@ fn usage(log: &impl Print) {
 }
 
 fn print_list<R: Read, P: Print>(input: &mut R, output: &P, number: u16) {
-    let mut stretch = streams::large_buffer();
+    let mut stretch = [0; streams::LARGE];
     let n = streams::read_full(input, &mut stretch);
-    let mut image = streams::large_buffer();
-    let mut out = room();
+    let mut image = [0; streams::LARGE];
+    let mut out = [0; drift_report::ROOM];
     let size = drift_report::write_page(&stretch[..n], &mut image, number, &mut out);
     let _ = output.write_all(&out[..size]);
-}
-
-// Zeros for the text. The `ensures` gives only the length, which lending the array needs.
-fn room() -> [u8; drift_report::ROOM]
-    ensures { 409700 ≡ length result }
-{
-    [0; drift_report::ROOM]
 }

@@ -5,115 +5,107 @@
 // out.
 #![tactic(auto)]
 
+mod descriptors;
+mod fields;
 mod items;
-mod kinds;
-mod lines;
 mod page;
 mod record;
 mod table;
-mod tag00;
-mod tag01;
-mod tag02;
-mod tag05;
-mod tag15;
-mod words;
 
-use crate::page::{CLOSED, put_line, write_out};
+use crate::fields::Maybe;
+use crate::page::Page;
 use crate::record::put_record;
 use crate::table::put_table;
-use crate::words::*;
-use carousel_record::Carousel;
-use receiver::{Fate, Stop, What};
-use section::Spot;
+use carousel_step::Answer;
+use receiver::{Kind, Section, Stop};
+use std::fmt;
+use std::fmt::Write;
 
-// What `streams::large_buffer` gives.
-pub type Buffer = [u8; 65_536];
+// A buffer of the largest size.
+pub type Buffer = [u8; streams::LARGE];
 
 // The sections that are taken at most.
 const BUDGET: usize = 65_536;
 
+// An output that is closed ends the program.
 fn main(rt: HostRuntime) {
-    let mut stretch = streams::large_buffer();
+    let mut stretch = [0; streams::LARGE];
     let n = streams::read_full(&mut rt.stdin(), &mut stretch);
-    let mut image = streams::large_buffer();
-    let mut out = streams::large_buffer();
-    inspect(&rt, &stretch[..n], &mut image, &mut out);
+    let mut image = [0; streams::LARGE];
+    let mut page = Page::new(&rt);
+    let _ = inspect(&mut page, &stretch[..n], &mut image);
 }
 
-// Runs an empty record over a stretch; what is printed goes by way of `out`.
-fn inspect(rt: &impl Print, stretch: &[u8], image: &mut Buffer, out: &mut Buffer) {
+// Runs an empty record over a stretch.
+fn inspect<P: Print>(page: &mut Page<P>, stretch: &[u8], image: &mut Buffer) -> fmt::Result {
     let mut c = carousel_record::empty();
-    let mut at: usize = 0;
-    let mut index: usize = 0;
     let mut passed: usize = 0;
-    loop {
+    for index in 0..=BUDGET {
         let took = receiver::take(c, &stretch[passed..], image, BUDGET - index);
         c = took.state;
-        let what = took.what;
-        match what {
-            What::Stopped(stop) => {
-                finish(rt, out, at, stop, c, image);
-                return;
+        match took.what {
+            Err(stop) => {
+                let word = stop_name(stop);
+                writeln!(page, "stop,{word}")?;
+                put_record(page, c, image)?;
+                return page.flush();
             }
-            What::Taken(section) => {
-                let n = section.length;
-                let fate = section.fate;
-                let next = passed + n;
-                at = put_section(rt, out, at, index, passed, &stretch[passed..next], fate);
+            Ok(section) => {
+                let next = passed + section.length;
+                put_section(page, index, passed, &stretch[passed..next], section)?;
                 passed = next;
             }
         }
-        // nothing more can be printed
-        if at == CLOSED {
-            return;
-        }
-        index += 1;
     }
-}
-
-// The lines below the last section, and what is left of `out`.
-fn finish(rt: &impl Print, out: &mut Buffer, at: usize, stop: Stop, c: Carousel, image: &Buffer) {
-    let word = STOPS + receiver::stop_number(stop) as usize;
-    let line = [STOP, word, NIL, NIL, NIL, NIL, NIL, NIL, NIL, NIL, NIL];
-    let mut end = put_line(rt, out, at, line);
-    end = put_record(rt, out, end, c, image);
-    write_out(rt, out, end);
+    Ok(())
 }
 
 // A section's line and, below an accepted table's, all that is read of it.
-fn put_section(
-    rt: &impl Print,
-    out: &mut Buffer,
-    at: usize,
+fn put_section<P: Print>(
+    page: &mut Page<P>,
     index: usize,
     offset: usize,
     s: &[u8],
-    fate: Fate,
-) -> usize {
-    let line = [
-        SECTION,
-        index,
-        offset,
-        s.len(),
-        wire::byte_at(s, 0) as usize,
-        receiver::fate_number(fate) as usize,
-        KINDS + receiver::kind_number(fate) as usize,
-        place_field(receiver::fate_place(fate)),
-        NIL,
-        NIL,
-        NIL,
-    ];
-    let end = put_line(rt, out, at, line);
-    if let Fate::Table = fate {
-        return put_table(rt, out, end, s);
+    section: Section,
+) -> fmt::Result {
+    let length = s.len();
+    let table = wire::byte_at(s, 0);
+    let fate = section.fate;
+    let number = receiver::fate_number(fate);
+    let place = Maybe(receiver::fate_place(fate));
+    let Ok(kind) = fate else {
+        return writeln!(
+            page,
+            "section,{index},{offset},{length},{table},{number},none,{place}"
+        );
+    };
+    let word = kind_name(kind);
+    writeln!(
+        page,
+        "section,{index},{offset},{length},{table},{number},{word},{place}"
+    )?;
+    if let Kind::Table = kind {
+        return put_table(page, s);
     }
-    end
+    Ok(())
 }
 
-// The byte where a section broke, if it did.
-fn place_field(place: Spot) -> usize {
-    match place {
-        Spot::Nowhere => EMPTY,
-        Spot::Byte(p) => p,
+fn kind_name(kind: Kind) -> &'static str {
+    match kind {
+        Kind::Table => "table",
+        Kind::Carousel(Answer::New) => "new",
+        Kind::Carousel(Answer::Same) => "same",
+        Kind::Carousel(Answer::Stored) => "stored",
+        Kind::Carousel(Answer::Repeated) => "repeated",
+    }
+}
+
+fn stop_name(stop: Stop) -> &'static str {
+    match stop {
+        Stop::End => "end",
+        Stop::Stuffing => "stuffing",
+        Stop::Short => "short",
+        Stop::Budget => "budget",
+        Stop::State => "state",
     }
 }

@@ -1,38 +1,49 @@
-// The page: lines are gathered in a lent buffer of 65,536 bytes, and written out when there might be
-// no room for another. `at` is where the next byte goes.
-use crate::Buffer;
-use crate::words::{Line, NIL, put_fields};
+// The page: what is printed is gathered, and written out whenever there is no room for more.
+use std::fmt;
 
-// Room enough for any line: the longest, of a remote carousel, has 61 bytes.
-const LONGEST_LINE: usize = 128;
+const ROOM: usize = 4_096;
 
-// The last place where a line surely fits.
-const LAST_START: usize = 65_536 - LONGEST_LINE;
-
-// In place of `at` after a write that failed. It lies past the page's end, so that whatever is put
-// there is left out.
-pub const CLOSED: usize = 65_537;
-
-// Puts a line, if it has a name, where there is room for it.
-pub fn put_line(rt: &impl Print, out: &mut Buffer, at: usize, line: Line) -> usize {
-    if line[0] == NIL {
-        return at;
-    }
-    let mut end = at;
-    if LAST_START < at {
-        end = write_out(rt, out, at);
-    }
-    end = put_fields(out, end, line);
-    text::put(out, end, b"\n")
+#[derive(Drop)]
+pub struct Page<'a, P: Print> {
+    output: &'a P,
+    bytes: [u8; ROOM],
+    at: usize,
 }
 
-// Writes out what was put, and answers where the next line goes.
-pub fn write_out(rt: &impl Print, out: &[u8], at: usize) -> usize {
-    if out.len() < at {
-        return CLOSED;
+impl<'a, P: Print> Page<'a, P> {
+    pub fn new(output: &'a P) -> Page<'a, P> {
+        Page {
+            output,
+            bytes: [0; ROOM],
+            at: 0,
+        }
     }
-    if rt.write_all(&out[0..at]).is_ok() {
-        return 0;
+
+    // Writes out what was gathered.
+    pub fn flush(&mut self) -> fmt::Result {
+        let end = self.at;
+        write_out(self.output, &self.bytes, end)?;
+        self.at = 0;
+        Ok(())
     }
-    CLOSED
+}
+
+fn write_out(output: &impl Print, bytes: &[u8], end: usize) -> fmt::Result {
+    let gathered = bytes.get(..end).ok_or(fmt::Error)?;
+    output.write_all(gathered).map_err(|_| fmt::Error)
+}
+
+impl<'a, P: Print> fmt::Write for Page<'a, P> {
+    fn write_str(&mut self, s: &str) -> fmt::Result {
+        for b in s.as_bytes() {
+            if self.at == ROOM {
+                self.flush()?;
+            }
+            let at = self.at;
+            let place = self.bytes.get_mut(at).ok_or(fmt::Error)?;
+            *place = *b;
+            self.at = at.saturating_add(1);
+        }
+        Ok(())
+    }
 }

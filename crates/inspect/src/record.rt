@@ -1,93 +1,55 @@
 // The carousel record after the last section: its announcement, and each module.
 use crate::Buffer;
-use crate::page::put_line;
-use crate::words::*;
-use carousel_handout::{Lack, Report};
+use crate::fields::Maybe;
+use crate::page::Page;
 use carousel_record::{Carousel, Module};
+use std::fmt;
+use std::fmt::Write;
 
-// The record's line, and its modules'.
-pub fn put_record(
-    rt: &impl Print,
-    out: &mut Buffer,
-    at: usize,
+// The record's line, and its modules'. No line where there is no announcement.
+pub fn put_record<P: Print>(page: &mut Page<P>, c: Carousel, image: &Buffer) -> fmt::Result {
+    if c.count == 0 {
+        return Ok(());
+    }
+    let download = c.download;
+    let block_size = c.block_size;
+    let count = c.count;
+    writeln!(page, "record,{download},{block_size},{count}")?;
+    let ms = c.modules;
+    for (place, m) in ms.iter().take(count as usize).enumerate() {
+        put_module(page, c, image, place, *m)?;
+    }
+    Ok(())
+}
+
+// A module as announced, and how much of it has come.
+fn put_module<P: Print>(
+    page: &mut Page<P>,
     c: Carousel,
     image: &Buffer,
-) -> usize {
-    let end = put_line(rt, out, at, record_line(c));
-    put_modules(rt, out, end, c, image)
-}
-
-// No line where there is no announcement.
-fn record_line(c: Carousel) -> Line {
-    if c.count == 0 {
-        return [NIL; 11];
-    }
-    [
-        RECORD,
-        c.download as usize,
-        c.block_size as usize,
-        c.count as usize,
-        NIL,
-        NIL,
-        NIL,
-        NIL,
-        NIL,
-        NIL,
-        NIL,
-    ]
-}
-
-fn put_modules(rt: &impl Print, out: &mut Buffer, at: usize, c: Carousel, image: &Buffer) -> usize {
-    let mut end = at;
-    let mut i: usize = 0;
-    while i < carousel_messages::MOST_MODULES {
-        let m = c.modules[i];
-        end = put_line(rt, out, end, module_line(c, image, i, m));
-        i += 1;
-    }
-    end
-}
-
-// A module as announced, and how much of it has come; no line past the last one.
-fn module_line(c: Carousel, image: &Buffer, place: usize, m: Module) -> Line {
-    if c.count as usize <= place {
-        return [NIL; 11];
-    }
-    let lack = lack_of(carousel_handout::missing(c, m.number));
-    [
-        MODULE,
-        place,
-        m.number as usize,
-        m.size as usize,
-        m.version as usize,
-        m.start as usize,
-        carousel_handout::handout_number(c, image, m.number) as usize,
-        lack.count,
-        lack.lowest,
-        crc_of(c, image, m.number),
-        NIL,
-    ]
-}
-
-// How many blocks are missing, and the lowest of them, if any.
-fn lack_of(report: Report) -> Lack {
-    match report {
-        Report::Refused(_) => Lack {
-            count: EMPTY,
-            lowest: EMPTY,
-        },
-        Report::Whole => Lack {
-            count: 0,
-            lowest: EMPTY,
-        },
-        Report::Lacking(lack) => lack,
-    }
-}
-
-// The CRC register over what is handed out; nothing where the hand-out is refused.
-fn crc_of(c: Carousel, image: &Buffer, number: u16) -> usize {
-    if carousel_handout::handout_number(c, image, number) != 0 {
-        return EMPTY;
-    }
-    section::crc(carousel_handout::handout(c, image, number)) as usize
+    place: usize,
+    m: Module,
+) -> fmt::Result {
+    let number = m.number;
+    let size = m.size;
+    let version = m.version;
+    let start = m.start;
+    write!(page, "module,{place},{number},{size},{version},{start}")?;
+    let handed = carousel_handout::handout_place(c, image, number);
+    let answer = match handed {
+        Ok(_) => 0,
+        Err(refusal) => refusal.number,
+    };
+    let (missing, lowest) = match carousel_handout::missing(c, number) {
+        Ok(None) => (Some(0), None),
+        Ok(Some(lack)) => (Some(lack.count), Some(lack.lowest)),
+        Err(_) => (None, None),
+    };
+    let crc = handed.ok().map(|_| section::crc(carousel_handout::handout(
+        c, image, number,
+    )) as usize);
+    let missing = Maybe(missing);
+    let lowest = Maybe(lowest);
+    let crc = Maybe(crc);
+    writeln!(page, ",{answer},{missing},{lowest},{crc}")
 }

@@ -1,132 +1,102 @@
 // An accepted table: its header, its common descriptors and its applications.
-use crate::Buffer;
+use crate::descriptors::put_descriptor;
+use crate::fields::Holder;
 use crate::items::put_items;
-use crate::kinds::described_shown;
-use crate::lines::{Holder, held_line};
-use crate::page::put_line;
-use crate::words::*;
-use ait_descriptors::Repeated;
-use ait_read::{
-    Application, ApplicationAnswer, Class, Control, DescriptorAnswer, ReadAnswer, Scope, Table,
-};
+use crate::page::Page;
+use ait_descriptors::{Described, Repeated};
+use ait_read::{Class, Control, Scope};
+use std::fmt;
+use std::fmt::Write;
 
-pub fn put_table(rt: &impl Print, out: &mut Buffer, at: usize, s: &[u8]) -> usize {
-    match ait_read::read(s) {
-        ReadAnswer::Refused(_) => at,
-        ReadAnswer::Accepted(t) => {
-            let mut end = put_line(rt, out, at, table_line(t));
-            end = put_descriptors(rt, out, end, s, Scope::Common, t.common);
-            put_applications(rt, out, end, s, t.applications)
-        }
+pub fn put_table<P: Print>(page: &mut Page<P>, s: &[u8]) -> fmt::Result {
+    let Ok(t) = ait_read::read(s) else {
+        return Ok(());
+    };
+    let test = t.test;
+    let application_type = t.application_type;
+    let version = t.version;
+    let section = t.section;
+    let last = t.last;
+    let common = t.common;
+    let applications = t.applications;
+    writeln!(
+        page,
+        "table,{test},{application_type},{version},{section},{last},{common},{applications}"
+    )?;
+    put_descriptors(page, s, Scope::Common, common)?;
+    for i in 0..applications {
+        put_application(page, s, i)?;
     }
-}
-
-fn table_line(t: Table) -> Line {
-    [
-        TABLE,
-        t.test as usize,
-        t.application_type as usize,
-        t.version as usize,
-        t.section as usize,
-        t.last as usize,
-        t.common,
-        t.applications,
-        NIL,
-        NIL,
-        NIL,
-    ]
-}
-
-fn put_applications(rt: &impl Print, out: &mut Buffer, at: usize, s: &[u8], count: usize) -> usize {
-    let mut end = at;
-    let mut i: usize = 0;
-    while i < count {
-        end = put_application(rt, out, end, s, i);
-        i += 1;
-    }
-    end
+    Ok(())
 }
 
 // The application at place i, and its descriptors.
-fn put_application(rt: &impl Print, out: &mut Buffer, at: usize, s: &[u8], i: usize) -> usize {
-    match ait_read::application_at(s, i) {
-        ApplicationAnswer::Refused(_) => at,
-        ApplicationAnswer::Found(a) => {
-            let end = put_line(rt, out, at, application_line(i, a));
-            put_descriptors(rt, out, end, s, Scope::Own(i), a.descriptors)
-        }
-    }
+fn put_application<P: Print>(page: &mut Page<P>, s: &[u8], i: usize) -> fmt::Result {
+    let Ok(a) = ait_read::application_at(s, i) else {
+        return Ok(());
+    };
+    let organisation = a.organisation;
+    let number = a.number;
+    let class = class_name(a.class);
+    let code = a.code;
+    let control = control_name(a.control);
+    let descriptors = a.descriptors;
+    writeln!(
+        page,
+        "application,{i},{organisation},{number},{class},{code},{control},{descriptors}"
+    )?;
+    put_descriptors(page, s, Scope::Own(i), descriptors)
 }
 
-fn application_line(i: usize, a: Application) -> Line {
-    let class = a.class;
-    let control = a.control;
-    [
-        APPLICATION,
-        i,
-        a.organisation as usize,
-        a.number as usize,
-        class_word(class),
-        a.code as usize,
-        control_word(control),
-        a.descriptors,
-        NIL,
-        NIL,
-        NIL,
-    ]
-}
-
-fn class_word(class: Class) -> usize {
+fn class_name(class: Class) -> &'static str {
     match class {
-        Class::Unsigned => UNSIGNED,
-        Class::Signed => SIGNED,
-        Class::Other => OTHER,
-        Class::Wildcard => WILDCARD,
+        Class::Unsigned => "unsigned",
+        Class::Signed => "signed",
+        Class::Other => "other",
+        Class::Wildcard => "wildcard",
     }
 }
 
-fn control_word(control: Control) -> usize {
+fn control_name(control: Control) -> &'static str {
     match control {
-        Control::Autostart => AUTOSTART,
-        Control::Present => PRESENT,
-        Control::Destroy => DESTROY,
-        Control::Kill => KILL,
-        Control::Remote => REMOTE,
-        Control::Reserved => RESERVED,
+        Control::Autostart => "autostart",
+        Control::Present => "present",
+        Control::Destroy => "destroy",
+        Control::Kill => "kill",
+        Control::Remote => "remote",
+        Control::Reserved => "reserved",
     }
 }
 
 // The descriptors of a loop, the common one or an application's, each with its items below it.
-fn put_descriptors(
-    rt: &impl Print,
-    out: &mut Buffer,
-    at: usize,
+fn put_descriptors<P: Print>(
+    page: &mut Page<P>,
     s: &[u8],
     scope: Scope,
     count: usize,
-) -> usize {
-    let mut end = at;
-    let mut j: usize = 0;
-    while j < count {
-        let holder = Holder { scope, place: j };
-        end = put_descriptor(rt, out, end, s, holder);
-        j += 1;
+) -> fmt::Result {
+    for place in 0..count {
+        if let Ok(d) = ait_read::descriptor_at(s, scope, place) {
+            let holder = Holder { scope, place };
+            put_descriptor(page, holder, d)?;
+            put_below(page, s, holder, d)?;
+        }
     }
-    end
+    Ok(())
 }
 
-// A descriptor's line, and its items.
-fn put_descriptor(rt: &impl Print, out: &mut Buffer, at: usize, s: &[u8], holder: Holder) -> usize {
-    let scope = holder.scope;
-    match ait_read::descriptor_at(s, scope, holder.place) {
-        DescriptorAnswer::Refused(_) => at,
-        DescriptorAnswer::Found(d) => {
-            let shown = described_shown(d);
-            let fields = shown.fields;
-            let what = shown.what;
-            let mut end = put_line(rt, out, at, held_line(DESCRIPTOR, holder, fields));
-            end = put_items(rt, out, end, s, holder, what, shown.count);
-            put_items(rt, out, end, s, holder, Repeated::Labels, shown.labels)
+// The items below a descriptor's line: those of its sort and, below a 0x00 alone, its labels after them.
+fn put_below<P: Print>(page: &mut Page<P>, s: &[u8], holder: Holder, d: Described) -> fmt::Result {
+    match d {
+        Described::Application(x) => {
+            put_items(page, s, holder, Repeated::Profiles, x.profiles)?;
+            put_items(page, s, holder, Repeated::Labels, x.labels)
         }
+        Described::Names(names) => put_items(page, s, holder, Repeated::Names, names),
+        Described::Bases(x) => put_items(page, s, holder, Repeated::Bases, x.bases),
+        Described::Identifiers(identifiers) => {
+            put_items(page, s, holder, Repeated::Identifiers, identifiers)
+        }
+        _ => Ok(()),
     }
 }

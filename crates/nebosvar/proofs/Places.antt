@@ -11,44 +11,38 @@ use lib.ListN.{length, take}
 use Rattle.section.specs.declared.Rules.{Rules}
 use Rattle.section.specs.declared.Rules.TheVariants.{Application}
 use Rattle.section.specs.declared.Rules.TheVariants.{Carousel as Carousels}
+use Rattle.wire.specs.declared.Span.{Span}
 use Rattle.section.specs.declared.Refusal.{Refusal}
 use Rattle.section.specs.Refusals.{spot_of}
 use Rattle.section.specs.Answer.{refused, Told}
 use Rattle.section.proofs.Laws.Places.{spot-below, spot-above, spot-there, above-told}
+use Rattle.ait_descriptors.specs.declared.Described.{Described}
+use Rattle.ait_descriptors.specs.declared.Item.{Item}
+use Rattle.ait_descriptors.specs.declared.Repeated.{Repeated}
+use Rattle.ait_read.specs.declared.Table.{Table}
+use Rattle.ait_read.specs.declared.Application.{Application as Applied}
 use Rattle.ait_read.specs.declared.Scope.{Scope}
-use Rattle.ait_read.specs.declared.ReadAnswer.{ReadAnswer}
-use Rattle.ait_read.specs.declared.ReadAnswer.TheVariants as reading
-use Rattle.ait_read.specs.declared.ApplicationAnswer.{ApplicationAnswer}
-use Rattle.ait_read.specs.declared.ApplicationAnswer.TheVariants as application
-use Rattle.ait_read.specs.declared.DescriptorAnswer.{DescriptorAnswer}
-use Rattle.ait_read.specs.declared.DescriptorAnswer.TheVariants as descriptor
-use Rattle.ait_read.specs.declared.ItemAnswer.{ItemAnswer}
-use Rattle.ait_read.specs.declared.ItemAnswer.TheVariants as items
-use Rattle.ait_read.specs.declared.ExtensionAnswer.{ExtensionAnswer}
-use Rattle.ait_read.specs.declared.ExtensionAnswer.TheVariants as extension
 use Rattle.ait_read.specs.declared.Resolved.{Resolved}
-use Rattle.ait_read.specs.declared.Resolved.TheVariants as resolved
 use Rattle.ait_read.specs.Answers.{read_answer, application_answer, descriptor_answer, extension_answer, resolve_answer}
 use Rattle.ait_read.proofs.Laws.Told.{read_told, application-told, descriptor-told, item-told, extension-told, resolve-told}
 use Rattle.carousel_record.specs.declared.Carousel.{Carousel}
 use Rattle.carousel_record.specs.Record.{ruled_of}
-use Rattle.carousel_step.specs.declared.Answer.TheVariants as answer
 use Rattle.carousel_step.specs.Step.{stepped_of}
 use Rattle.carousel_step.proofs.Told.{step-told}
-use Rattle.receiver.specs.declared.Fate.{Fate}
-use Rattle.receiver.specs.declared.Fate.TheVariants as fate
+use Rattle.carousel_handout.specs.Calls.{Handed, handout_place}
 use Rattle.receiver.specs.declared.Stop.TheVariants as stop
-use Rattle.receiver.specs.declared.What.TheVariants as what
 use Rattle.section.specs.Whole.{whole_at}
-use Rattle.receiver.specs.Run.{rules_of, stop_at, given_of, stopped_by, number_of_fate, place_of_fate, carousel_fate, took_of}
+use Rattle.receiver.specs.Run.{Fate, rules_of, stop_at, given_of, stopped_by, number_of_fate, place_of_fate, carousel_fate, took_of}
 use Rattle.receiver.proofs.Laws.Fates.{fate_tells}
 use Rattle.receiver.proofs.Laws.Refusals.{take-told}
-use Rattle.ait_numbers.specs.declared.kinds.Asked.{Asked}
-use Rattle.ait_numbers.specs.declared.kinds.Asked.TheVariants as asked
 use Rattle.ait_numbers.specs.Shapes.{nowhere, spot_number}
 use Rattle.ait_numbers.specs.Reading.{table_out, application_out, descriptor_out, no_place, asked_by, answer_asked, item_asked, item_out, extension_out, label_out}
-use Rattle.nebosvar.specs.Box.{step_out, what_out, take_out, part_out}
+use Rattle.nebosvar.specs.Box.{step_out, what_out, take_out, place_out, part_out}
 use Rattle.nebosvar.proofs.Numbers.{described_unbroken, found_unbroken}
+use Rattle.std.proofs.Common.{Option, Some, None, Result, Ok, Err}
+use Rattle.receiver.specs.declared.Kind.TheVariants as kind
+use Rattle.carousel_step.specs.declared.Answer.TheVariants as answer
+use Rattle.ait_read.specs.declared.Resolved.TheVariants as resolved
 
 -- the place that goes with a refusal's number; with 0, where there is none, it is nowhere
 abbrev pub place_with : Rules → List ℕ → (refusal : ℕ) → ℕ
@@ -65,19 +59,19 @@ module _ (rules : Rules) (s : List ℕ) where
   with_none : (refusal at : ℕ) → (refusal ≡ 0) × (at ≡ nowhere) → at ≡ place_with rules s refusal
   with_none refusal at e = e.1 ∙ none ∙ ap (place_with rules s) (sym e.0)
 
-  of_fate : (f : Fate) → ((r : Refusal) → f ≡ fate.Refused r → Told rules s r) → spot_number (place_of_fate f) ≡ place_with rules s (number_of_fate f)
+  of_fate : (f : Fate) → ((r : Refusal) → f ≡ Err r → Told rules s r) → spot_number (place_of_fate f) ≡ place_with rules s (number_of_fate f)
   unfolding spot_number
-  of_fate (fate.Refused r) t = with-told r (t r refl)
-  of_fate fate.Table t = none
-  of_fate fate.New t = none
-  of_fate fate.Same t = none
-  of_fate fate.Stored t = none
-  of_fate fate.Repeated t = none
+  of_fate (Err r) t = with-told r (t r refl)
+  of_fate (Ok kind.Table) t = none
+  of_fate (Ok (kind.Carousel answer.New)) t = none
+  of_fate (Ok (kind.Carousel answer.Same)) t = none
+  of_fate (Ok (kind.Carousel answer.Stored)) t = none
+  of_fate (Ok (kind.Carousel answer.Repeated)) t = none
 
 -- ONE SECTION OF THE CAROUSEL
 pub step-at : (c : Carousel) (s image : List ℕ) → (step_out c s image).answer.refused_at ≡ place_with Carousels s (step_out c s image).answer.refusal
 unfolding step_out carousel_fate
-step-at c s image = of_fate Carousels s (carousel_fate (stepped_of c s image).answer) (λ r e. step-told s r c image (fate_tells (stepped_of c s image).answer (answer.Refused r) e))
+step-at c s image = of_fate Carousels s (carousel_fate (stepped_of c s image).answer) (λ r e. step-told s r c image (fate_tells (stepped_of c s image).answer (Err r) e))
 
 -- WHATEVER IS TAKEN: the section is the one at the head of the stretch; a stop has none
 pub take_at : (c : Carousel) (stretch image : List ℕ) (budget : ℕ) → let s = take (whole_at stretch) stretch in
@@ -88,7 +82,7 @@ take_at c stretch image budget = go (ruled_of c) (eqb (whole_at stretch) 0 || eq
     go : (t u : Bool) → let s = take (whole_at stretch) stretch in
         let w = what_out (cond t (cond u (stopped_by c (stop_at stretch))
         (record {
-          what = what.Taken (record { length = whole_at stretch; fate = (given_of c s image).fate });
+          what = Ok (record { length = whole_at stretch; fate = (given_of c s image).fate });
           state = (given_of c s image).state;
         })) (stopped_by c stop.State)).what in
         w.refused_at ≡ place_with (rules_of s) s w.refusal
@@ -98,62 +92,66 @@ take_at c stretch image budget = go (ruled_of c) (eqb (whole_at stretch) 0 || eq
 
 -- THE HAND-OUT has no refusal with a place
 pub handout-at : (c : Carousel) (image : List ℕ) (number : ℕ) → (part_out c image number).refused_at ≡ nowhere
-handout-at c image number = refl
+handout-at c image number = go (handout_place c image number)
+  where
+    go : (h : Handed) → (place_out h).refused_at ≡ nowhere
+    go (Err r) = refl
+    go (Ok p) = refl
 
 -- THE APPLICATION SECTION
 module _ (s : List ℕ) where
   pub table_at : (table_out (read_answer s)).refused_at ≡ place_with Application s (table_out (read_answer s)).refusal
   table_at = go (read_answer s) refl
     where
-      go : (a : ReadAnswer) → read_answer s ≡ a → (table_out a).refused_at ≡ place_with Application s (table_out a).refusal
-      go (reading.Refused r) e = with-told Application s r (read_told s r e)
-      go (reading.Accepted t) e = none Application s
+      go : (a : Result Table Refusal) → read_answer s ≡ a → (table_out a).refused_at ≡ place_with Application s (table_out a).refusal
+      go (Err r) e = with-told Application s r (read_told s r e)
+      go (Ok t) e = none Application s
 
   pub application-at : (i : ℕ) → (application_out (application_answer s i)).refused_at ≡ place_with Application s (application_out (application_answer s i)).refusal
   application-at i = go (application_answer s i) refl
     where
-      go : (a : ApplicationAnswer) → application_answer s i ≡ a → (application_out a).refused_at ≡ place_with Application s (application_out a).refusal
-      go (application.Refused r) e = with-told Application s r (application-told s r i e)
-      go (application.Found x) e = none Application s
+      go : (a : Result Applied Refusal) → application_answer s i ≡ a → (application_out a).refused_at ≡ place_with Application s (application_out a).refusal
+      go (Err r) e = with-told Application s r (application-told s r i e)
+      go (Ok x) e = none Application s
 
   pub descriptor-at : (o : Scope) (j : ℕ) → (descriptor_out (descriptor_answer s o j)).refused_at ≡ place_with Application s (descriptor_out (descriptor_answer s o j)).refusal
   descriptor-at o j = go (descriptor_answer s o j) refl
     where
-      go : (a : DescriptorAnswer) → descriptor_answer s o j ≡ a → (descriptor_out a).refused_at ≡ place_with Application s (descriptor_out a).refusal
-      go (descriptor.Refused r) e = with-told Application s r (descriptor-told s r o j e)
-      go (descriptor.Found d) e = with_none Application s _ _ (described_unbroken d)
+      go : (a : Result Described Refusal) → descriptor_answer s o j ≡ a → (descriptor_out a).refused_at ≡ place_with Application s (descriptor_out a).refusal
+      go (Err r) e = with-told Application s r (descriptor-told s r o j e)
+      go (Ok d) e = with_none Application s _ _ (described_unbroken d)
 
-  asked-told : (o : Scope) (j k : ℕ) (r : Refusal) (a : Asked) → answer_asked s o j k a ≡ items.Refused r → Told Application s r
-  asked-told o j k r (asked.Items what) e = item-told s r o j what k e
-  asked-told o j k r asked.Nothing e = go (read_answer s) refl e
+  asked-told : (o : Scope) (j k : ℕ) (r : Refusal) (a : Option Repeated) → answer_asked s o j k a ≡ Err r → Told Application s r
+  asked-told o j k r (Some what) e = item-told s r o j what k e
+  asked-told o j k r None e = go (read_answer s) refl e
     where
-      go : (a : ReadAnswer) → read_answer s ≡ a → no_place a ≡ items.Refused r → Told Application s r
-      go (reading.Refused q) f e = let g : q ≡ r = cc in read_told s r (rw (← g) f)
-      go (reading.Accepted t) f e = let g : refused 19 ≡ r = cc in rw (← g) (above-told Application s 19 (omega arith))
+      go : (a : Result Table Refusal) → read_answer s ≡ a → no_place a ≡ Err r → Told Application s r
+      go (Err q) f e = let g : q ≡ r = cc in read_told s r (rw (← g) f)
+      go (Ok t) f e = let g : refused 19 ≡ r = cc in rw (← g) (above-told Application s 19 (omega arith))
 
   pub item-at : (o : Scope) (j kind k : ℕ) → (item_out (item_asked s o j kind k)).refused_at ≡ place_with Application s (item_out (item_asked s o j kind k)).refusal
   item-at o j kind k = go (item_asked s o j kind k) refl
     where
-      go : (a : ItemAnswer) → item_asked s o j kind k ≡ a → (item_out a).refused_at ≡ place_with Application s (item_out a).refusal
-      go (items.Refused r) e = with-told Application s r (asked-told o j k r (asked_by kind) e)
-      go (items.Found x) e = with_none Application s _ _ (found_unbroken x)
+      go : (a : Result Item Refusal) → item_asked s o j kind k ≡ a → (item_out a).refused_at ≡ place_with Application s (item_out a).refusal
+      go (Err r) e = with-told Application s r (asked-told o j k r (asked_by kind) e)
+      go (Ok x) e = with_none Application s _ _ (found_unbroken x)
 
   pub extension-at : (o : Scope) (j k m : ℕ)
       → (extension_out (extension_answer s o j k m)).refused_at ≡ place_with Application s (extension_out (extension_answer s o j k m)).refusal
   extension-at o j k m = go (extension_answer s o j k m) refl
     where
-      go : (a : ExtensionAnswer) → extension_answer s o j k m ≡ a → (extension_out a).refused_at ≡ place_with Application s (extension_out a).refusal
-      go (extension.Refused r) e = with-told Application s r (extension-told s r o j k m e)
-      go (extension.Found x) e = none Application s
+      go : (a : Result Span Refusal) → extension_answer s o j k m ≡ a → (extension_out a).refused_at ≡ place_with Application s (extension_out a).refusal
+      go (Err r) e = with-told Application s r (extension-told s r o j k m e)
+      go (Ok x) e = none Application s
 
   pub label_at : (i k : ℕ) → (label_out (resolve_answer s i k)).refused_at ≡ place_with Application s (label_out (resolve_answer s i k)).refusal
   label_at i k = go (resolve_answer s i k) refl
     where
-      go : (a : Resolved) → resolve_answer s i k ≡ a → (label_out a).refused_at ≡ place_with Application s (label_out a).refusal
-      go (resolved.Refused r) e = with-told Application s r (resolve-told s r i k e)
-      go (resolved.Own j) e = none Application s
-      go (resolved.Common n j) e = none Application s
-      go resolved.Unresolved e = none Application s
+      go : (a : Result (Option Resolved) Refusal) → resolve_answer s i k ≡ a → (label_out a).refused_at ≡ place_with Application s (label_out a).refusal
+      go (Err r) e = with-told Application s r (resolve-told s r i k e)
+      go (Ok (Some (resolved.Own j))) e = none Application s
+      go (Ok (Some (resolved.Common n j))) e = none Application s
+      go (Ok None) e = none Application s
 
 -- ALL ONES IS NOBODY'S PLACE: of any bytes that can be lent, which are fewer than 2^63, `refused_at` is all ones exactly where the refusal is none of 2 to 6
 pub nowhere-exactly : (rules : Rules) (s : List ℕ) → length s < 2 ^ 63 → (n : ℕ) → (place_with rules s n ≡ nowhere) ↔ ((n < 2) ⊎ (6 < n))

@@ -1,21 +1,21 @@
 -- Of packets too, what a program in C sees as `refusal` is the paper's number, 0 where there is none; of one packet it is 0 exactly where there is a kind. Where it is not 0, every
 -- other number is 0 and nothing was changed.
-use Prim.Native.Nat.{ℕ}
+use Prim.Native.Nat.{ℕ, zero, suc}
 use mathlib.Core.Path.{◌≡◌, refl, sym, ap, ◌∙◌}
 use mathlib.Core.Bool.{Bool, true, false, cond}
 use mathlib.Core.List.{List, [], ◌++◌}
 use native.Mathlib.Omega.{arith}
 use lib.Dec.{eqb}
-use lib.ListN.{length}
-use borrow.Author.Tests.{eqb-true, eqb-false}
+use lib.ListN.{length, take}
+use borrow.Author.Tests.{eqb-true, eqb-false, ne_eqb}
 use Rattle.wire.specs.Items.{joined}
+use Rattle.wire.specs.Outcomes.{answered}
 use Rattle.wire.specs.Pieces.{laid_first}
 use Rattle.wire.specs.Tests.{first_met}
 use Rattle.wire.proofs.Laws.Tests.{met_append}
-use Rattle.transport.specs.declared.Answer.{Answer}
-use Rattle.transport.specs.declared.Answer.TheVariants as answer
+use Rattle.transport.specs.declared.Gathered.{Gathered}
 use Rattle.transport.specs.Packet.{view_of, packet_tests, packet_refusal}
-use Rattle.transport.specs.Feed.{Fed, is_repeat, in_step, kept_hand, hands_on, leaves, passed_over, fed, answers_of}
+use Rattle.transport.specs.Feed.{Fed, Outcome, is_repeat, in_step, kept_hand, hands_on, leaves, passed_over, fed, answers_of, packets_in}
 use Rattle.transport.specs.State.{state_in}
 use Rattle.transport.specs.Calls.{
   lent_tests,
@@ -25,7 +25,9 @@ use Rattle.transport.specs.Calls.{
   feed_answer,
   feed_state,
   feed_out,
+  fitting,
   gathered_packets,
+  gathered_of,
   how_many,
   is_taken,
   is_repeated,
@@ -39,11 +41,12 @@ use Rattle.transport.specs.Calls.{
 use Rattle.transport.proofs.Laws.Hands.{none-long, none_laid}
 use Rattle.transport.proofs.Laws.States.{refused-stays}
 use Rattle.transport.proofs.Laws.Calls.{gather-refused}
-use Rattle.transport_write.specs.declared.Packed.TheVariants as packed
 use Rattle.transport_write.specs.Writer.{section_packets, pack_tests, pack_refusal, pack_answer, packed_bytes}
 use Rattle.transport_write.proofs.Exact.{refused-keeps}
 use Rattle.nebosvar.specs.Packets.{number_of_packet, kind_of_packet, fed_out, gathered_out, packed_out}
 use Rattle.nebosvar.proofs.Numbers.{OneOfTwo}
+use Rattle.std.proofs.Common.{Ok, Err}
+use Rattle.transport.specs.declared.Answer.TheVariants as answer
 
 -- ONE PACKET, by what decides: the state and the buffer, the packet, a repeat, the counter
 module _ (pid : ℕ) (s : List ℕ) (room : ℕ) (p : List ℕ) where
@@ -58,14 +61,14 @@ module _ (pid : ℕ) (s : List ℕ) (room : ℕ) (p : List ℕ) where
       cond t
       (cond u
       (cond v
-      (passed_over (state_in s) answer.Repeated)
+      (passed_over (state_in s) (Ok answer.Repeated))
       (record {
         state = record { last = p; hand = leaves (kept_hand (state_in s) p) (view_of p) };
-        answer = cond w answer.Taken answer.Broken;
+        answer = Ok (cond w answer.Taken answer.Broken);
         sections = hands_on (kept_hand (state_in s) p) (view_of p);
       }))
-      (passed_over (state_in s) (answer.Refused own)))
-      (record { state = state_in s; answer = answer.Refused lent; sections = [] })
+      (passed_over (state_in s) (Err own)))
+      (record { state = state_in s; answer = Err lent; sections = [] })
 
   number_by : (t u v w : Bool) → eqb own 0 ≡ u → number_of_packet (by t u v w).answer ≡ cond t own lent
   unfolding number_of_packet
@@ -127,22 +130,58 @@ module _ (pid : ℕ) (s p out : List ℕ) where
   unfolding feed_answer feed_outcome fed feed_state feed_out
   feed_changes-nothing = nothing-by (eqb (lent_refusal pid s (length out)) 0) (eqb (packet_refusal pid p) 0) (is_repeat (state_in s) p) (in_step (state_in s).last p) refl
 
+-- a refusal's number stands beside what an answer says
+refused-stretch : (n : ℕ) (g : Gathered) → (gathered_out (answered n g)).refusal ≡ n
+unfolding gathered_out
+refused-stretch zero g = refl
+refused-stretch (suc n) g = refl
+
+refused-packets : (n size : ℕ) → (packed_out (answered n size)).refusal ≡ n
+refused-packets zero size = refl
+refused-packets (suc n) size = refl
+
 -- A STRETCH: 1 and 21 alone; a refused packet does not stop the rest
 module _ (pid : ℕ) (s : List ℕ) (room : ℕ) (xs : List ℕ) where
-  pub gather-refusal : (gathered_out (gather_answer pid s room xs)).refusal ≡ first_met (lent_tests pid s room)
-  unfolding gathered_out gather_answer lent_refusal
-  gather-refusal = refl
+  gather_number : (gathered_out (gather_answer pid s room xs)).refusal ≡ lent_refusal pid s room
+  unfolding gather_answer
+  gather_number = refused-stretch (lent_refusal pid s room) (gathered_of pid s room xs)
 
-  abbrev answers : List Answer
+  pub gather-refusal : (gathered_out (gather_answer pid s room xs)).refusal ≡ first_met (lent_tests pid s room)
+  unfolding lent_refusal
+  gather-refusal = gather_number
+
+  abbrev answers : List Outcome
   answers = answers_of pid (state_in s) (gathered_packets pid s room xs)
+
+  -- none where what is lent is refused
+  none-counted : (test : Outcome → Bool) (n : ℕ) → suc n ≡ lent_refusal pid s room → 0 ≡ how_many test answers
+  unfolding gathered_packets answers_of how_many
+  none-counted test n e =
+      sym (ap (λ (t : Bool). how_many test (answers_of pid (state_in s) (cond t (take (fitting pid room (state_in s) (packets_in xs)) (packets_in xs)) [])))
+      (ne_eqb (lent_refusal pid s room) 0 (λ z. omega (arith, e, z))))
 
   -- each number counts the packets that had its answer
   pub gather-counts : let g = gathered_out (gather_answer pid s room xs) in
       (g.taken ≡ how_many is_taken answers) × (g.repeated ≡ how_many is_repeated answers) × (g.broken ≡ how_many is_broken answers)
       × (g.refused40 ≡ how_many (is_refused_with 40) answers) × (g.refused41 ≡ how_many (is_refused_with 41) answers)
       × (g.refused42 ≡ how_many (is_refused_with 42) answers) × (g.refused43 ≡ how_many (is_refused_with 43) answers)
-  unfolding gathered_out gather_answer tally
-  gather-counts = (refl, refl, refl, refl, refl, refl, refl)
+  unfolding gather_answer gathered_out gathered_of tally
+  gather-counts = go (lent_refusal pid s room) refl
+    where
+      go : (n : ℕ) → n ≡ lent_refusal pid s room → let g = gathered_out (answered n (gathered_of pid s room xs)) in
+          (g.taken ≡ how_many is_taken answers) × (g.repeated ≡ how_many is_repeated answers) × (g.broken ≡ how_many is_broken answers)
+          × (g.refused40 ≡ how_many (is_refused_with 40) answers) × (g.refused41 ≡ how_many (is_refused_with 41) answers)
+          × (g.refused42 ≡ how_many (is_refused_with 42) answers) × (g.refused43 ≡ how_many (is_refused_with 43) answers)
+      go zero e = (refl, refl, refl, refl, refl, refl, refl)
+      go (suc n) e = (
+        none-counted is_taken n e,
+        none-counted is_repeated n e,
+        none-counted is_broken n e,
+        none-counted (is_refused_with 40) n e,
+        none-counted (is_refused_with 41) n e,
+        none-counted (is_refused_with 42) n e,
+        none-counted (is_refused_with 43) n e,
+      )
 
 pub gather_changes-nothing : (pid : ℕ) (s xs out : List ℕ) → ((gathered_out (gather_answer pid s (length out) xs)).refusal ≡ 0 → ⊥)
     → (gathered_out (gather_answer pid s (length out) xs) ≡
@@ -159,20 +198,15 @@ pub gather_changes-nothing : (pid : ℕ) (s xs out : List ℕ) → ((gathered_ou
       refusal = lent_refusal pid s (length out);
     })
     × (gather_state pid s (length out) xs ≡ s) × (gather_out pid s xs out ≡ out)
-unfolding gathered_out gather_answer tally how_many
+unfolding gathered_out
 gather_changes-nothing pid s xs out n =
-    let g = gather-refused pid s out xs (lent_refusal pid s (length out)) refl n in
+    let g = gather-refused pid s out xs (lent_refusal pid s (length out)) refl (λ z. n (gather_number pid s (length out) xs ∙ z)) in
     (sym (ap gathered_out g.0), sym g.1, sym g.2)
 
 -- THE OTHER WAY
 pub pack-refusal : (pid c : ℕ) (s : List ℕ) (room : ℕ) → (packed_out (pack_answer pid c s room)).refusal ≡ first_met (pack_tests pid c s room)
 unfolding pack_answer pack_refusal
-pack-refusal pid c s room = go (eqb (pack_refusal pid c s room) 0) refl
-  where
-    go : (t : Bool) → eqb (pack_refusal pid c s room) 0 ≡ t
-        → (packed_out (cond t (packed.Packets (length (section_packets pid c s))) (packed.Refused (pack_refusal pid c s room)))).refusal ≡ pack_refusal pid c s room
-    go true e = sym (eqb-true (pack_refusal pid c s room) 0 e)
-    go false e = refl
+pack-refusal pid c s room = refused-packets (pack_refusal pid c s room) (length (section_packets pid c s))
 
 pub pack_changes-nothing : (pid c : ℕ) (s out : List ℕ) → ((packed_out (pack_answer pid c s (length out))).refusal ≡ 0 → ⊥)
     → ((packed_out (pack_answer pid c s (length out))).packets ≡ 0) × (packed_bytes pid c s out ≡ out)

@@ -3,30 +3,30 @@ ghost use Rattle.std.specs.Prelude.{◌≡◌};
 ghost use Rattle.nebosvar.specs.Drift.{list_out, fix_out, written_out};
 
 use crate::{FixOut, ListOut, WrittenOut};
-use drift_list::{FixAnswer, Reading, Written};
+use drift_list::{Fix, Heading};
 
-pub fn list_out(a: Reading) -> ListOut
+pub fn list_out(a: Result<Heading, u8>) -> ListOut
     ensures { result ≡ list_out a }
 {
     match a {
-        Reading::Refused(n) => ListOut {
+        Err(n) => ListOut {
             issue: 0,
             count: 0,
             refusal: n,
         },
-        Reading::Issue { issue, count } => ListOut {
-            issue: issue,
-            count: count,
+        Ok(heading) => ListOut {
+            issue: heading.issue,
+            count: heading.count,
             refusal: 0,
         },
     }
 }
 
-pub fn fix_out(a: FixAnswer) -> FixOut
+pub fn fix_out(a: Result<Fix, u8>) -> FixOut
     ensures { result ≡ fix_out a }
 {
     match a {
-        FixAnswer::Refused(n) => FixOut {
+        Err(n) => FixOut {
             buoy: 0,
             longitude: 0,
             latitude: 0,
@@ -34,31 +34,25 @@ pub fn fix_out(a: FixAnswer) -> FixOut
             state: 0,
             refusal: n,
         },
-        FixAnswer::Found(fix) => {
-            let state = fix.state;
-            FixOut {
-                buoy: fix.buoy,
-                longitude: fix.longitude,
-                latitude: fix.latitude,
-                minute: fix.minute,
-                state: drift_list::state_number(state),
-                refusal: 0,
-            }
-        }
+        Ok(fix) => FixOut {
+            buoy: fix.buoy,
+            longitude: fix.longitude,
+            latitude: fix.latitude,
+            minute: fix.minute,
+            state: drift_list::state_number(fix.state),
+            refusal: 0,
+        },
     }
 }
 
-pub fn written_out(a: Written) -> WrittenOut
+pub fn written_out(a: Result<usize, u8>) -> WrittenOut
     ensures { result ≡ written_out a }
 {
     match a {
-        Written::Refused(n) => WrittenOut {
+        Err(n) => WrittenOut {
             size: 0,
             refusal: n,
         },
-        Written::Size(size) => WrittenOut {
-            size: size,
-            refusal: 0,
-        },
+        Ok(size) => WrittenOut { size, refusal: 0 },
     }
 }

@@ -30,13 +30,12 @@ ghost use Rattle.nebosvar.specs.Packets.{fed_out, gathered_out, packed_out};
 use ait_numbers::{
     ApplicationOut, DescriptorOut, ItemOut, LabelOut, NOWHERE, PartOut, TableOut, spot_number,
 };
-use carousel_handout::Report;
 use carousel_play::Playlist;
 use carousel_record::Carousel;
 use drift::{fix_out, list_out, written_out};
 use packets::{fed_out, gathered_out, packed_out};
-use play::{counted_out, played_out};
-use receiver::{Fate, What};
+use play::counted_out;
+use receiver::{Fate, Section, Stop};
 
 // What became of a section: its refusal, 0 for none, where it broke, and its kind.
 #[repr(C)]
@@ -146,25 +145,6 @@ pub struct PackedOut {
     pub refusal: u8,
 }
 
-// An answer, beside the record after it: what the entries in place are thin over.
-#[derive(Clone, Copy)]
-pub struct SteppedOut {
-    pub answer: FateOut,
-    pub state: Carousel,
-}
-
-#[derive(Clone, Copy)]
-pub struct TookOut {
-    pub answer: TakenOut,
-    pub state: Carousel,
-}
-
-#[derive(Clone, Copy)]
-pub struct RanOut {
-    pub answer: PassageOut,
-    pub state: Carousel,
-}
-
 // The record that one starts with.
 #[unsafe(no_mangle)]
 pub extern "C" fn nebosvar_start() -> Carousel
@@ -180,9 +160,7 @@ pub extern "C" fn nebosvar_step(c: &mut Carousel, section: &[u8], image: &mut [u
         × (c.new ≡ (step_out c.old section.now image.old).state)
         × (image.new ≡ image_of c.old section.now image.old) }
 {
-    let st = step(*c, section, image);
-    *c = st.state;
-    st.answer
+    fate_out(receiver::carousel_fate(carousel_step::step_in(c, section, image)))
 }
 
 // What stands at the head of a stretch: a stop, or one section, taken.
@@ -197,9 +175,9 @@ pub extern "C" fn nebosvar_take(
         × (c.new ≡ (take_out c.old stretch.now image.old budget).state)
         × (image.new ≡ image_took c.old stretch.now image.old budget) }
 {
-    let took = take(*c, stretch, image, budget);
+    let took = receiver::take(*c, stretch, image, budget);
     *c = took.state;
-    took.answer
+    what_out(took.what)
 }
 
 // The run over a stretch.
@@ -214,9 +192,12 @@ pub extern "C" fn nebosvar_run(
         × (c.new ≡ (run_out c.old stretch.now image.old budget).state)
         × (image.new ≡ image_ran c.old stretch.now image.old budget) }
 {
-    let ran = run(*c, stretch, image, budget);
-    *c = ran.state;
-    ran.answer
+    let passage = receiver::run_in(c, stretch, image, budget);
+    PassageOut {
+        taken: passage.taken,
+        passed: passage.passed,
+        stop: receiver::stop_number(passage.stop),
+    }
 }
 
 // Where the module with this number lies in the image, if it is handed out.
@@ -225,7 +206,20 @@ pub extern "C" fn nebosvar_handout(c: &Carousel, image: &[u8], number: u16) -> P
     ensures { (result ≡ part_out c.now image.now number)
         × (take result.length (drop result.at image.now) ≡ handed_out c.now image.now number) }
 {
-    handout(*c, image, number)
+    match carousel_handout::handout_place(*c, image, number) {
+        Ok(part) => PartOut {
+            at: part.start,
+            length: part.size,
+            refused_at: NOWHERE,
+            refusal: 0,
+        },
+        Err(refusal) => PartOut {
+            at: 0,
+            length: 0,
+            refused_at: NOWHERE,
+            refusal: refusal.number,
+        },
+    }
 }
 
 // What the module with this number lacks.
@@ -233,7 +227,23 @@ pub extern "C" fn nebosvar_handout(c: &Carousel, image: &[u8], number: u16) -> P
 pub extern "C" fn nebosvar_missing(c: &Carousel, number: u16) -> LackOut
     ensures { result ≡ lack_out (report_of c.now number) }
 {
-    missing(*c, number)
+    match carousel_handout::missing(*c, number) {
+        Ok(None) => LackOut {
+            count: 0,
+            lowest: 0,
+            refusal: 0,
+        },
+        Ok(Some(lack)) => LackOut {
+            count: lack.count,
+            lowest: lack.lowest,
+            refusal: 0,
+        },
+        Err(r) => LackOut {
+            count: 0,
+            lowest: 0,
+            refusal: r.number,
+        },
+    }
 }
 
 // The section's header, and how many common descriptors and applications it has.
@@ -344,7 +354,7 @@ pub extern "C" fn nebosvar_list_write(
 pub extern "C" fn nebosvar_section_count(playlist: &Playlist) -> CountedOut
     ensures { result ≡ counted_out (count_answer playlist.now) }
 {
-    section_count(*playlist)
+    counted_out(carousel_play::section_count(*playlist))
 }
 
 // Writes the section at a place of the rotation at the start of `out`.
@@ -359,7 +369,8 @@ pub extern "C" fn nebosvar_write_section(
     ensures { (result ≡ played_out (play_answer identifier playlist.now image.now place (length out.old)))
         × (out.new ≡ played_bytes identifier playlist.now image.now place out.old) }
 {
-    write_section(*playlist, image, identifier, place, out)
+    let answer = carousel_play::write_section(*playlist, image, identifier, place, out);
+    written_out(answer)
 }
 
 // One packet: the state after it, and at the buffer's start the sections that it made whole.
@@ -404,107 +415,6 @@ pub extern "C" fn nebosvar_write_packets(
     packed_out(packed)
 }
 
-fn step(c: Carousel, s: &[u8], image: &mut [u8]) -> SteppedOut
-    ensures { (result ≡ step_out c s.now image.old) × (image.new ≡ image_of c s.now image.old) }
-{
-    let st = carousel_step::step(c, s, image);
-    let next = st.state;
-    let answer = st.answer;
-    let out = fate_out(receiver::carousel_fate(answer));
-    SteppedOut {
-        answer: out,
-        state: next,
-    }
-}
-
-fn take(c: Carousel, stretch: &[u8], image: &mut [u8], budget: usize) -> TookOut
-    ensures { (result ≡ take_out c stretch.now image.old budget)
-        × (image.new ≡ image_took c stretch.now image.old budget) }
-{
-    let took = receiver::take(c, stretch, image, budget);
-    let next = took.state;
-    let what = took.what;
-    let out = what_out(what);
-    TookOut {
-        answer: out,
-        state: next,
-    }
-}
-
-fn run(c: Carousel, stretch: &[u8], image: &mut [u8], budget: usize) -> RanOut
-    ensures { (result ≡ run_out c stretch.now image.old budget)
-        × (image.new ≡ image_ran c stretch.now image.old budget) }
-{
-    let ran = receiver::run(c, stretch, image, budget);
-    let next = ran.state;
-    let passage = ran.passage;
-    let stop = passage.stop;
-    let out = PassageOut {
-        taken: passage.taken,
-        passed: passage.passed,
-        stop: receiver::stop_number(stop),
-    };
-    RanOut {
-        answer: out,
-        state: next,
-    }
-}
-
-fn handout(c: Carousel, image: &[u8], number: u16) -> PartOut
-    ensures { (result ≡ part_out c image.now number)
-        × (take result.length (drop result.at image.now) ≡ handed_out c image.now number) }
-{
-    let h = carousel_handout::handout_place(c, image, number);
-    PartOut {
-        at: h.start,
-        length: h.size,
-        refused_at: NOWHERE,
-        refusal: h.number,
-    }
-}
-
-fn missing(c: Carousel, number: u16) -> LackOut
-    ensures { result ≡ lack_out (report_of c number) }
-{
-    match carousel_handout::missing(c, number) {
-        Report::Refused(r) => LackOut {
-            count: 0,
-            lowest: 0,
-            refusal: r.number,
-        },
-        Report::Whole => LackOut {
-            count: 0,
-            lowest: 0,
-            refusal: 0,
-        },
-        Report::Lacking(lack) => LackOut {
-            count: lack.count,
-            lowest: lack.lowest,
-            refusal: 0,
-        },
-    }
-}
-
-fn section_count(p: Playlist) -> CountedOut
-    ensures { result ≡ counted_out (count_answer p) }
-{
-    counted_out(carousel_play::section_count(p))
-}
-
-fn write_section(
-    p: Playlist,
-    image: &[u8],
-    identifier: u32,
-    place: usize,
-    out: &mut [u8],
-) -> WrittenOut
-    ensures { (result ≡ played_out (play_answer identifier p image.now place (length out.old)))
-        × (out.new ≡ played_bytes identifier p image.now place out.old) }
-{
-    let answer = carousel_play::write_section(p, image, identifier, place, out);
-    played_out(answer)
-}
-
 fn fate_out(f: Fate) -> FateOut
     ensures { result ≡ fate_out f }
 {
@@ -515,22 +425,21 @@ fn fate_out(f: Fate) -> FateOut
     }
 }
 
-fn what_out(w: What) -> TakenOut
+fn what_out(w: Result<Section, Stop>) -> TakenOut
     ensures { result ≡ what_out w }
 {
     match w {
-        What::Stopped(stop) => TakenOut {
+        Err(stop) => TakenOut {
             length: 0,
             refused_at: NOWHERE,
             stop: receiver::stop_number(stop),
             refusal: 0,
             kind: 0,
         },
-        What::Taken(x) => {
-            let fate = x.fate;
-            let out = fate_out(fate);
+        Ok(section) => {
+            let out = fate_out(section.fate);
             TakenOut {
-                length: x.length,
+                length: section.length,
                 refused_at: out.refused_at,
                 stop: 0,
                 refusal: out.refusal,

@@ -4,7 +4,6 @@ ghost use Rattle.nebosvar.specs.Packets.{number_of_packet, kind_of_packet, fed_o
 
 use crate::{FedOut, GatheredOut, PackedOut};
 use transport::{Answer, Gathered, Handed};
-use transport_write::Packed;
 
 pub fn fed_out(h: Handed) -> FedOut
     ensures { result ≡ fed_out h }
@@ -17,59 +16,73 @@ pub fn fed_out(h: Handed) -> FedOut
     }
 }
 
-pub fn gathered_out(g: Gathered) -> GatheredOut
-    ensures { result ≡ gathered_out g }
+pub fn gathered_out(a: Result<Gathered, u8>) -> GatheredOut
+    ensures { result ≡ gathered_out a }
 {
-    let counts = g.counts;
-    GatheredOut {
-        passed: g.passed,
-        size: g.size,
-        taken: counts.taken,
-        repeated: counts.repeated,
-        broken: counts.broken,
-        refused40: counts.refused40,
-        refused41: counts.refused41,
-        refused42: counts.refused42,
-        refused43: counts.refused43,
-        refusal: g.refusal,
+    match a {
+        Ok(g) => {
+            let counts = g.counts;
+            GatheredOut {
+                passed: g.passed,
+                size: g.size,
+                taken: counts.taken,
+                repeated: counts.repeated,
+                broken: counts.broken,
+                refused40: counts.refused40,
+                refused41: counts.refused41,
+                refused42: counts.refused42,
+                refused43: counts.refused43,
+                refusal: 0,
+            }
+        }
+        Err(n) => GatheredOut {
+            passed: 0,
+            size: 0,
+            taken: 0,
+            repeated: 0,
+            broken: 0,
+            refused40: 0,
+            refused41: 0,
+            refused42: 0,
+            refused43: 0,
+            refusal: n,
+        },
     }
 }
 
-pub fn packed_out(a: Packed) -> PackedOut
+pub fn packed_out(a: Result<usize, u8>) -> PackedOut
     ensures { result ≡ packed_out a }
 {
     match a {
-        Packed::Refused(n) => PackedOut {
+        Ok(packets) => PackedOut {
+            packets,
+            refusal: 0,
+        },
+        Err(n) => PackedOut {
             packets: 0,
             refusal: n,
-        },
-        Packed::Packets(packets) => PackedOut {
-            packets: packets,
-            refusal: 0,
         },
     }
 }
 
 // The paper's number of what became of a packet; 0 where it was not refused.
-fn answer_number(a: Answer) -> u8
+fn answer_number(a: Result<Answer, u8>) -> u8
     ensures { result ≡ number_of_packet a }
 {
     match a {
-        Answer::Refused(n) => n,
-        Answer::Taken => 0,
-        Answer::Broken => 0,
-        Answer::Repeated => 0,
+        Ok(_) => 0,
+        Err(n) => n,
     }
 }
 
 // Its kind, as a number.
-fn kind_number(a: Answer) -> u8
+fn kind_number(a: Result<Answer, u8>) -> u8
     ensures { result ≡ kind_of_packet a }
 {
     match a {
-        Answer::Refused(_) => 0,
-        Answer::Taken => 1,
-        Answer::Broken => 2,
-        Answer::Repeated => 3,
+        Err(_) => 0,
+        Ok(Answer::Taken) => 1,
+        Ok(Answer::Broken) => 2,
+        Ok(Answer::Repeated) => 3,
     }
 }

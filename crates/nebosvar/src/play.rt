@@ -1,36 +1,20 @@
 // The answers of the shore player as structs of numbers.
 ghost use Rattle.std.specs.Prelude.{◌≡◌};
-ghost use Rattle.nebosvar.specs.Play.{counted_out, played_out};
+ghost use Rattle.nebosvar.specs.Play.{counted_out};
 
-use crate::{CountedOut, WrittenOut};
-use carousel_play::{Counted, Played};
+use crate::CountedOut;
 
-pub fn counted_out(a: Counted) -> CountedOut
+pub fn counted_out(a: Result<usize, u8>) -> CountedOut
     ensures { result ≡ counted_out a }
 {
     match a {
-        Counted::Refused(n) => CountedOut {
+        Ok(sections) => CountedOut {
+            sections,
+            refusal: 0,
+        },
+        Err(n) => CountedOut {
             sections: 0,
             refusal: n,
-        },
-        Counted::Sections(sections) => CountedOut {
-            sections: sections,
-            refusal: 0,
-        },
-    }
-}
-
-pub fn played_out(a: Played) -> WrittenOut
-    ensures { result ≡ played_out a }
-{
-    match a {
-        Played::Refused(n) => WrittenOut {
-            size: 0,
-            refusal: n,
-        },
-        Played::Size(size) => WrittenOut {
-            size: size,
-            refusal: 0,
         },
     }
 }

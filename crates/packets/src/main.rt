@@ -9,8 +9,7 @@ ghost use Rattle.std.specs.Prelude.{◌*◌, ◌≤◌, length};
 
 use std::env::Env;
 use std::io::Read;
-use text::Said;
-use transport_write::{MOST_PACKETS, PACKET_LENGTH, Packed};
+use transport_write::{MOST_PACKETS, PACKET_LENGTH};
 
 // A PID has 13 bits.
 const MOST_PID: u32 = 8191;
@@ -18,11 +17,9 @@ const MOST_PID: u32 = 8191;
 // The largest section's bytes.
 const LARGEST_SECTION: usize = 4098;
 
-// What came of a stretch: the bytes whose packets were written, the next packet's counter, and whether the
-// output took them.
+// What came of a stretch: the bytes whose packets were written, and the next packet's counter.
 #[derive(Clone, Copy)]
 struct Packaged {
-    heard: bool,
     passed: usize,
     counter: u8,
 }
@@ -30,21 +27,19 @@ struct Packaged {
 // No greater number is said than the most: the remainder only spares the proof of that.
 fn main(rt: HostRuntime) {
     match asked(&rt) {
-        Said::Nothing => usage(&rt.stderr()),
-        Said::Number(n) => pack(&mut rt.stdin(), &rt, (n % (MOST_PID + 1)) as u16),
+        None => usage(&rt.stderr()),
+        Some(n) => pack(&mut rt.stdin(), &rt, (n % (MOST_PID + 1)) as u16),
     }
 }
 
 // The PID that the program's one argument says.
-fn asked(env: &impl Env) -> Said {
+fn asked(env: &impl Env) -> Option<u32> {
     if streams::argument_count(env) != 2 {
-        return Said::Nothing;
+        return None;
     }
-    let mut argument = streams::buffer();
-    match streams::argument(env, 1, &mut argument) {
-        Some(n) => text::read_decimal(&argument[..n], MOST_PID),
-        None => Said::Nothing,
-    }
+    let mut argument = [0; streams::PATH];
+    let n = streams::argument(env, 1, &mut argument)?;
+    text::read_decimal(&argument[..n], MOST_PID)
 }
 
 fn usage(log: &impl Print) {
@@ -52,21 +47,19 @@ fn usage(log: &impl Print) {
 }
 
 // Fills a buffer, writes the whole sections at its front, and keeps the rest for the next turn. A proved
-// loop has to end, and nothing says that the input does: it counts its turns down from a number that no
-// run uses up.
+// loop has to end, and nothing says that the input does: it counts its turns up to a number that no run
+// comes to.
 fn pack<R: Read, P: Print>(input: &mut R, output: &P, pid: u16) {
-    let mut space = streams::large_buffer();
+    let mut space = [0; streams::LARGE];
     let buffer: &mut [u8] = &mut space;
-    let mut out = streams::large_buffer();
+    let mut out = [0; streams::LARGE];
     let mut held: usize = 0;
     let mut counter: u8 = 0;
-    let mut turns = u64::MAX;
-    while turns > 0 {
+    for _ in 0..u64::MAX {
         let end = held + read_some(input, &mut buffer[held..]);
-        let packaged = write_sections(output, pid, counter, &buffer[..end], &mut out);
-        if !packaged.heard {
+        let Some(packaged) = write_sections(output, pid, counter, &buffer[..end], &mut out) else {
             return;
-        }
+        };
         if end < buffer.len() {
             return;
         }
@@ -75,7 +68,6 @@ fn pack<R: Read, P: Print>(input: &mut R, output: &P, pid: u16) {
         }
         counter = packaged.counter;
         held = keep_rest(buffer, packaged.passed);
-        turns -= 1;
     }
 }
 
@@ -86,44 +78,34 @@ fn read_some<R: Read>(input: &mut R, part: &mut [u8]) -> usize
     streams::read_full(input, part)
 }
 
-// Writes the packets of the whole sections that a stretch begins with, as many at once as `out` has room for.
+// Writes the packets of the whole sections that a stretch begins with, as many at once as `out` has room for;
+// none where the output is closed.
 fn write_sections(
     output: &impl Print,
     pid: u16,
     counter: u8,
     s: &[u8],
     out: &mut [u8],
-) -> Packaged {
+) -> Option<Packaged> {
     let mut at: usize = 0;
     let mut c = counter;
     let mut size: usize = 0;
-    while at < s.len() {
-        let n = section::whole_at(&s[at..]);
-        if n == 0 {
-            break;
-        }
+    while let Some(n) = section::whole_at(&s[at..]) {
         let end = at + n;
         let written = put_packets(pid, c, &s[at..end], &mut out[size..]);
         at = end;
         c = counter_after(c, written);
         size += PACKET_LENGTH * written;
         if out.len() - size < MOST_PACKETS * PACKET_LENGTH {
-            if output.write_all(&out[..size]).is_err() {
-                return came_to(false, at, c);
-            }
+            output.write_all(&out[..size]).ok()?;
             size = 0;
         }
     }
-    let heard = output.write_all(&out[..size]).is_ok();
-    came_to(heard, at, c)
-}
-
-fn came_to(heard: bool, passed: usize, counter: u8) -> Packaged {
-    Packaged {
-        heard: heard,
-        passed: passed,
-        counter: counter,
-    }
+    output.write_all(&out[..size]).ok()?;
+    Some(Packaged {
+        passed: at,
+        counter: c,
+    })
 }
 
 // Counters go round: 0 follows 15.
@@ -136,8 +118,8 @@ fn put_packets(pid: u16, counter: u8, s: &[u8], out: &mut [u8]) -> usize
     ensures { 188 * result ≤ length out.old }
 {
     match transport_write::write_packets(pid, counter, s, out) {
-        Packed::Refused(_) => 0,
-        Packed::Packets(n) => wire::lesser(n, out.len() / PACKET_LENGTH),
+        Ok(n) => n.min(out.len() / PACKET_LENGTH),
+        Err(_) => 0,
     }
 }
 
@@ -146,8 +128,8 @@ fn put_packets(pid: u16, counter: u8, s: &[u8], out: &mut [u8]) -> usize
 fn keep_rest(buffer: &mut [u8], place: usize) -> usize
     ensures { result ≤ length buffer.old }
 {
-    let from = wire::lesser(place, buffer.len());
-    let kept = wire::lesser(buffer.len() - from, LARGEST_SECTION);
+    let from = place.min(buffer.len());
+    let kept = (buffer.len() - from).min(LARGEST_SECTION);
     let end = from + kept;
     let mut rest = [0u8; LARGEST_SECTION];
     wire::copy_at(&mut rest, 0, &buffer[from..end]);

@@ -1,9 +1,7 @@
 // The program's arguments: three numbers, then a number, a version and a file's name for each module.
-ghost use Rattle.std.specs.Prelude.{ℕ, ◌+◌, ◌*◌, ◌^◌, ◌≤◌, ◌<◌, ◌≡◌};
-ghost use Rattle.text.specs.declared.Said.TheVariants.{Number};
+ghost use Rattle.std.specs.Prelude.{◌+◌, ◌*◌, ◌^◌, ◌≤◌, ◌<◌, IfSome};
 
 use std::env::Env;
-use text::Said;
 
 // The greatest numbers of 32, 16 and 8 bits.
 pub const MOST_THIRTY_TWO: u32 = 4_294_967_295;
@@ -35,8 +33,7 @@ pub fn are_good(env: &impl Env, count: usize) -> bool {
 fn are_modules(env: &impl Env, n: usize) -> bool
     requires { 3 * n + 4 < 2 ^ 64 }
 {
-    let mut i: usize = 0;
-    while i < n {
+    for i in 0..n {
         if !is_number(env, 4 + 3 * i, MOST_SIXTEEN) {
             return false;
         }
@@ -46,7 +43,6 @@ fn are_modules(env: &impl Env, n: usize) -> bool
         if !is_name(env, 6 + 3 * i) {
             return false;
         }
-        i += 1;
     }
     true
 }
@@ -65,31 +61,23 @@ pub fn module_count(count: usize) -> usize
 pub fn value(env: &impl Env, k: usize, most: u32) -> u32
     ensures { result ≤ most }
 {
-    match said(env, k, most) {
-        Said::Number(n) => n,
-        Said::Nothing => 0,
-    }
+    said(env, k, most).unwrap_or(0)
 }
 
 fn is_number(env: &impl Env, k: usize, most: u32) -> bool {
-    match said(env, k, most) {
-        Said::Number(_) => true,
-        Said::Nothing => false,
-    }
+    said(env, k, most).is_some()
 }
 
-fn said(env: &impl Env, k: usize, most: u32) -> Said
-    ensures { (n : ℕ) → result ≡ Number n → n ≤ most }
+fn said(env: &impl Env, k: usize, most: u32) -> Option<u32>
+    ensures { IfSome result (λ n. n ≤ most) }
 {
-    let mut argument = streams::buffer();
-    match streams::argument(env, k, &mut argument) {
-        Some(n) => text::read_decimal(&argument[..n], most),
-        None => Said::Nothing,
-    }
+    let mut argument = [0; streams::PATH];
+    let n = streams::argument(env, k, &mut argument)?;
+    text::read_decimal(&argument[..n], most)
 }
 
 // Whether argument k is short enough to be read whole.
 fn is_name(env: &impl Env, k: usize) -> bool {
-    let mut name = streams::buffer();
+    let mut name = [0; streams::PATH];
     streams::argument(env, k, &mut name).is_some()
 }

@@ -8,13 +8,12 @@
 mod arguments;
 mod files;
 
-ghost use Rattle.std.specs.Prelude.{◌≡◌, ◌≤◌, length};
+ghost use Rattle.std.specs.Prelude.{◌≤◌, length};
 
 use arguments::{are_good, module_count, value};
-use carousel_play::{Counted, LARGEST_SECTION, Played, Playlist};
+use carousel_play::{LARGEST_SECTION, Playlist};
 use files::{Loaded, load};
 use std::env::Env;
-use wire::lesser;
 
 fn main(rt: HostRuntime) {
     let count = streams::argument_count(&rt);
@@ -25,11 +24,10 @@ fn main(rt: HostRuntime) {
         return;
     }
     let n = module_count(count);
-    let mut image = room();
+    let mut image = [0; carousel_messages::MOST_BYTES];
     let loaded = load(&rt, n, &mut image);
-    let missing = loaded.missing;
-    if missing != 0 {
-        tell_missing(&rt, &rt.stderr(), missing);
+    if let Some(k) = loaded.missing {
+        tell_missing(&rt, &rt.stderr(), k);
         return;
     }
     play(
@@ -41,20 +39,13 @@ fn main(rt: HostRuntime) {
     )
 }
 
-// Zeros for the modules. The `ensures` gives only the length, which lending the array needs.
-fn room() -> [u8; carousel_messages::MOST_BYTES]
-    ensures { 262144 ≡ length result }
-{
-    [0; carousel_messages::MOST_BYTES]
-}
-
 // What is announced. More modules than there may be are one too many.
 fn playlist(env: &impl Env, loaded: Loaded, n: usize) -> Playlist {
     let ms = loaded.modules;
     Playlist {
         download: value(env, 1, arguments::MOST_THIRTY_TWO),
         block_size: value(env, 2, arguments::MOST_SIXTEEN) as u16,
-        count: lesser(n, carousel_messages::MOST_MODULES + 1) as u16,
+        count: n.min(carousel_messages::MOST_MODULES + 1) as u16,
         modules: ms,
     }
 }
@@ -62,9 +53,9 @@ fn playlist(env: &impl Env, loaded: Loaded, n: usize) -> Playlist {
 // The rotation, or its refusal.
 fn play(env: &impl Env, output: &impl Print, log: &impl Print, p: Playlist, image: &[u8]) {
     match carousel_play::section_count(p) {
-        Counted::Refused(n) => tell_refused(log, n),
-        Counted::Sections(n) => {
-            let mut out = streams::large_buffer();
+        Err(n) => tell_refused(log, n),
+        Ok(n) => {
+            let mut out = [0; streams::LARGE];
             write_rotation(env, output, p, image, n, &mut out);
         }
     }
@@ -81,8 +72,7 @@ fn write_rotation(
 ) {
     let identifier = value(env, 3, arguments::MOST_THIRTY_TWO);
     let mut end: usize = 0;
-    let mut place: usize = 0;
-    while place < sections {
+    for place in 0..sections {
         end += put_section(p, image, identifier, place, &mut out[end..]);
         if out.len() - end < LARGEST_SECTION {
             if output.write_all(&out[..end]).is_err() {
@@ -90,7 +80,6 @@ fn write_rotation(
             }
             end = 0;
         }
-        place += 1;
     }
     let _ = output.write_all(&out[..end]);
 }
@@ -100,13 +89,13 @@ fn put_section(p: Playlist, image: &[u8], identifier: u32, place: usize, out: &m
     ensures { result ≤ length out.old }
 {
     match carousel_play::write_section(p, image, identifier, place, out) {
-        Played::Refused(_) => 0,
-        Played::Size(n) => lesser(n, out.len()),
+        Ok(n) => n.min(out.len()),
+        Err(_) => 0,
     }
 }
 
 fn tell_missing(env: &impl Env, log: &impl Print, k: usize) {
-    let mut name = streams::buffer();
+    let mut name = [0; streams::PATH];
     let n = streams::argument(env, k, &mut name).unwrap_or(0);
     let _ = log.write_all(b"no file ");
     let _ = log.write_all(&name[..n]);

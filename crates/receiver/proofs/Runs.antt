@@ -16,7 +16,6 @@ use Rattle.carousel_record.specs.Record.{ruled_of}
 use Rattle.carousel_step.specs.Step.{stepped_of}
 use Rattle.carousel_step.proofs.Simulation.{step_rule}
 use Rattle.receiver.specs.declared.Given.{Given}
-use Rattle.receiver.specs.declared.Fate.{Fate}
 use Rattle.receiver.specs.declared.Took.{Took}
 use Rattle.receiver.specs.declared.Stop.{Stop}
 use Rattle.receiver.specs.declared.Stop.TheVariants as stop
@@ -24,6 +23,7 @@ use Rattle.section.specs.Whole.{whole_at}
 use Rattle.receiver.specs.Run.{stop_at, table_fate, carousel_fate, given_of, image_given, took_of, image_took, RunOutcome, halted, run_after, runs, run_of, sections_of, fates_of, Held, walk}
 use Rattle.section.proofs.Laws.Whole.{whole-fits, whole-three}
 use Rattle.receiver.proofs.Laws.Runs.{took_one_lem, ahead, same-counts, ahead_none, runs-stop, runs-next, run-state, run-ruled}
+use Rattle.receiver.specs.Run.{Fate}
 
 -- what a run leaves, as a record and an image
 abbrev pub held_by : RunOutcome → Held

@@ -1,30 +1,25 @@
 -- One place of a stretch, and the run. 01, "The run".
-use Rattle.std.specs.Prelude.{ℕ, zero, suc, ◌+◌, Bool, cond, ◌||◌, List, [], ◌∷◌, eqb, ltb, length, take, drop}
+use Rattle.std.specs.Prelude.{Result, Ok, Err, None, ℕ, zero, suc, ◌+◌, cond, ◌||◌, List, [], ◌∷◌, eqb, length, take, drop}
 use Rattle.wire.specs.Fields.{byte_at}
 use Rattle.wire.specs.Tests.{first_met}
 use Rattle.section.specs.declared.Rules.{Rules}
 use Rattle.section.specs.declared.Rules.TheVariants.{Application}
 use Rattle.section.specs.declared.Rules.TheVariants.{Carousel as Carousels}
-use Rattle.section.specs.declared.Checked.{Checked}
-use Rattle.section.specs.declared.Checked.TheVariants as checked
-use Rattle.section.specs.declared.Spot.{Spot}
-use Rattle.section.specs.declared.Spot.TheVariants.{Nowhere}
+use Rattle.section.specs.declared.Refusal.{Refusal}
+use Rattle.section.specs.Refusals.{Spot}
+use Rattle.section.specs.Answer.{Checked}
 use Rattle.section.specs.Header.{application_table}
 use Rattle.section.specs.Whole.{is_short, whole_at}
-use Rattle.ait_read.specs.declared.ReadAnswer.{ReadAnswer}
-use Rattle.ait_read.specs.declared.ReadAnswer.TheVariants as reading
+use Rattle.ait_read.specs.declared.Table.{Table as Read}
 use Rattle.ait_read.specs.Answers.{read_answer, read_number}
 use Rattle.carousel_record.specs.declared.Carousel.{Carousel}
-use Rattle.carousel_step.specs.declared.Answer.{Answer}
-use Rattle.carousel_step.specs.declared.Answer.TheVariants as answer
 use Rattle.carousel_record.specs.Record.{ruled_of}
-use Rattle.carousel_step.specs.Step.{stepped_of, image_of, step_tests}
+use Rattle.carousel_step.specs.Step.{Answered, stepped_of, image_of, step_tests}
 use Rattle.receiver.specs.declared.Stop.{Stop}
 use Rattle.receiver.specs.declared.Stop.TheVariants as stop
-use Rattle.receiver.specs.declared.Fate.{Fate}
-use Rattle.receiver.specs.declared.Fate.TheVariants as fate
-use Rattle.receiver.specs.declared.What.{What}
-use Rattle.receiver.specs.declared.What.TheVariants as what
+use Rattle.receiver.specs.declared.Kind.{Kind}
+use Rattle.receiver.specs.declared.Kind.TheVariants as kind
+use Rattle.receiver.specs.declared.Section.{Section}
 use Rattle.receiver.specs.declared.Took.{Took}
 use Rattle.receiver.specs.declared.Given.{Given}
 use Rattle.receiver.specs.declared.Ran.{Ran}
@@ -37,24 +32,25 @@ stop_at s = cond (eqb (length s) 0) stop.End (cond (eqb (byte_at s 0) 0xFF) stop
 abbrev pub rules_of : List ℕ → Rules
 rules_of s = cond (eqb (byte_at s 0) application_table) Application Carousels
 
-unfoldable pub read_fate : ReadAnswer → Fate
-read_fate (reading.Refused r) = fate.Refused r
-read_fate (reading.Accepted t) = fate.Table
+-- what became of a section: its kind, or its refusal
+abbrev pub Fate : Type 0
+Fate = Result Kind Refusal
+
+unfoldable pub read_fate : Result Read Refusal → Fate
+read_fate (Err r) = Err r
+read_fate (Ok t) = Ok kind.Table
 
 abbrev pub table_fate : List ℕ → Fate
 table_fate s = read_fate (read_answer s)
 
 -- what a judged application section comes to: the same (`fate-judged`), without its table's fields
 unfoldable pub judged_fate : Checked → Fate
-judged_fate (checked.Refused r) = fate.Refused r
-judged_fate (checked.Accepted h) = fate.Table
+judged_fate (Err r) = Err r
+judged_fate (Ok h) = Ok kind.Table
 
-unfoldable pub carousel_fate : Answer → Fate
-carousel_fate answer.New = fate.New
-carousel_fate answer.Same = fate.Same
-carousel_fate answer.Stored = fate.Stored
-carousel_fate answer.Repeated = fate.Repeated
-carousel_fate (answer.Refused r) = fate.Refused r
+unfoldable pub carousel_fate : Answered → Fate
+carousel_fate (Err r) = Err r
+carousel_fate (Ok a) = Ok (kind.Carousel a)
 
 -- what becomes of one whole section, of the record and of the image
 unfoldable pub given_of : Carousel → (s image : List ℕ) → Given
@@ -67,21 +63,13 @@ image_given c s image = cond (eqb (byte_at s 0) application_table) image (image_
 
 -- the paper's number of a fate. The name of its kind is in crate report, `kind_name`.
 abbrev pub number_of_fate : Fate → ℕ
-number_of_fate (fate.Refused r) = r.number
-number_of_fate fate.Table = 0
-number_of_fate fate.New = 0
-number_of_fate fate.Same = 0
-number_of_fate fate.Stored = 0
-number_of_fate fate.Repeated = 0
+number_of_fate (Err r) = r.number
+number_of_fate (Ok k) = 0
 
 -- and its place: 02, §9
 abbrev pub place_of_fate : Fate → Spot
-place_of_fate (fate.Refused r) = r.place
-place_of_fate fate.Table = Nowhere
-place_of_fate fate.New = Nowhere
-place_of_fate fate.Same = Nowhere
-place_of_fate fate.Stored = Nowhere
-place_of_fate fate.Repeated = Nowhere
+place_of_fate (Err r) = r.place
+place_of_fate (Ok k) = None
 
 -- the number by the paper's numbered cases, in their order, of the application section or of the carousel's step
 abbrev pub given_number : Carousel → (s image : List ℕ) → ℕ
@@ -89,14 +77,14 @@ given_number c s image = cond (eqb (byte_at s 0) application_table) (read_number
 
 -- "At each place": "state" before all, then the stops in their order, "else take one section, accepted or refused"
 abbrev pub stopped_by : Carousel → Stop → Took
-stopped_by c x = record { what = what.Stopped x; state = c }
+stopped_by c x = record { what = Err x; state = c }
 
 unfoldable pub took_of : Carousel → (s image : List ℕ) → (budget : ℕ) → Took
 took_of c s image budget = cond (ruled_of c)
     (cond (eqb (whole_at s) 0 || eqb budget 0)
     (stopped_by c (stop_at s))
     (record {
-      what = what.Taken (record { length = whole_at s; fate = (given_of c (take (whole_at s) s) image).fate });
+      what = Ok (record { length = whole_at s; fate = (given_of c (take (whole_at s) s) image).fate });
       state = (given_of c (take (whole_at s) s) image).state;
     }))
     (stopped_by c stop.State)
@@ -104,10 +92,14 @@ took_of c s image budget = cond (ruled_of c)
 unfoldable pub image_took : Carousel → (s image : List ℕ) → (budget : ℕ) → List ℕ
 image_took c s image budget = cond (ruled_of c) (cond (eqb (whole_at s) 0 || eqb budget 0) image (image_given c (take (whole_at s) s) image)) image
 
+-- what stands at a place: a section, taken, or a stop
+abbrev pub What : Type 0
+What = Result Section Stop
+
 -- the number of what was taken; a stop has none, and counts as 0
 abbrev pub number_took : What → ℕ
-number_took (what.Taken x) = number_of_fate x.fate
-number_took (what.Stopped x) = 0
+number_took (Ok x) = number_of_fate x.fate
+number_took (Err x) = 0
 
 unfoldable pub took_number : Carousel → (s image : List ℕ) → (budget : ℕ) → ℕ
 took_number c s image budget = cond (ruled_of c) (cond (eqb (whole_at s) 0 || eqb budget 0) 0 (given_number c (take (whole_at s) s) image)) 0

@@ -13,10 +13,10 @@ ghost use Rattle.receiver.specs.Run.{stopped_by, stop_at, given_of, image_given,
 ghost use Rattle.receiver.specs.Run.{number_of_fate, place_of_fate};
 ghost use Rattle.receiver.specs.Kinds.{kind_number, stop_number};
 
-use carousel_messages::{Judged, MOST_MODULES, judge_by};
-use carousel_record::{Carousel, head_of, is_ruled, joined, numbers_of, place_in};
+use carousel_messages::{Message, judge_by};
+use carousel_record::{Carousel, head_of, is_ruled, joined, numbers_of, slot_in};
 use carousel_step::{Answer, take_block};
-use section::{Checked, Refusal, Spot, whole_at};
+use section::{Refusal, whole_at};
 
 // Why a run stops.
 #[derive(Clone, Copy)]
@@ -28,16 +28,15 @@ pub enum Stop {
     State,
 }
 
-// What became of a section: a table, one of the carousel's answers, or a refusal.
+// What an accepted section was: a table, or what the carousel answered.
 #[derive(Clone, Copy)]
-pub enum Fate {
+pub enum Kind {
     Table,
-    New,
-    Same,
-    Stored,
-    Repeated,
-    Refused(Refusal),
+    Carousel(Answer),
 }
+
+// What became of a section: its kind, or its refusal.
+pub type Fate = Result<Kind, Refusal>;
 
 // A section that was taken.
 #[derive(Clone, Copy)]
@@ -46,16 +45,10 @@ pub struct Section {
     pub fate: Fate,
 }
 
-#[derive(Clone, Copy)]
-pub enum What {
-    Stopped(Stop),
-    Taken(Section),
-}
-
-// What stood at a place, beside the record after it: an enum may hold no array.
+// What stood at a place, a section or a stop, beside the record after it.
 #[derive(Clone, Copy)]
 pub struct Took {
-    pub what: What,
+    pub what: Result<Section, Stop>,
     pub state: Carousel,
 }
 
@@ -87,40 +80,31 @@ pub fn take(c: Carousel, stretch: &[u8], image: &mut [u8], budget: usize) -> Too
         × (image.new ≡ image_took c stretch.now image.old budget)
         × (number_took result.what ≡ took_number c stretch.now image.old budget) }
 {
-    if !carousel_record::is_ruled(c) {
+    if !is_ruled(c) {
         return stopped(c, Stop::State);
     }
-    let n = whole_at(stretch);
-    if n == 0 {
+    let Some(n) = whole_at(stretch) else {
         return stopped(c, stop_at(stretch));
-    }
+    };
     if budget == 0 {
         return stopped(c, stop_at(stretch));
     }
     let g = give(c, &stretch[..n], image);
-    let next = g.state;
-    let fate = g.fate;
     let section = Section {
         length: n,
-        fate: fate,
+        fate: g.fate,
     };
     Took {
-        what: What::Taken(section),
-        state: next,
+        what: Ok(section),
+        state: g.state,
     }
 }
 
 // What an answer of the carousel makes of a section.
-pub fn carousel_fate(a: Answer) -> Fate
+pub fn carousel_fate(a: Result<Answer, Refusal>) -> Fate
     ensures { result ≡ carousel_fate a }
 {
-    match a {
-        Answer::New => Fate::New,
-        Answer::Same => Fate::Same,
-        Answer::Stored => Fate::Stored,
-        Answer::Repeated => Fate::Repeated,
-        Answer::Refused(r) => Fate::Refused(r),
-    }
+    Ok(Kind::Carousel(a?))
 }
 
 // The paper's number of what became of a section; 0 where it was accepted.
@@ -128,26 +112,18 @@ pub fn fate_number(f: Fate) -> u8
     ensures { result ≡ number_of_fate f }
 {
     match f {
-        Fate::Table => 0,
-        Fate::New => 0,
-        Fate::Same => 0,
-        Fate::Stored => 0,
-        Fate::Repeated => 0,
-        Fate::Refused(r) => r.number,
+        Ok(_) => 0,
+        Err(r) => r.number,
     }
 }
 
 // Where it broke; nowhere if it was accepted.
-pub fn fate_place(f: Fate) -> Spot
+pub fn fate_place(f: Fate) -> Option<usize>
     ensures { result ≡ place_of_fate f }
 {
     match f {
-        Fate::Table => Spot::Nowhere,
-        Fate::New => Spot::Nowhere,
-        Fate::Same => Spot::Nowhere,
-        Fate::Stored => Spot::Nowhere,
-        Fate::Repeated => Spot::Nowhere,
-        Fate::Refused(r) => r.place,
+        Ok(_) => None,
+        Err(r) => r.place,
     }
 }
 
@@ -156,12 +132,12 @@ pub fn kind_number(f: Fate) -> u8
     ensures { result ≡ kind_number f }
 {
     match f {
-        Fate::Refused(_) => 0,
-        Fate::Table => 1,
-        Fate::New => 2,
-        Fate::Same => 3,
-        Fate::Stored => 4,
-        Fate::Repeated => 5,
+        Err(_) => 0,
+        Ok(Kind::Table) => 1,
+        Ok(Kind::Carousel(Answer::New)) => 2,
+        Ok(Kind::Carousel(Answer::Same)) => 3,
+        Ok(Kind::Carousel(Answer::Stored)) => 4,
+        Ok(Kind::Carousel(Answer::Repeated)) => 5,
     }
 }
 
@@ -193,29 +169,24 @@ pub fn run(c: Carousel, stretch: &[u8], image: &mut [u8], budget: usize) -> Ran
     let mut ms = c.modules;
     let mut numbers = numbers_of(ms);
     let mut marks = c.marks;
-    let mut taken: usize = 0;
     let mut passed: usize = 0;
-    while taken < budget {
+    for taken in 0..budget {
         let rest = &stretch[passed..];
-        let n = whole_at(rest);
-        if n == 0 {
+        let Some(n) = whole_at(rest) else {
             return ended(joined(h, ms, marks), taken, passed, stop_at(rest));
-        }
+        };
         let s = &rest[..n];
-        taken += 1;
         passed += n;
         let judged = hear(s, crc_tables::crc_by(&tables, s));
         match judged {
-            Judged::Refused(_) => {}
-            Judged::Carried(b) => {
-                let i = place_in(&numbers, h.count as usize, b.number);
-                // past the entries any will do: it is not looked at
-                let m = ms[i % MOST_MODULES];
-                let at = b.start;
-                let e = at + b.size;
-                take_block(h, i, m, b, &s[at..e], &mut marks, image);
+            Err(_) => {}
+            Ok(Message::Carried(b)) => {
+                let slot = slot_in(&numbers, &ms, h.count as usize, b.number);
+                let at = b.part.start;
+                let e = at + b.part.size;
+                let _ = take_block(h, slot, b, &s[at..e], &mut marks, image);
             }
-            Judged::Announced(_) => {
+            Ok(Message::Announced(_)) => {
                 let g = give(joined(h, ms, marks), s, image);
                 let next = g.state;
                 h = head_of(next);
@@ -227,7 +198,7 @@ pub fn run(c: Carousel, stretch: &[u8], image: &mut [u8], budget: usize) -> Ran
     }
     ended(
         joined(h, ms, marks),
-        taken,
+        budget,
         passed,
         stop_at(&stretch[passed..]),
     )
@@ -248,7 +219,7 @@ fn stopped(c: Carousel, stop: Stop) -> Took
     ensures { result ≡ stopped_by c stop }
 {
     Took {
-        what: What::Stopped(stop),
+        what: Err(stop),
         state: c,
     }
 }
@@ -277,18 +248,18 @@ fn stop_at(s: &[u8]) -> Stop
     if wire::byte_at(s, 0) == section::STUFFING {
         return Stop::Stuffing;
     }
-    if whole_at(s) == 0 {
-        return Stop::Short;
+    match whole_at(s) {
+        None => Stop::Short,
+        Some(_) => Stop::Budget,
     }
-    Stop::Budget
 }
 
 // What a section is to the carousel, by the register that it leaves. A table is read as everywhere; what it says is no part of a run.
-fn hear(s: &[u8], register: u32) -> Judged
+fn hear(s: &[u8], register: u32) -> Result<Message, Refusal>
     ensures { result ≡ judged_by register s.now }
 {
     if wire::byte_at(s, 0) == section::APPLICATION_TABLE {
-        table_fate(s, register);
+        let _ = table_fate(s, register);
     }
     judge_by(s, register)
 }
@@ -305,21 +276,15 @@ fn give(c: Carousel, s: &[u8], image: &mut [u8]) -> Given
         };
     }
     let st = carousel_step::step(c, s, image);
-    let next = st.state;
-    let answer = st.answer;
-    let fate = carousel_fate(answer);
     Given {
-        fate: fate,
-        state: next,
+        fate: carousel_fate(st.answer),
+        state: st.state,
     }
 }
 
 fn table_fate(s: &[u8], register: u32) -> Fate
     ensures { result ≡ judged_fate (table_judged_by register s.now) }
 {
-    let judged = ait_read::judge_by(s, register);
-    match judged {
-        Checked::Refused(r) => Fate::Refused(r),
-        Checked::Accepted(_) => Fate::Table,
-    }
+    ait_read::judge_by(s, register)?;
+    Ok(Kind::Table)
 }

@@ -9,8 +9,6 @@ use lib.ListN.{length, take, drop, length-take, length-append}
 use lib.Seq.{sets}
 use Rattle.wire.specs.Fields.{byte_at, sixteen_at}
 use Rattle.wire.proofs.Laws.Fields.{bits_lt}
-use Rattle.section.specs.declared.Spot.{Spot}
-use Rattle.section.specs.declared.Spot.TheVariants.{Nowhere, Byte}
 use Rattle.section.specs.declared.Refusal.{Refusal}
 use Rattle.section.proofs.Laws.Places.{told-byte}
 use Rattle.text.specs.Text.{codes, reached, decimal}
@@ -19,13 +17,16 @@ use Rattle.carousel_record.specs.declared.Carousel.{Carousel}
 use Rattle.carousel_record.specs.Changes.{empty_record}
 use Rattle.receiver.specs.declared.Stop.{Stop}
 use Rattle.receiver.specs.declared.Stop.TheVariants as stop
-use Rattle.receiver.specs.declared.Fate.{Fate}
-use Rattle.receiver.specs.declared.Fate.TheVariants as fate
 use Rattle.section.specs.Whole.{said_length, is_short, whole_at}
 use Rattle.receiver.specs.Run.{rules_of, number_of_fate, place_of_fate, given_of, image_given, run_of, fates_of}
 use Rattle.receiver.proofs.Laws.Refusals.{take-known, take-told}
 use Rattle.receiver.proofs.Runs.{fates-counted, taken-most, taken_third}
 use Rattle.report.specs.Report.{kind_name, stop_name, place_field, header, line_of, lines_from, last_line, budget, printed}
+use Rattle.std.proofs.Common.{Ok, Err, Some, None}
+use Rattle.section.specs.Refusals.{Spot}
+use Rattle.receiver.specs.Run.{Fate}
+use Rattle.receiver.specs.declared.Kind.TheVariants as kind
+use Rattle.carousel_step.specs.declared.Answer.TheVariants as answer
 
 -- the longest stop is "stuffing"
 stop-most : (x : Stop) → length (last_line x) ≤ 14
@@ -41,11 +42,11 @@ stop-most stop.State = omega arith
 abbrev Short : Fate → Type 0
 Short f = length (decimal (number_of_fate f)) + length (kind_name f) + length (place_field (place_of_fate f)) ≤ 10
 
-refused-short : (r : Refusal) → r.number ≤ 18 → ((p : ℕ) → r.place ≡ Byte p → (r.number < 7) × (p < 10000)) → (p : Spot) → r.place ≡ p
+refused-short : (r : Refusal) → r.number ≤ 18 → ((p : ℕ) → r.place ≡ Some p → (r.number < 7) × (p < 10000)) → (p : Spot) → r.place ≡ p
     → length (decimal r.number) + length (codes "none") + length (place_field p) ≤ 10
 unfolding place_field
-refused-short r h k Nowhere e = let d = decimal-short 1 r.number (omega arith) in omega arith
-refused-short r h k (Byte p) e =
+refused-short r h k None e = let d = decimal-short 1 r.number (omega arith) in omega arith
+refused-short r h k (Some p) e =
     let w = k p e in
     let d = decimal-short 0 r.number (omega (arith, w.0)) in
     let q = decimal-short 3 p (omega (arith, w.1)) in
@@ -57,12 +58,12 @@ unfolding kind_name place_field
 fate-short c s image h = let z = decimal-short 0 0 (omega arith) in go z (given_of c s image).fate refl
   where
     go : length (decimal 0) ≤ 1 → (f : Fate) → (given_of c s image).fate ≡ f → Short f
-    go z fate.Table e = omega arith
-    go z fate.New e = omega arith
-    go z fate.Same e = omega arith
-    go z fate.Stored e = omega arith
-    go z fate.Repeated e = omega arith
-    go z (fate.Refused r) e =
+    go z (Ok kind.Table) e = omega arith
+    go z (Ok (kind.Carousel answer.New)) e = omega arith
+    go z (Ok (kind.Carousel answer.Same)) e = omega arith
+    go z (Ok (kind.Carousel answer.Stored)) e = omega arith
+    go z (Ok (kind.Carousel answer.Repeated)) e = omega arith
+    go z (Err r) e =
         let n = ap number_of_fate e in
         let m = take-known c s image in
         let t = take-told c s image r e in

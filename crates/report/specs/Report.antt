@@ -1,24 +1,24 @@
 -- THE PROGRAM'S TEXT. 01, "The run": "It prints the header below, one line for each section taken, index from 0, then the stop."
 -- 02, §9: "the run's printed line included as a fourth column, "place", empty for other answers".
-use Rattle.std.specs.Prelude.{ℕ, suc, List, [], ◌∷◌, ◌++◌}
-use Rattle.section.specs.declared.Spot.{Spot}
-use Rattle.section.specs.declared.Spot.TheVariants.{Nowhere, Byte}
+use Rattle.std.specs.Prelude.{Ok, Err, Some, None, ℕ, suc, List, [], ◌∷◌, ◌++◌}
 use Rattle.text.specs.Text.{codes, decimal}
 use Rattle.carousel_record.specs.Changes.{empty_record}
 use Rattle.receiver.specs.declared.Stop.{Stop}
 use Rattle.receiver.specs.declared.Stop.TheVariants as stop
-use Rattle.receiver.specs.declared.Fate.{Fate}
-use Rattle.receiver.specs.declared.Fate.TheVariants as fate
 use Rattle.receiver.specs.Run.{number_of_fate, place_of_fate, fates_of, run_of}
+use Rattle.section.specs.Refusals.{Spot}
+use Rattle.receiver.specs.Run.{Fate}
+use Rattle.receiver.specs.declared.Kind.TheVariants as kind
+use Rattle.carousel_step.specs.declared.Answer.TheVariants as answer
 
 -- the kind's name: "kind "table" when accepted", "new", "same", "stored", "repeated"; "A refused section's kind is "none"."
 unfoldable pub kind_name : Fate → List ℕ
-kind_name fate.Table = codes "table"
-kind_name fate.New = codes "new"
-kind_name fate.Same = codes "same"
-kind_name fate.Stored = codes "stored"
-kind_name fate.Repeated = codes "repeated"
-kind_name (fate.Refused r) = codes "none"
+kind_name (Ok kind.Table) = codes "table"
+kind_name (Ok (kind.Carousel answer.New)) = codes "new"
+kind_name (Ok (kind.Carousel answer.Same)) = codes "same"
+kind_name (Ok (kind.Carousel answer.Stored)) = codes "stored"
+kind_name (Ok (kind.Carousel answer.Repeated)) = codes "repeated"
+kind_name (Err r) = codes "none"
 
 -- the stop's name
 unfoldable pub stop_name : Stop → List ℕ
@@ -30,8 +30,8 @@ stop_name stop.State = codes "state"
 
 -- "a fourth column, "place", empty for other answers": the byte where the section broke, the comma before it
 unfoldable pub place_field : Spot → List ℕ
-place_field Nowhere = codes ","
-place_field (Byte p) = codes "," ++ decimal p
+place_field None = codes ","
+place_field (Some p) = codes "," ++ decimal p
 
 -- "the header below"
 abbrev pub header : List ℕ

@@ -9,8 +9,7 @@ ghost use Rattle.carousel_record.specs.Changes.{empty_record};
 ghost use Rattle.receiver.specs.Run.{image_ran};
 ghost use Rattle.report.specs.Report.{budget, printed, place_field, line_of, last_line};
 
-use receiver::{Fate, Stop, What};
-use section::Spot;
+use receiver::{Fate, Stop};
 
 // The sections that the program takes at most.
 const BUDGET: usize = 65_536;
@@ -31,16 +30,13 @@ pub fn write_report(stretch: &[u8], image: &mut [u8], out: &mut [u8]) -> usize
     let mut passed: usize = 0;
     loop {
         let took = receiver::take(c, &stretch[passed..], image, BUDGET - index);
-        let what = took.what;
-        match what {
-            What::Stopped(stop) => {
+        match took.what {
+            Err(stop) => {
                 return put_stop(out, at, stop);
             }
-            What::Taken(section) => {
-                let n = section.length;
-                let fate = section.fate;
-                at = put_line(out, at, index, fate);
-                passed += n;
+            Ok(section) => {
+                at = put_line(out, at, index, section.fate);
+                passed += section.length;
             }
         }
         c = took.state;
@@ -64,12 +60,12 @@ fn put_line(out: &mut [u8], at: usize, index: usize, fate: Fate) -> usize
 }
 
 // The last field, its comma before it: the byte where a section broke, or nothing.
-fn put_place(out: &mut [u8], at: usize, place: Spot) -> usize
+fn put_place(out: &mut [u8], at: usize, place: Option<usize>) -> usize
     ensures { (out.new ≡ sets out.old at (place_field place)) × (result ≡ reached at (length (place_field place)) (length out.old)) }
 {
     match place {
-        Spot::Nowhere => text::put(out, at, b","),
-        Spot::Byte(p) => {
+        None => text::put(out, at, b","),
+        Some(p) => {
             let end = text::put(out, at, b",");
             text::put_decimal(out, end, p as u64)
         }

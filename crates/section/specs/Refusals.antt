@@ -1,11 +1,9 @@
 -- Refusals 2 to 6, one test for each row of the paper's table. 01, "Numbers a call may answer".
-use Rattle.std.specs.Prelude.{ℕ, ◌+◌, ◌-◌, ◌≤◌, ◌<◌, ◌≡◌, Bool, true, not, cond, ◌||◌, List, [], ◌∷◌, ltb, eqb, length}
+use Rattle.std.specs.Prelude.{Option, Some, None, ℕ, ◌+◌, ◌-◌, ◌≤◌, ◌<◌, ◌≡◌, Bool, true, not, cond, ◌||◌, List, [], ◌∷◌, ltb, eqb, length}
 use Rattle.wire.specs.Tests.{Tests, first_met}
 use Rattle.section.specs.Crc.{crc_of}
 use Rattle.section.specs.Header.{table_of, syntax_of, length_of, current_of, section_of, last_of, is_table, limit_of}
 use Rattle.section.specs.declared.Rules.{Rules}
-use Rattle.section.specs.declared.Spot.{Spot}
-use Rattle.section.specs.declared.Spot.TheVariants.{Nowhere, Byte}
 
 -- 2: "under 3 bytes, or not 3 + L"
 unfoldable pub meets2 : List ℕ → Bool
@@ -47,14 +45,17 @@ refusal_of rules s = refusal_by (crc_of s) rules s
 
 -- WHERE IT BROKE. 02, §9: "Refusals 2 to 6 now carry a place: 2 the lent length; 3 zero; 4 one, or six where only the section numbers are wrong; 5 the first CRC byte; 6 five."
 -- A place is a byte, counted from the section's first. No other number has one.
+abbrev pub Spot : Type 0
+Spot = Option ℕ
+
 unfoldable pub spot_of : Rules → List ℕ → (number : ℕ) → Spot
 spot_of rules s n =
-    cond (eqb n 2) (Byte (length s))
-    (cond (eqb n 3) (Byte 0)
-    (cond (eqb n 4) (Byte (cond (misframed rules s) 1 6))
-    (cond (eqb n 5) (Byte (length s - 4))
-    (cond (eqb n 6) (Byte 5)
-    Nowhere))))
+    cond (eqb n 2) (Some (length s))
+    (cond (eqb n 3) (Some 0)
+    (cond (eqb n 4) (Some (cond (misframed rules s) 1 6))
+    (cond (eqb n 5) (Some (length s - 4))
+    (cond (eqb n 6) (Some 5)
+    None))))
 
 -- An accepted section as a reader would say it: every clause of the paper, none of them a test.
 pub record GoodSection (rules : Rules) (s : List ℕ) : Type 0 where
@@ -70,13 +71,13 @@ pub record GoodSection (rules : Rules) (s : List ℕ) : Type 0 where
 
 -- And where it broke as a reader would say it, number by number, none of it a test: `p` is the place of the number n.
 pub record Placed (rules : Rules) (s : List ℕ) (n : ℕ) (p : Spot) : Type 0 where
-  pub two : n ≡ 2 → p ≡ Byte (length s)
-  pub three : n ≡ 3 → p ≡ Byte 0
-  pub four-short : n ≡ 4 → length_of s < 9 → p ≡ Byte 1
-  pub four-long : n ≡ 4 → limit_of rules < length_of s → p ≡ Byte 1
-  pub four-syntax : n ≡ 4 → syntax_of s ≡ 0 → p ≡ Byte 1
-  pub four-numbers : n ≡ 4 → 9 ≤ length_of s → length_of s ≤ limit_of rules → syntax_of s ≡ 1 → p ≡ Byte 6
-  pub five : n ≡ 5 → p ≡ Byte (length s - 4)
-  pub six : n ≡ 6 → p ≡ Byte 5
-  pub below : n < 2 → p ≡ Nowhere
-  pub above : 6 < n → p ≡ Nowhere
+  pub two : n ≡ 2 → p ≡ Some (length s)
+  pub three : n ≡ 3 → p ≡ Some 0
+  pub four-short : n ≡ 4 → length_of s < 9 → p ≡ Some 1
+  pub four-long : n ≡ 4 → limit_of rules < length_of s → p ≡ Some 1
+  pub four-syntax : n ≡ 4 → syntax_of s ≡ 0 → p ≡ Some 1
+  pub four-numbers : n ≡ 4 → 9 ≤ length_of s → length_of s ≤ limit_of rules → syntax_of s ≡ 1 → p ≡ Some 6
+  pub five : n ≡ 5 → p ≡ Some (length s - 4)
+  pub six : n ≡ 6 → p ≡ Some 5
+  pub below : n < 2 → p ≡ None
+  pub above : 6 < n → p ≡ None

@@ -6,7 +6,9 @@
 
 mod register;
 
-ghost use Rattle.std.specs.Prelude.{◌≡◌, not, cond, ◌≤◌, length};
+ghost use Rattle.std.specs.Prelude.{◌≡◌, not, cond, ◌≤◌, length, IfSome};
+ghost use Rattle.wire.specs.Items.{sized};
+ghost use Rattle.wire.specs.Outcomes.{passed};
 ghost use Rattle.section.specs.Header.{is_table, limit_of, header_of};
 ghost use Rattle.section.specs.Refusals.{refusal_by, refusal_of, misframed, spot_of};
 ghost use Rattle.section.specs.Whole.{whole_at};
@@ -48,18 +50,12 @@ pub enum Rules {
     Carousel,
 }
 
-// Where a section broke: a byte, counted from its first.
-#[derive(Clone, Copy)]
-pub enum Spot {
-    Nowhere,
-    Byte(usize),
-}
-
-// A refusal: its number in the paper and, for 2 to 6, its place. Callers hand it on as it is.
+// A refusal: its number in the paper and, for 2 to 6, its place, where the section broke: a byte, counted from its first. Callers hand it
+// on as it is.
 #[derive(Clone, Copy)]
 pub struct Refusal {
     pub number: u8,
-    pub place: Spot,
+    pub place: Option<usize>,
 }
 
 // The fields of an accepted section's header.
@@ -72,75 +68,68 @@ pub struct Header {
     pub last: u8,
 }
 
-#[derive(Clone, Copy)]
-pub enum Checked {
-    Refused(Refusal),
-    Accepted(Header),
-}
-
 // Whether `s` is one whole section by these rules.
-pub fn check(s: &[u8], rules: Rules) -> Checked
+pub fn check(s: &[u8], rules: Rules) -> Result<Header, Refusal>
     ensures { (result ≡ checked_of rules s.now) × (number_of_checked result ≡ refusal_of rules s.now) }
 {
     check_by(s, rules, crc(s))
 }
 
-// The length of the section that a stretch begins with; 0 where it begins with no whole one.
-pub fn whole_at(s: &[u8]) -> usize
-    ensures { (result ≡ whole_at s.now) × (result ≤ length s.now) }
+// The length of the section that a stretch begins with, if it begins with a whole one.
+pub fn whole_at(s: &[u8]) -> Option<usize>
+    ensures { (result ≡ sized (whole_at s.now)) × IfSome result (λ n. n ≤ length s.now) }
 {
     if s.len() < UP_TO_LENGTH {
-        return 0;
+        return None;
     }
     if wire::byte_at(s, 0) == STUFFING {
-        return 0;
+        return None;
     }
     let n = UP_TO_LENGTH + wire::twelve_at(s, 1);
     if s.len() < n {
-        return 0;
+        return None;
     }
-    n
+    Some(n)
 }
 
 // The same for whoever has the register already: what `s` leaves, or any other number.
-pub fn check_by(s: &[u8], rules: Rules, register: u32) -> Checked
+pub fn check_by(s: &[u8], rules: Rules, register: u32) -> Result<Header, Refusal>
     ensures { (result ≡ checked_by register rules s.now) × (number_of_checked result ≡ refusal_by register rules s.now) }
 {
-    let number = refusal_number(s, rules, register);
-    if number != 0 {
+    if let Err(number) = judge(s, rules, register) {
         let place = spot_of(s, rules, number);
-        return Checked::Refused(Refusal { number, place });
+        return Err(Refusal { number, place });
     }
-    Checked::Accepted(header_of(s))
+    Ok(header_of(s))
 }
 
-// The number that answers `s`, and 0 where it is accepted.
-fn refusal_number(s: &[u8], rules: Rules, register: u32) -> u8
-    ensures { result ≡ refusal_by register rules s.now }
+// The number that refuses `s`, if one does.
+fn judge(s: &[u8], rules: Rules, register: u32) -> Result<(), u8>
+    ensures { result ≡ passed (refusal_by register rules s.now) }
 {
     if s.len() < 3 {
-        return 2;
+        return Err(2);
     }
     let length = wire::twelve_at(s, 1);
     if s.len() != 3 + length {
-        return 2;
+        return Err(2);
     }
     if !has_table(rules, s[0]) {
-        return 3;
+        return Err(3);
     }
     if !is_framed(s, rules) {
-        return 4;
+        return Err(4);
     }
     if s[7] < s[6] {
-        return 4;
+        return Err(4);
     }
     if register != 0 {
-        return 5;
+        return Err(5);
     }
     if s[5] & 1 == 0 {
-        return 6;
+        return Err(6);
     }
-    0
+    Ok(())
 }
 
 // Whether L is within these rules' limits, and the syntax indicator is 1.
@@ -161,17 +150,17 @@ fn is_framed(s: &[u8], rules: Rules) -> bool
 }
 
 // Where a section broke that is refused with this number.
-fn spot_of(s: &[u8], rules: Rules, number: u8) -> Spot
+fn spot_of(s: &[u8], rules: Rules, number: u8) -> Option<usize>
     requires { number ≡ 5 → 4 ≤ length s.now }
     ensures { result ≡ spot_of rules s.now number }
 {
     match number {
-        2 => Spot::Byte(s.len()),
-        3 => Spot::Byte(0),
-        4 => Spot::Byte(header_spot(s, rules)),
-        5 => Spot::Byte(s.len() - CRC_SIZE),
-        6 => Spot::Byte(CURRENT_AT),
-        _ => Spot::Nowhere,
+        2 => Some(s.len()),
+        3 => Some(0),
+        4 => Some(header_spot(s, rules)),
+        5 => Some(s.len() - CRC_SIZE),
+        6 => Some(CURRENT_AT),
+        _ => None,
     }
 }
 

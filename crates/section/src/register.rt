@@ -9,10 +9,8 @@ pub fn crc(s: &[u8]) -> u32
     ensures { result ≡ crc_of s.now }
 {
     let mut r: u32 = 0xFFFF_FFFF;
-    let mut i = 0;
-    while i < s.len() {
-        r = with_byte(r, s[i]);
-        i += 1;
+    for b in s {
+        r = with_byte(r, *b);
     }
     r
 }
@@ -23,9 +21,7 @@ fn with_byte(r: u32, b: u8) -> u32
 {
     let byte = b as u32;
     let mut x = r;
-    let mut n: u32 = 8;
-    while 0 < n {
-        n -= 1;
+    for n in (0..8u32).rev() {
         x = with_bit(x, (byte >> n) & 1);
     }
     x

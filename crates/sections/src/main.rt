@@ -7,11 +7,10 @@
 
 mod totals;
 
-ghost use Rattle.std.specs.Prelude.{◌≡◌, ◌≤◌, length};
+ghost use Rattle.std.specs.Prelude.{◌≤◌, ◌<◌, IfSome, length};
 
 use std::env::Env;
 use std::io::Read;
-use text::Said;
 use totals::{KINDS, add, tell};
 use transport::STATE_LENGTH;
 
@@ -27,8 +26,8 @@ const ROOM: usize = 131_072;
 // No greater number is said than the most: the remainder only spares the proof of that.
 fn main(rt: HostRuntime) {
     match asked(&rt) {
-        Said::Nothing => usage(&rt.stderr()),
-        Said::Number(n) => {
+        None => usage(&rt.stderr()),
+        Some(n) => {
             let pid = (n % (MOST_PID + 1)) as u16;
             take_apart(&mut rt.stdin(), &rt.stdout(), &rt.stderr(), pid)
         }
@@ -36,30 +35,27 @@ fn main(rt: HostRuntime) {
 }
 
 // The PID that the program's one argument says.
-fn asked(env: &impl Env) -> Said {
+fn asked(env: &impl Env) -> Option<u32> {
     if streams::argument_count(env) != 2 {
-        return Said::Nothing;
+        return None;
     }
-    let mut argument = streams::buffer();
-    match streams::argument(env, 1, &mut argument) {
-        Some(n) => text::read_decimal(&argument[..n], MOST_PID),
-        None => Said::Nothing,
-    }
+    let mut argument = [0; streams::PATH];
+    let n = streams::argument(env, 1, &mut argument)?;
+    text::read_decimal(&argument[..n], MOST_PID)
 }
 
 fn usage(log: &impl Print) {
     let _ = log.write_all(b"usage: sections PID\n");
 }
 
-// A proved loop has to end, and nothing says that the input does: it counts its turns down from a number
-// that no run uses up.
+// A proved loop has to end, and nothing says that the input does: it counts its turns up to a number that no
+// run comes to.
 fn take_apart<R: Read, P: Print, L: Print>(input: &mut R, output: &P, log: &L, pid: u16) {
-    let mut stretch = stretch_room();
-    let mut state = first_state();
-    let mut out = out_room();
+    let mut stretch = [0; STRETCH];
+    let mut state = [0; STATE_LENGTH];
+    let mut out = [0; ROOM];
     let mut counts = [0usize; KINDS];
-    let mut turns = u64::MAX;
-    while turns > 0 {
+    for _ in 0..u64::MAX {
         let n = streams::read_full(input, &mut stretch);
         if !pass(
             output,
@@ -75,7 +71,6 @@ fn take_apart<R: Read, P: Print, L: Print>(input: &mut R, output: &P, log: &L, p
             tell(log, &counts);
             return;
         }
-        turns -= 1;
     }
 }
 
@@ -91,17 +86,16 @@ fn pass(
 ) -> bool {
     let mut at: usize = 0;
     while at < stretch.len() {
-        let n = pass_some(output, pid, &stretch[at..], state, out, counts);
-        if n == 0 {
+        let Some(n) = pass_some(output, pid, &stretch[at..], state, out, counts) else {
             return false;
-        }
+        };
         at += n;
     }
     true
 }
 
-// As many packets as `out` has room for what becomes whole, which is written. Answers their bytes; 0 where
-// the output is closed.
+// As many packets as `out` has room for what becomes whole, which is written. Answers their bytes, if there
+// are any and the output is not closed.
 fn pass_some(
     output: &impl Print,
     pid: u16,
@@ -109,33 +103,16 @@ fn pass_some(
     state: &mut [u8],
     out: &mut [u8],
     counts: &mut [usize],
-) -> usize
-    ensures { result ≤ length stretch.now }
+) -> Option<usize>
+    ensures { IfSome result (λ n. (0 < n) × (n ≤ length stretch.now)) }
 {
-    let gathered = transport::gather(pid, stretch, state, out);
+    let gathered = transport::gather(pid, stretch, state, out).ok()?;
     add(counts, gathered.counts);
-    let size = wire::lesser(gathered.size, out.len());
-    if output.write_all(&out[..size]).is_err() {
-        return 0;
+    let size = gathered.size.min(out.len());
+    output.write_all(&out[..size]).ok()?;
+    let passed = gathered.passed.min(stretch.len());
+    if passed == 0 {
+        return None;
     }
-    wire::lesser(gathered.passed, stretch.len())
-}
-
-// Zeros. The `ensures` of these three gives only the length, which lending the array needs.
-fn stretch_room() -> [u8; STRETCH]
-    ensures { 65612 ≡ length result }
-{
-    [0; STRETCH]
-}
-
-fn first_state() -> [u8; STATE_LENGTH]
-    ensures { 4287 ≡ length result }
-{
-    [0; STATE_LENGTH]
-}
-
-fn out_room() -> [u8; ROOM]
-    ensures { 131072 ≡ length result }
-{
-    [0; ROOM]
+    Some(passed)
 }

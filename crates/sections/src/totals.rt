@@ -17,32 +17,21 @@ pub fn add(counts: &mut [usize], c: Counts) {
         c.refused42,
         c.refused43,
     ];
-    let mut i: usize = 0;
-    while i < counts.len() {
-        counts[i] = sum(counts[i], more[i % KINDS]);
-        i += 1;
+    // A count that has come to the most stays there.
+    for (count, n) in counts.iter_mut().zip(more) {
+        *count = count.saturating_add(n);
     }
-}
-
-// A count that has come to the most stays there.
-fn sum(m: usize, n: usize) -> usize {
-    if usize::MAX - m < n {
-        return usize::MAX;
-    }
-    m + n
 }
 
 // One line, in one write, on standard error.
 pub fn tell(log: &impl Print, counts: &[usize]) {
     let mut line = [0u8; LINE];
     let mut end: usize = 0;
-    let mut i: usize = 0;
-    while i < counts.len() {
-        end = put_count(&mut line, end, i, counts[i]);
-        i += 1;
+    for (i, count) in counts.iter().enumerate() {
+        end = put_count(&mut line, end, i, *count);
     }
     end = text::put(&mut line, end, b"\n");
-    let size = wire::lesser(end, LINE);
+    let size = end.min(LINE);
     let _ = log.write_all(&line[..size]);
 }
 

@@ -1,26 +1,20 @@
 // Standard input and the program's arguments, as bytes in fixed buffers.
 #![tactic(auto)]
 
-ghost use Rattle.std.specs.Prelude.{◌≡◌, ◌≤◌, length, take, IfSome};
+mod cases;
+
+ghost use Rattle.std.specs.Prelude.{◌≤◌, length, take, IfSome};
 ghost use Rattle.std.specs.Io.KnownBytes.{Consumes};
 
+pub use cases::Cases;
 use std::env::{Env, FillError};
 use std::io::Read;
 
-// 4,096 zeros, which hold any path. The `ensures` of these two gives only the length, which lending
-// the array needs.
-pub fn buffer() -> [u8; 4096]
-    ensures { 4096 ≡ length result }
-{
-    [0; 4096]
-}
+// The room of a buffer that holds any path.
+pub const PATH: usize = 4096;
 
-// 65,536 zeros.
-pub fn large_buffer() -> [u8; 65536]
-    ensures { 65536 ≡ length result }
-{
-    [0; 65536]
-}
+// The room of a large buffer.
+pub const LARGE: usize = 65_536;
 
 // Reads until `buf` is full, the input ends or a read fails, and answers how many bytes it put at the
 // start of `buf`. A call that a signal interrupts counts as one that failed.

@@ -27,8 +27,7 @@ pub fn print_described(rt: &impl Print, s: &[u8], d: Described) -> io::Result<()
 fn print_raw(rt: &impl Print, s: &[u8], x: Raw) -> io::Result<()> {
     rt.write_all(b" raw")?;
     print_number(rt, x.tag as u64)?;
-    let contents = x.contents;
-    print_span(rt, s, contents)
+    print_span(rt, s, x.contents)
 }
 
 pub fn print_item(rt: &impl Print, s: &[u8], x: Item) -> io::Result<()> {

@@ -13,6 +13,5 @@ pub fn print_name(rt: &impl Print, s: &[u8], n: Name) -> io::Result<()> {
     print_number(rt, n.first as u64)?;
     print_number(rt, n.second as u64)?;
     print_number(rt, n.third as u64)?;
-    let text = n.text;
-    print_span(rt, s, text)
+    print_span(rt, s, n.text)
 }

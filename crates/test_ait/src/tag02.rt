@@ -1,7 +1,7 @@
 // What is printed of a 0x02, a base and its extensions.
 use crate::print::*;
 use ait_descriptors::{Base, Bases, Local, Remote, Selector};
-use ait_read::{ExtensionAnswer, Scope};
+use ait_read::Scope;
 use std::io;
 
 pub fn print_local(rt: &impl Print, x: Local) -> io::Result<()> {
@@ -29,14 +29,12 @@ pub fn print_selector(rt: &impl Print, s: &[u8], x: Selector) -> io::Result<()> 
     rt.write_all(b" selector")?;
     print_number(rt, x.protocol as u64)?;
     print_number(rt, x.label as u64)?;
-    let selector = x.selector;
-    print_span(rt, s, selector)
+    print_span(rt, s, x.selector)
 }
 
 pub fn print_base(rt: &impl Print, s: &[u8], b: Base) -> io::Result<()> {
     rt.write_all(b"base")?;
-    let text = b.text;
-    print_span(rt, s, text)?;
+    print_span(rt, s, b.text)?;
     print_number(rt, b.extensions as u64)
 }
 
@@ -47,20 +45,15 @@ pub fn print_extensions(
     j: usize,
     k: usize,
 ) -> io::Result<()> {
-    let mut m: usize = 0;
-    while m < 1024 {
+    for m in 0..1024 {
         match ait_read::extension_at(s, scope, j, k, m) {
-            ExtensionAnswer::Refused(r) => {
-                print_end(rt, r)?;
-                return Ok(());
-            }
-            ExtensionAnswer::Found(x) => {
+            Err(r) => return print_end(rt, r),
+            Ok(x) => {
                 rt.write_all(b"extension")?;
                 print_span(rt, s, x)?;
                 rt.write_all(b"\n")?;
             }
         }
-        m += 1;
     }
     Ok(())
 }

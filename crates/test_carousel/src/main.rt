@@ -14,11 +14,10 @@
 
 ghost use Rattle.std.specs.Prelude.{◌≤◌};
 
-use carousel_handout::Report;
 use carousel_messages::{MOST_BYTES, MOST_MODULES};
 use carousel_record::{Carousel, MARK_WORDS, Module};
 use carousel_step::Answer;
-use section::{Refusal, Spot};
+use section::Refusal;
 use std::io;
 
 // Room for the largest image, and some bytes more.
@@ -32,7 +31,7 @@ struct Kept {
 }
 
 fn main(rt: HostRuntime) -> io::Result<()> {
-    let mut buffer = streams::large_buffer();
+    let mut buffer = [0; streams::LARGE];
     let n = streams::read_full(&mut rt.stdin(), &mut buffer);
     let mut memory = [0u8; MEMORY];
     follow(&rt, &buffer[..n], &mut memory)
@@ -132,14 +131,8 @@ fn start(rt: &impl Print, s: &[u8], memory: &mut [u8]) -> io::Result<Kept> {
 }
 
 fn fill(memory: &mut [u8], n: usize, value: u8) {
-    let mut i: usize = 0;
-    while i < memory.len() {
-        if n <= i {
-            return;
-        }
-        memory[i] = value;
-        i += 1;
-    }
+    let end = n.min(memory.len());
+    memory[..end].fill(value);
 }
 
 fn lengthened(rt: &impl Print, record: Carousel, s: &[u8], memory: &[u8]) -> io::Result<Kept> {
@@ -234,21 +227,21 @@ fn take(
 }
 
 // The number and the kind.
-fn print_answer(rt: &impl Print, a: Answer) -> io::Result<()> {
+fn print_answer(rt: &impl Print, a: Result<Answer, Refusal>) -> io::Result<()> {
     match a {
-        Answer::New => {
+        Ok(Answer::New) => {
             rt.write_all(b" 0 new")?;
         }
-        Answer::Same => {
+        Ok(Answer::Same) => {
             rt.write_all(b" 0 same")?;
         }
-        Answer::Stored => {
+        Ok(Answer::Stored) => {
             rt.write_all(b" 0 stored")?;
         }
-        Answer::Repeated => {
+        Ok(Answer::Repeated) => {
             rt.write_all(b" 0 repeated")?;
         }
-        Answer::Refused(r) => {
+        Err(r) => {
             print_refusal(rt, r)?;
             rt.write_all(b" none")?;
         }
@@ -259,8 +252,7 @@ fn print_answer(rt: &impl Print, a: Answer) -> io::Result<()> {
 // A refusal's number and, where it has one, its place: 5@12.
 fn print_refusal(rt: &impl Print, r: Refusal) -> io::Result<()> {
     print_number(rt, r.number as u64)?;
-    let place = r.place;
-    if let Spot::Byte(p) = place {
+    if let Some(p) = r.place {
         print!(rt; "@{p}")?;
     }
     Ok(())
@@ -273,26 +265,31 @@ fn hand_out(rt: &impl Print, c: Carousel, n: usize, s: &[u8], memory: &[u8]) -> 
     let image = &memory[0..n];
     let number = wire::sixteen_at(s, 1);
     rt.write_all(b"handout")?;
-    print_number(
-        rt,
-        carousel_handout::handout_number(c, image, number) as u64,
-    )?;
+    print_number(rt, handout_number(c, image, number) as u64)?;
     let part = carousel_handout::handout(c, image, number);
     print_number(rt, part.len() as u64)?;
     print_digest(rt, digest(part))?;
     rt.write_all(b"\n")
 }
 
+// The number of a hand-out's refusal, 0 for none.
+fn handout_number(c: Carousel, image: &[u8], number: u16) -> u8 {
+    match carousel_handout::handout_place(c, image, number) {
+        Ok(_) => 0,
+        Err(r) => r.number,
+    }
+}
+
 fn report(rt: &impl Print, c: Carousel, s: &[u8]) -> io::Result<()> {
     rt.write_all(b"missing")?;
     match carousel_handout::missing(c, wire::sixteen_at(s, 1)) {
-        Report::Refused(r) => {
+        Err(r) => {
             print_number(rt, r.number as u64)?;
         }
-        Report::Whole => {
+        Ok(None) => {
             rt.write_all(b" 0 none")?;
         }
-        Report::Lacking(l) => {
+        Ok(Some(l)) => {
             print_number(rt, 0)?;
             print_number(rt, l.count as u64)?;
             print_number(rt, l.lowest as u64)?;
@@ -322,10 +319,8 @@ fn mixed_word(d: u32, w: u32) -> u32 {
 
 fn digest(s: &[u8]) -> u32 {
     let mut d: u32 = 0;
-    let mut i: usize = 0;
-    while i < s.len() {
-        d = mixed(d, wire::byte_at(s, i) as u16);
-        i += 1;
+    for b in s {
+        d = mixed(d, *b as u16);
     }
     d
 }
@@ -340,11 +335,8 @@ fn record_digest(c: Carousel) -> u32 {
 
 fn modules_digest(from: u32, c: Carousel) -> u32 {
     let mut d = from;
-    let mut i: usize = 0;
-    while i < MOST_MODULES {
-        let m = c.modules[i];
-        d = module_digest(d, m);
-        i += 1;
+    for i in 0..MOST_MODULES {
+        d = module_digest(d, c.modules[i]);
     }
     d
 }
@@ -358,10 +350,8 @@ fn module_digest(from: u32, m: Module) -> u32 {
 
 fn marks_digest(from: u32, c: Carousel) -> u32 {
     let mut d = from;
-    let mut i: usize = 0;
-    while i < MARK_WORDS {
+    for i in 0..MARK_WORDS {
         d = mixed_word(d, c.marks[i]);
-        i += 1;
     }
     d
 }

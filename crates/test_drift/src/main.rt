@@ -6,25 +6,23 @@
 // says what must come out.
 #![tactic(auto)]
 
-ghost use Rattle.std.specs.Prelude.{◌≡◌, ◌≤◌, length};
+ghost use Rattle.std.specs.Prelude.{◌≤◌, length};
 
-use drift_list::{FixAnswer, Reading, State, Written};
+use drift_list::{Fix, State};
 use std::io;
 
 const CASE: usize = 128;
 
 fn main(rt: HostRuntime) -> io::Result<()> {
-    let mut buffer = streams::large_buffer();
+    let mut buffer = [0; streams::LARGE];
     let n = streams::read_full(&mut rt.stdin(), &mut buffer);
     print_each(&rt, &buffer[..n])
 }
 
 // A case after another, as far as whole ones go.
 fn print_each(rt: &impl Print, s: &[u8]) -> io::Result<()> {
-    let mut at: usize = 0;
-    while CASE <= s.len() - at {
-        print_case(rt, &s[at..])?;
-        at += CASE;
+    for k in 0..s.len() / CASE {
+        print_case(rt, &s[CASE * k..])?;
     }
     Ok(())
 }
@@ -46,19 +44,18 @@ fn print_case(rt: &impl Print, s: &[u8]) -> io::Result<()> {
 fn print_list(rt: &impl Print, list: &[u8]) -> io::Result<()> {
     rt.write_all(b"read")?;
     match drift_list::read(list) {
-        Reading::Refused(n) => print_number(rt, n as u64)?,
-        Reading::Issue { issue, count } => {
+        Err(n) => print_number(rt, n as u64)?,
+        Ok(heading) => {
             print_number(rt, 0)?;
-            print_number(rt, issue as u64)?;
-            print_number(rt, count as u64)?;
+            print_number(rt, heading.issue as u64)?;
+            print_number(rt, heading.count as u64)?;
         }
     }
     rt.write_all(b"\n")?;
-    print_place(rt, list, 0)?;
-    print_place(rt, list, 1)?;
-    print_place(rt, list, 2)?;
-    print_place(rt, list, 3)?;
-    print_place(rt, list, 4)
+    for k in 0..5 {
+        print_place(rt, list, k)?;
+    }
+    Ok(())
 }
 
 fn print_place(rt: &impl Print, list: &[u8], k: usize) -> io::Result<()> {
@@ -66,16 +63,15 @@ fn print_place(rt: &impl Print, list: &[u8], k: usize) -> io::Result<()> {
     print_answer(rt, b"walk", k, drift_list::walk_at(list, k))
 }
 
-fn print_answer(rt: &impl Print, call: &[u8], k: usize, a: FixAnswer) -> io::Result<()> {
+fn print_answer(rt: &impl Print, call: &[u8], k: usize, a: Result<Fix, u8>) -> io::Result<()> {
     rt.write_all(call)?;
     print_number(rt, k as u64)?;
     match a {
-        FixAnswer::Refused(n) => print_number(rt, n as u64)?,
-        FixAnswer::Found(fix) => {
-            let state = fix.state;
+        Err(n) => print_number(rt, n as u64)?,
+        Ok(fix) => {
             print_number(rt, 0)?;
             print_number(rt, fix.buoy as u64)?;
-            print_state(rt, state)?;
+            print_state(rt, fix.state)?;
             print_signed(rt, fix.longitude)?;
             print_signed(rt, fix.latitude)?;
             print_number(rt, fix.minute as u64)?;
@@ -98,56 +94,29 @@ fn print_number(rt: &impl Print, n: u64) -> io::Result<()> {
 }
 
 fn print_signed(rt: &impl Print, z: i32) -> io::Result<()> {
-    if z < 0 {
-        let n = magnitude(z) as u64 + 1;
-        print!(rt; " -{n}")?;
-    } else {
-        print_number(rt, magnitude(z) as u64)?;
-    }
-    Ok(())
-}
-
-// n for n, and n for -(n + 1).
-fn magnitude(z: i32) -> u32 {
-    if z < 0 {
-        return (!z) as u32;
-    }
-    z as u32
+    print!(rt; " {z}")
 }
 
 fn print_written(rt: &impl Print, s: &[u8]) -> io::Result<()> {
     let issue = wire::thirty_two_at(s, 0);
     let count = wire::thirty_two_at(s, 4);
     let room = wire::eight_at(s, 8);
-    let mut numbers = no_numbers();
+    let mut numbers = [0; 32];
     let n = fill(&mut numbers, s);
-    let mut out = marked();
+    // a byte that was not written shows
+    let mut out = [0xAA; 255];
     print_write(rt, issue, count, &numbers[..n], &mut out[..room])
 }
 
 // The numbers behind the first nine bytes, as many as there are; answers how many.
 fn fill(numbers: &mut [i32], s: &[u8]) -> usize
-    requires { length numbers.old ≡ 32 }
     ensures { result ≤ length numbers.new }
 {
-    let mut n: usize = 0;
-    while n < numbers.len() {
-        let at = 9 + 4 * n;
-        if s.len() < at + 4 {
-            return n;
-        }
-        numbers[n] = signed(wire::thirty_two_at(s, at));
-        n += 1;
+    let n = numbers.len().min(s.len().saturating_sub(9) / 4);
+    for k in 0..n {
+        numbers[k] = wire::thirty_two_at(s, 9 + 4 * k).cast_signed();
     }
     n
-}
-
-// What 32 bits say in two's complement.
-fn signed(v: u32) -> i32 {
-    if v < 0x8000_0000 {
-        return v as i32;
-    }
-    !((0xFFFF_FFFF - v) as i32)
 }
 
 fn print_write(
@@ -160,8 +129,8 @@ fn print_write(
     let answer = drift_list::write(issue, count, numbers, out);
     rt.write_all(b"write")?;
     match answer {
-        Written::Refused(n) => print_number(rt, n as u64)?,
-        Written::Size(size) => {
+        Err(n) => print_number(rt, n as u64)?,
+        Ok(size) => {
             print_number(rt, 0)?;
             print_number(rt, size as u64)?;
         }
@@ -172,24 +141,8 @@ fn print_write(
 }
 
 fn print_bytes(rt: &impl Print, s: &[u8]) -> io::Result<()> {
-    let mut i: usize = 0;
-    while i < s.len() {
-        let byte = wire::byte_at(s, i);
+    for byte in s {
         print!(rt; "{byte:02x}")?;
-        i += 1;
     }
     Ok(())
-}
-
-fn no_numbers() -> [i32; 32]
-    ensures { 32 ≡ length result }
-{
-    [0; 32]
-}
-
-// Bytes to write over: a byte that was not written shows.
-fn marked() -> [u8; 255]
-    ensures { 255 ≡ length result }
-{
-    [0xAA; 255]
 }

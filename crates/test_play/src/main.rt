@@ -15,9 +15,8 @@
 ghost use Rattle.std.specs.Prelude.{◌≡◌, ◌<◌, length};
 
 use carousel_messages::{Listed, MOST_BYTES, MOST_MODULES};
-use carousel_play::{Counted, Played, Playlist};
+use carousel_play::Playlist;
 use std::io;
-use wire::lesser;
 
 // The bytes of a command before its modules, of a module, and after them.
 const HEAD: usize = 9;
@@ -38,7 +37,7 @@ const RUBBISH: Listed = Listed {
 };
 
 fn main(rt: HostRuntime) -> io::Result<()> {
-    let mut buffer = streams::large_buffer();
+    let mut buffer = [0; streams::LARGE];
     let n = streams::read_full(&mut rt.stdin(), &mut buffer);
     let mut image = blank();
     paint(&mut image);
@@ -52,10 +51,8 @@ fn blank() -> [u8; IMAGE]
 }
 
 fn paint(image: &mut [u8]) {
-    let mut k: usize = 0;
-    while k < image.len() {
+    for k in 0..image.len() {
         image[k] = painted(k);
-        k += 1;
     }
 }
 
@@ -91,8 +88,8 @@ fn tail_at(s: &[u8]) -> usize
 
 fn obey(rt: &impl Print, s: &[u8], image: &[u8]) -> io::Result<()> {
     let p = playlist(s);
-    let tail = &s[lesser(tail_at(s), s.len())..];
-    let length = lesser(wire::thirty_two_at(tail, 0) as usize, image.len());
+    let tail = &s[tail_at(s).min(s.len())..];
+    let length = (wire::thirty_two_at(tail, 0) as usize).min(image.len());
     print_count(rt, p)?;
     write_within(rt, p, &image[0..length], tail)
 }
@@ -109,10 +106,8 @@ fn playlist(s: &[u8]) -> Playlist {
 
 fn modules(s: &[u8]) -> [Listed; MOST_MODULES] {
     let mut ms = [RUBBISH; MOST_MODULES];
-    let mut i: usize = 0;
-    while i < MOST_MODULES {
+    for i in 0..MOST_MODULES {
         ms[i] = entry(s, i);
-        i += 1;
     }
     ms
 }
@@ -131,10 +126,7 @@ fn entry(s: &[u8], i: usize) -> Listed {
 
 fn print_count(rt: &impl Print, p: Playlist) -> io::Result<()> {
     rt.write_all(b"count")?;
-    match carousel_play::section_count(p) {
-        Counted::Refused(n) => print_answer(rt, n, 0)?,
-        Counted::Sections(n) => print_answer(rt, 0, n)?,
-    }
+    print_answer(rt, carousel_play::section_count(p))?;
     rt.write_all(b"\n")
 }
 
@@ -142,7 +134,7 @@ fn print_count(rt: &impl Print, p: Playlist) -> io::Result<()> {
 fn write_within(rt: &impl Print, p: Playlist, image: &[u8], tail: &[u8]) -> io::Result<()> {
     let identifier = wire::thirty_two_at(tail, 4);
     let place = wire::thirty_two_at(tail, 8) as usize;
-    let room = lesser(wire::thirty_two_at(tail, 12) as usize, ROOM);
+    let room = (wire::thirty_two_at(tail, 12) as usize).min(ROOM);
     let mut out = marked();
     print_write(rt, p, image, identifier, place, &mut out[..room])
 }
@@ -164,17 +156,23 @@ fn print_write(
 ) -> io::Result<()> {
     let answer = carousel_play::write_section(p, image, identifier, place, out);
     rt.write_all(b"write")?;
-    match answer {
-        Played::Refused(n) => print_answer(rt, n, 0)?,
-        Played::Size(n) => print_answer(rt, 0, n)?,
-    }
+    print_answer(rt, answer)?;
     print_number(rt, digest(out) as u64)?;
     rt.write_all(b"\n")
 }
 
-fn print_answer(rt: &impl Print, refusal: u8, n: usize) -> io::Result<()> {
-    print_number(rt, refusal as u64)?;
-    print_number(rt, n as u64)
+// The refusal's number, 0 for none, and what is answered, 0 on a refusal.
+fn print_answer(rt: &impl Print, answer: Result<usize, u8>) -> io::Result<()> {
+    match answer {
+        Ok(n) => {
+            print_number(rt, 0)?;
+            print_number(rt, n as u64)
+        }
+        Err(refusal) => {
+            print_number(rt, refusal as u64)?;
+            print_number(rt, 0)
+        }
+    }
 }
 
 fn print_number(rt: &impl Print, n: u64) -> io::Result<()> {
@@ -184,10 +182,8 @@ fn print_number(rt: &impl Print, n: u64) -> io::Result<()> {
 // A digest takes in one byte after the other, modulo a prime.
 fn digest(s: &[u8]) -> u32 {
     let mut d: u32 = 0;
-    let mut i: usize = 0;
-    while i < s.len() {
-        d = mixed(d, wire::byte_at(s, i));
-        i += 1;
+    for b in s {
+        d = mixed(d, *b);
     }
     d
 }

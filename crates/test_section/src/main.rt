@@ -4,26 +4,20 @@
 // independent second program, makes the input and says what must come out.
 #![tactic(auto)]
 
-use section::{Checked, Header, Refusal, Rules, Spot};
+use section::{Header, Refusal, Rules};
 use std::io;
+use streams::Cases;
 
 fn main(rt: HostRuntime) -> io::Result<()> {
-    let mut buffer = streams::large_buffer();
+    let mut buffer = [0; streams::LARGE];
     let n = streams::read_full(&mut rt.stdin(), &mut buffer);
     print_each(&rt, &buffer[..n])
 }
 
 // A line for each stretch, as far as whole ones go.
 fn print_each(rt: &impl Print, s: &[u8]) -> io::Result<()> {
-    let mut at: usize = 0;
-    while at < s.len() {
-        let rest = &s[at..];
-        let end = 2 + wire::sixteen_at(rest, 0) as usize;
-        if rest.len() < end {
-            return Ok(());
-        }
-        print_one(rt, &rest[2..end])?;
-        at += end;
+    for case in Cases::of(s) {
+        print_one(rt, case)?;
     }
     Ok(())
 }
@@ -40,10 +34,10 @@ fn print_one(rt: &impl Print, s: &[u8]) -> io::Result<()> {
     println!(rt)
 }
 
-fn print_number(rt: &impl Print, c: Checked) -> io::Result<()> {
+fn print_number(rt: &impl Print, c: Result<Header, Refusal>) -> io::Result<()> {
     match c {
-        Checked::Refused(r) => print_refusal(rt, r),
-        Checked::Accepted(_) => print!(rt; " 0"),
+        Err(r) => print_refusal(rt, r),
+        Ok(_) => print!(rt; " 0"),
     }
 }
 
@@ -51,16 +45,16 @@ fn print_number(rt: &impl Print, c: Checked) -> io::Result<()> {
 fn print_refusal(rt: &impl Print, r: Refusal) -> io::Result<()> {
     let number = r.number;
     match r.place {
-        Spot::Byte(p) => print!(rt; " {number}@{p}"),
-        Spot::Nowhere => print!(rt; " {number}"),
+        Some(p) => print!(rt; " {number}@{p}"),
+        None => print!(rt; " {number}"),
     }
 }
 
-fn print_header(rt: &impl Print, c: Checked) -> io::Result<()> {
-    match c {
-        Checked::Refused(_) => Ok(()),
-        Checked::Accepted(h) => print_fields(rt, h),
+fn print_header(rt: &impl Print, c: Result<Header, Refusal>) -> io::Result<()> {
+    if let Ok(h) = c {
+        print_fields(rt, h)?;
     }
+    Ok(())
 }
 
 fn print_fields(rt: &impl Print, h: Header) -> io::Result<()> {

@@ -10,11 +10,9 @@
 // come out.
 #![tactic(auto)]
 
-ghost use Rattle.std.specs.Prelude.{◌≡◌, length};
-
 use std::io;
-use transport::{Answer, Counts};
-use transport_write::Packed;
+use streams::Cases;
+use transport::{Answer, Counts, Gathered};
 
 // The bytes of a case before its own.
 const HEAD: usize = 8;
@@ -25,45 +23,26 @@ const ROOM: usize = 9000;
 const STATE: usize = 4300;
 
 fn main(rt: HostRuntime) -> io::Result<()> {
-    let mut buffer = streams::large_buffer();
+    let mut buffer = [0; streams::LARGE];
     let n = streams::read_full(&mut rt.stdin(), &mut buffer);
-    let mut state = zeros();
+    let mut state = [0; STATE];
     follow(&rt, &buffer[..n], &mut state)
-}
-
-fn zeros() -> [u8; STATE]
-    ensures { 4300 ≡ length result }
-{
-    [0; STATE]
-}
-
-// Bytes to write over: a byte that was not written shows.
-fn marked() -> [u8; ROOM]
-    ensures { 9000 ≡ length result }
-{
-    [0xEE; ROOM]
 }
 
 // A line for each case, as far as whole ones go.
 fn follow(rt: &impl Print, s: &[u8], state: &mut [u8]) -> io::Result<()> {
-    let mut at: usize = 0;
-    while at < s.len() {
-        let rest = &s[at..];
-        let end = 2 + wire::sixteen_at(rest, 0) as usize;
-        if rest.len() < end {
-            return Ok(());
-        }
-        obey(rt, &rest[2..end], state)?;
-        at += end;
+    for case in Cases::of(s) {
+        obey(rt, case, state)?;
     }
     Ok(())
 }
 
 // Lends a buffer and a state of the lengths that the case says.
 fn obey(rt: &impl Print, s: &[u8], state: &mut [u8]) -> io::Result<()> {
-    let mut out = marked();
-    let room = wire::lesser(wire::sixteen_at(s, 4) as usize, ROOM);
-    let lent = wire::lesser(wire::sixteen_at(s, 6) as usize, state.len());
+    // a byte that was not written shows
+    let mut out = [0xEE; ROOM];
+    let room = (wire::sixteen_at(s, 4) as usize).min(ROOM);
+    let lent = (wire::sixteen_at(s, 6) as usize).min(state.len());
     print_call(rt, s, &mut state[..lent], &mut out[..room])?;
     print_number(rt, digest(state) as u64)?;
     rt.write_all(b"\n")
@@ -77,7 +56,7 @@ fn print_call(rt: &impl Print, s: &[u8], state: &mut [u8], out: &mut [u8]) -> io
 
 fn call(rt: &impl Print, s: &[u8], state: &mut [u8], out: &mut [u8]) -> io::Result<()> {
     let pid = wire::sixteen_at(s, 2);
-    let bytes = &s[wire::lesser(HEAD, s.len())..];
+    let bytes = &s[HEAD.min(s.len())..];
     match wire::byte_at(s, 0) {
         0 => feed(rt, pid, bytes, state, out)?,
         1 => gather(rt, pid, bytes, state, out)?,
@@ -90,13 +69,12 @@ fn call(rt: &impl Print, s: &[u8], state: &mut [u8], out: &mut [u8]) -> io::Resu
 
 fn feed(rt: &impl Print, pid: u16, p: &[u8], state: &mut [u8], out: &mut [u8]) -> io::Result<()> {
     let handed = transport::feed(pid, p, state, out);
-    let answer = handed.answer;
     rt.write_all(b"feed")?;
-    match answer {
-        Answer::Taken => print_word(rt, b"taken")?,
-        Answer::Broken => print_word(rt, b"broken")?,
-        Answer::Repeated => print_word(rt, b"repeated")?,
-        Answer::Refused(n) => print_number(rt, n as u64)?,
+    match handed.answer {
+        Ok(Answer::Taken) => print_word(rt, b"taken")?,
+        Ok(Answer::Broken) => print_word(rt, b"broken")?,
+        Ok(Answer::Repeated) => print_word(rt, b"repeated")?,
+        Err(n) => print_number(rt, n as u64)?,
     }
     print_number(rt, handed.size as u64)
 }
@@ -108,13 +86,19 @@ fn gather(
     state: &mut [u8],
     out: &mut [u8],
 ) -> io::Result<()> {
-    let gathered = transport::gather(pid, packets, state, out);
-    let counts = gathered.counts;
+    let answer = transport::gather(pid, packets, state, out);
     rt.write_all(b"gather")?;
-    print_number(rt, gathered.refusal as u64)?;
+    match answer {
+        Ok(gathered) => print_gathered(rt, 0, gathered),
+        Err(n) => print_gathered(rt, n, Gathered::default()),
+    }
+}
+
+fn print_gathered(rt: &impl Print, refusal: u8, gathered: Gathered) -> io::Result<()> {
+    print_number(rt, refusal as u64)?;
     print_number(rt, gathered.passed as u64)?;
     print_number(rt, gathered.size as u64)?;
-    print_counts(rt, counts)
+    print_counts(rt, gathered.counts)
 }
 
 fn print_counts(rt: &impl Print, counts: Counts) -> io::Result<()> {
@@ -131,10 +115,9 @@ fn write(rt: &impl Print, pid: u16, counter: u8, s: &[u8], out: &mut [u8]) -> io
     let answer = transport_write::write_packets(pid, counter, s, out);
     rt.write_all(b"write")?;
     match answer {
-        Packed::Refused(n) => print_answer(rt, n, 0)?,
-        Packed::Packets(n) => print_answer(rt, 0, n)?,
+        Ok(n) => print_answer(rt, 0, n),
+        Err(n) => print_answer(rt, n, 0),
     }
-    Ok(())
 }
 
 fn lay(rt: &impl Print, at: usize, bytes: &[u8], state: &mut [u8]) -> io::Result<()> {
@@ -165,10 +148,8 @@ fn print_number(rt: &impl Print, n: u64) -> io::Result<()> {
 // A digest takes in one byte after the other, modulo a prime.
 fn digest(s: &[u8]) -> u32 {
     let mut d: u32 = 0;
-    let mut i: usize = 0;
-    while i < s.len() {
-        d = mixed(d, wire::byte_at(s, i));
-        i += 1;
+    for b in s {
+        d = mixed(d, *b);
     }
     d
 }

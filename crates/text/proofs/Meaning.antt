@@ -10,8 +10,8 @@ use lib.ListN.{length, take, drop, length-append}
 use lib.Seq.{sets, sets-eq, take-append_seam}
 use borrow.Author.Tests.{le-leb, ltb-true, ltb-false}
 use Rattle.wire.proofs.Laws.Tests.{both}
-use Rattle.text.specs.declared.Said.TheVariants as said
 use Rattle.text.specs.Text.{reached, digit, digits_in, decimal}
+use Rattle.std.proofs.Common.{Some}
 use Rattle.text.specs.Digits.{all_digits, value_from, said_by}
 use Rattle.text.proofs.Laws.Puts.{reached-fits}
 use Rattle.text.proofs.Laws.Digits.{digits-one, digits_more, tenth}
@@ -66,7 +66,7 @@ some-digits k n z = go (ltb n 10) refl
         let l = length-append (digits_in k (n / 10)) (digit (n % 10) ∷ []) in
         omega arith
 
-pub said-again : (most n : ℕ) → n ≤ most → n < 2 ^ 64 → said_by most (decimal n) ≡ said.Number n
+pub said-again : (most n : ℕ) → n ≤ most → n < 2 ^ 64 → said_by most (decimal n) ≡ Some n
 said-again most n l h = sym (says-number most (decimal n) n (some-digits 19 n) (all_digits_lem 20 n) (decimal-value n h) l)
 
 -- IN NO MORE DIGITS THAN IT NEEDS

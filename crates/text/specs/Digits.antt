@@ -1,7 +1,5 @@
 -- WHAT DECIMAL DIGITS SAY: a number read from text. Nothing here is of DVB.
-use Rattle.std.specs.Prelude.{ℕ, ◌+◌, ◌-◌, ◌*◌, Bool, true, cond, not, ◌&&◌, List, [], ◌∷◌, eqb, leb, length}
-use Rattle.text.specs.declared.Said.{Said}
-use Rattle.text.specs.declared.Said.TheVariants as said
+use Rattle.std.specs.Prelude.{ℕ, ◌+◌, ◌-◌, ◌*◌, Bool, true, cond, not, ◌&&◌, Option, None, Some, List, [], ◌∷◌, eqb, leb, length}
 
 -- digits, "0" to "9", and nothing else
 unfoldable pub all_digits : List ℕ → Bool
@@ -14,5 +12,5 @@ value_from n [] = n
 value_from n (d ∷ ds) = value_from (n * 10 + (d - 48)) ds
 
 -- one or more digits that say a number of at most so much; leading zeros are taken
-unfoldable pub said_by : (most : ℕ) → List ℕ → Said
-said_by most xs = cond (not (eqb (length xs) 0) && all_digits xs && leb (value_from 0 xs) most) (said.Number (value_from 0 xs)) said.Nothing
+unfoldable pub said_by : (most : ℕ) → List ℕ → Option ℕ
+said_by most xs = cond (not (eqb (length xs) 0) && all_digits xs && leb (value_from 0 xs) most) (Some (value_from 0 xs)) None

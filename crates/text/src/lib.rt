@@ -10,23 +10,14 @@ ghost use Rattle.std.proofs.lemmas.List.Edits.{sets};
 ghost use Rattle.text.specs.Text.{reached, word_at, decimal};
 ghost use Rattle.text.specs.Digits.{said_by};
 
-// What digits say: a number, or nothing that could be one.
-#[derive(Clone, Copy)]
-pub enum Said {
-    Number(u32),
-    Nothing,
-}
-
 // Puts a piece of text at a place, and answers the place after it.
 pub fn put(out: &mut [u8], at: usize, piece: &[u8]) -> usize
     ensures { (out.new ≡ sets out.old at piece.now)
         × (result ≡ reached at (length piece.now) (length out.old)) }
 {
     let mut end = at;
-    let mut i: usize = 0;
-    while i < piece.len() {
-        end = put_byte(out, end, piece[i]);
-        i += 1;
+    for &byte in piece {
+        end = put_byte(out, end, byte);
     }
     end
 }
@@ -38,14 +29,11 @@ pub fn put_word(out: &mut [u8], at: usize, words: &[u8], k: usize) -> usize
         × (result ≡ reached at (length (word_at k words.now)) (length out.old)) }
 {
     let mut end = at;
-    let mut i = word_start(words, k);
-    while i < words.len() {
-        let letter = words[i];
+    for &letter in &words[word_start(words, k)..] {
         if letter == b' ' {
             return end;
         }
         end = put_byte(out, end, letter);
-        i += 1;
     }
     end
 }
@@ -62,29 +50,23 @@ pub fn put_decimal(out: &mut [u8], at: usize, n: u64) -> usize
 }
 
 // The number that one or more decimal digits say, if it is at most `most`. Leading zeros are taken.
-pub fn read_decimal(digits: &[u8], most: u32) -> Said
+pub fn read_decimal(digits: &[u8], most: u32) -> Option<u32>
     ensures { result ≡ said_by most digits.now }
 {
-    if digits.len() == 0 {
-        return Said::Nothing;
+    if digits.is_empty() {
+        return None;
     }
     let mut n: u64 = 0;
-    let mut i: usize = 0;
-    while i < digits.len() {
-        let d = digits[i];
-        if d < b'0' {
-            return Said::Nothing;
-        }
-        if b'9' < d {
-            return Said::Nothing;
+    for &d in digits {
+        if !d.is_ascii_digit() {
+            return None;
         }
         n = n * 10 + (d - b'0') as u64;
         if (most as u64) < n {
-            return Said::Nothing;
+            return None;
         }
-        i += 1;
     }
-    Said::Number(n as u32)
+    Some(n as u32)
 }
 
 // Where word k begins.
@@ -92,17 +74,15 @@ fn word_start(words: &[u8], k: usize) -> usize
     ensures { (result ≤ length words.now) × (word_at 0 (drop result words.now) ≡ word_at k words.now) }
 {
     let mut left = k;
-    let mut i: usize = 0;
-    while i < words.len() {
+    for (i, &byte) in words.iter().enumerate() {
         if left == 0 {
             return i;
         }
-        if words[i] == b' ' {
+        if byte == b' ' {
             left -= 1;
         }
-        i += 1;
     }
-    i
+    words.len()
 }
 
 fn put_byte(out: &mut [u8], at: usize, byte: u8) -> usize

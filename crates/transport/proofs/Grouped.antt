@@ -3,6 +3,7 @@ use Prim.Native.Nat.{ℕ}
 use mathlib.Core.Path.{◌≡◌, refl, sym, ap, ap₂, ◌∙◌}
 use mathlib.Core.Bool.{Bool, true, false, cond}
 use mathlib.Core.List.{List, [], ◌∷◌, ◌++◌}
+use Rattle.std.proofs.Common.{Err}
 use native.Mathlib.Omega.{arith}
 use lib.Dec.{eqb}
 use lib.ListN.{take, replicate, length-replicate, get_or-replicate, replicate-append-replicate}
@@ -11,7 +12,6 @@ use Rattle.wire.specs.Copies.{same_numbers}
 use Rattle.wire.specs.Items.{joined}
 use Rattle.wire.proofs.Laws.Copies.{same_refl}
 use Rattle.wire.proofs.Laws.Pieces.{Wide, wide_both, cut-back}
-use Rattle.transport.specs.declared.Answer.TheVariants as answer
 use Rattle.transport.specs.Packet.{packet_length, packet_refusal}
 use Rattle.transport.specs.Feed.{State, fresh, fed, state_after, handed_on, packets_in}
 use Rattle.transport.specs.State.{state_length, hand_at, most_in_hand, state_in, state_good}
@@ -41,14 +41,14 @@ module _ (pid : ℕ) where
   unfolding gave went_through left_by feed_outcome feed_state handed_on state_after
   one_does s p room g true e =
       record {
-        gives = ap (λ (t : Bool). (cond t (fed pid (state_in s) p) (record { state = state_in s; answer = answer.Refused (lent_refusal pid s room); sections = [] })).sections) e
+        gives = ap (λ (t : Bool). (cond t (fed pid (state_in s) p) (record { state = state_in s; answer = Err (lent_refusal pid s room); sections = [] })).sections) e
             ∙ sym (ap (λ (t : Bool). handed_on pid (state_in s) (cond t (p ∷ []) [])) e ∙ one-section pid (state_in s) p);
         good = rw e (next-good pid s p g);
         says = rw e (next-says pid s p g);
       }
   one_does s p room g false e =
       record {
-        gives = ap (λ (t : Bool). (cond t (fed pid (state_in s) p) (record { state = state_in s; answer = answer.Refused (lent_refusal pid s room); sections = [] })).sections) e
+        gives = ap (λ (t : Bool). (cond t (fed pid (state_in s) p) (record { state = state_in s; answer = Err (lent_refusal pid s room); sections = [] })).sections) e
             ∙ sym (ap (λ (t : Bool). handed_on pid (state_in s) (cond t (p ∷ []) [])) e);
         good = rw e g;
         says = rw e refl;

@@ -1,15 +1,15 @@
 -- WHAT THE CALLS ANSWER, and what they leave in the lent state and the lent buffer. 02, §2.
-use Rattle.std.specs.Prelude.{ℕ, suc, ◌+◌, ◌-◌, Bool, true, false, not, cond, ◌&&◌, List, [], ◌∷◌, eqb, ltb, length, take}
+use Rattle.std.specs.Prelude.{ℕ, suc, ◌+◌, ◌-◌, Bool, true, false, not, cond, ◌&&◌, Result, Ok, Err, List, [], ◌∷◌, eqb, ltb, length, take}
 use Rattle.wire.specs.Items.{joined}
+use Rattle.wire.specs.Outcomes.{answered}
 use Rattle.wire.specs.Pieces.{laid_first}
 use Rattle.wire.specs.Tests.{Tests, first_met}
-use Rattle.transport.specs.declared.Answer.{Answer}
 use Rattle.transport.specs.declared.Answer.TheVariants as answer
 use Rattle.transport.specs.declared.Handed.{Handed}
 use Rattle.transport.specs.declared.Counts.{Counts}
 use Rattle.transport.specs.declared.Gathered.{Gathered}
 use Rattle.transport.specs.Packet.{packet_refusal}
-use Rattle.transport.specs.Feed.{State, Fed, is_repeat, taken_by, fed, handed_on, answers_of, packets_in}
+use Rattle.transport.specs.Feed.{State, Fed, Outcome, is_repeat, taken_by, fed, handed_on, answers_of, packets_in}
 use Rattle.transport.specs.State.{state_in, state_bytes, state_good}
 
 -- the most that one packet can hand on: 4,097 bytes in hand, and 184 that it brings
@@ -31,7 +31,7 @@ next_state pid s p = cond (eqb (packet_refusal pid p) 0 && not (is_repeat (state
 unfoldable pub feed_outcome : (pid : ℕ) → (state : List ℕ) → (room : ℕ) → (packet : List ℕ) → Fed
 feed_outcome pid s room p = cond (eqb (lent_refusal pid s room) 0)
     (fed pid (state_in s) p)
-    (record { state = state_in s; answer = answer.Refused (lent_refusal pid s room); sections = [] })
+    (record { state = state_in s; answer = Err (lent_refusal pid s room); sections = [] })
 
 unfoldable pub feed_answer : (pid : ℕ) → (state : List ℕ) → (room : ℕ) → (packet : List ℕ) → Handed
 feed_answer pid s room p = record { answer = (feed_outcome pid s room p).answer; size = length (joined (feed_outcome pid s room p).sections) }
@@ -57,36 +57,36 @@ unfoldable pub gathered_packets : (pid : ℕ) → (state : List ℕ) → (room :
 gathered_packets pid s room xs = cond (eqb (lent_refusal pid s room) 0) (take (fitting pid room (state_in s) (packets_in xs)) (packets_in xs)) []
 
 -- how many of each answer
-unfoldable pub how_many : (Answer → Bool) → List Answer → ℕ
+unfoldable pub how_many : (Outcome → Bool) → List Outcome → ℕ
 how_many test [] = 0
 how_many test (a ∷ as') = cond (test a) 1 0 + how_many test as'
 
 -- "taken: packets of the PID that were used, with or without payload, breaking ones included; repeated ones apart"
-abbrev pub is_taken : Answer → Bool
-is_taken answer.Taken = true
-is_taken answer.Broken = true
-is_taken answer.Repeated = false
-is_taken (answer.Refused n) = false
+abbrev pub is_taken : Outcome → Bool
+is_taken (Ok answer.Taken) = true
+is_taken (Ok answer.Broken) = true
+is_taken (Ok answer.Repeated) = false
+is_taken (Err n) = false
 
-abbrev pub is_repeated : Answer → Bool
-is_repeated answer.Taken = false
-is_repeated answer.Broken = false
-is_repeated answer.Repeated = true
-is_repeated (answer.Refused n) = false
+abbrev pub is_repeated : Outcome → Bool
+is_repeated (Ok answer.Taken) = false
+is_repeated (Ok answer.Broken) = false
+is_repeated (Ok answer.Repeated) = true
+is_repeated (Err n) = false
 
-abbrev pub is_broken : Answer → Bool
-is_broken answer.Taken = false
-is_broken answer.Broken = true
-is_broken answer.Repeated = false
-is_broken (answer.Refused n) = false
+abbrev pub is_broken : Outcome → Bool
+is_broken (Ok answer.Taken) = false
+is_broken (Ok answer.Broken) = true
+is_broken (Ok answer.Repeated) = false
+is_broken (Err n) = false
 
-abbrev pub is_refused_with : ℕ → Answer → Bool
-is_refused_with k answer.Taken = false
-is_refused_with k answer.Broken = false
-is_refused_with k answer.Repeated = false
-is_refused_with k (answer.Refused n) = eqb n k
+abbrev pub is_refused_with : ℕ → Outcome → Bool
+is_refused_with k (Ok answer.Taken) = false
+is_refused_with k (Ok answer.Broken) = false
+is_refused_with k (Ok answer.Repeated) = false
+is_refused_with k (Err n) = eqb n k
 
-unfoldable pub tally : List Answer → Counts
+unfoldable pub tally : List Outcome → Counts
 tally rs =
     record {
       taken = how_many is_taken rs;
@@ -98,14 +98,16 @@ tally rs =
       refused43 = how_many (is_refused_with 43) rs;
     }
 
-unfoldable pub gather_answer : (pid : ℕ) → (state : List ℕ) → (room : ℕ) → (stretch : List ℕ) → Gathered
-gather_answer pid s room xs =
+unfoldable pub gathered_of : (pid : ℕ) → (state : List ℕ) → (room : ℕ) → (stretch : List ℕ) → Gathered
+gathered_of pid s room xs =
     record {
-      refusal = lent_refusal pid s room;
       passed = length (joined (gathered_packets pid s room xs));
       size = length (joined (handed_on pid (state_in s) (gathered_packets pid s room xs)));
       counts = tally (answers_of pid (state_in s) (gathered_packets pid s room xs));
     }
+
+unfoldable pub gather_answer : (pid : ℕ) → (state : List ℕ) → (room : ℕ) → (stretch : List ℕ) → Result Gathered ℕ
+gather_answer pid s room xs = answered (lent_refusal pid s room) (gathered_of pid s room xs)
 
 unfoldable pub gather_state : (pid : ℕ) → (state : List ℕ) → (room : ℕ) → (stretch : List ℕ) → List ℕ
 gather_state pid s room xs = states_over pid s (gathered_packets pid s room xs)

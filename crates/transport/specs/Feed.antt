@@ -1,5 +1,5 @@
 -- WHAT A RECEIVER MAKES OF PACKETS (02 §2), one after another: its state, one packet, many.
-use Rattle.std.specs.Prelude.{ℕ, ◌+◌, ◌%◌, Bool, true, not, cond, ◌&&◌, ◌||◌, List, [], ◌∷◌, ◌++◌, eqb, length, take, drop}
+use Rattle.std.specs.Prelude.{ℕ, ◌+◌, ◌%◌, Bool, true, not, cond, ◌&&◌, ◌||◌, Result, Ok, Err, List, [], ◌∷◌, ◌++◌, eqb, length, take, drop}
 use Rattle.wire.specs.Copies.{same_numbers}
 use Rattle.wire.specs.Fields.{byte_at}
 use Rattle.wire.specs.Items.{items, joined}
@@ -54,9 +54,13 @@ in_step last p = is_none last || eqb (view_of p).counter (((view_of last).counte
 unfoldable pub kept_hand : State → List ℕ → List ℕ
 kept_hand x p = cond (in_step x.last p) x.hand []
 
+-- what became of a packet, or the number that it was refused with
+abbrev pub Outcome : Type 0
+Outcome = Result Answer ℕ
+
 pub record Fed : Type 0 where
   pub state : State
-  pub answer : Answer
+  pub answer : Outcome
   pub sections : List (List ℕ)
 
 -- "and waits for the next unit start, the breaking packet's own included"
@@ -64,16 +68,16 @@ abbrev pub taken_by : State → List ℕ → Fed
 taken_by x p =
     record {
       state = record { last = p; hand = leaves (kept_hand x p) (view_of p) };
-      answer = cond (in_step x.last p) answer.Taken answer.Broken;
+      answer = Ok (cond (in_step x.last p) answer.Taken answer.Broken);
       sections = hands_on (kept_hand x p) (view_of p);
     }
 
-abbrev pub passed_over : State → Answer → Fed
+abbrev pub passed_over : State → Outcome → Fed
 passed_over x a = record { state = x; answer = a; sections = [] }
 
 -- ONE PACKET: refused, or a repeat, or taken
 unfoldable pub fed : ℕ → State → List ℕ → Fed
-fed pid x p = cond (eqb (packet_refusal pid p) 0) (cond (is_repeat x p) (passed_over x answer.Repeated) (taken_by x p)) (passed_over x (answer.Refused (packet_refusal pid p)))
+fed pid x p = cond (eqb (packet_refusal pid p) 0) (cond (is_repeat x p) (passed_over x (Ok answer.Repeated)) (taken_by x p)) (passed_over x (Err (packet_refusal pid p)))
 
 -- MANY, one by one
 unfoldable pub state_after : ℕ → State → List (List ℕ) → State
@@ -84,7 +88,7 @@ unfoldable pub handed_on : ℕ → State → List (List ℕ) → List (List ℕ)
 handed_on pid x [] = []
 handed_on pid x (p ∷ ps) = (fed pid x p).sections ++ handed_on pid (fed pid x p).state ps
 
-unfoldable pub answers_of : ℕ → State → List (List ℕ) → List Answer
+unfoldable pub answers_of : ℕ → State → List (List ℕ) → List Outcome
 answers_of pid x [] = []
 answers_of pid x (p ∷ ps) = (fed pid x p).answer ∷ answers_of pid (fed pid x p).state ps
 

@@ -1,5 +1,5 @@
 -- WHAT THE CODE'S OWN FUNCTIONS SAY between the calls. No call's meaning rests on it.
-use Rattle.std.specs.Prelude.{ℕ, ◌+◌, ◌%◌, ◌≤◌, ◌<◌, ◌≡◌, true, false, not, cond, ◌&&◌, List, ◌++◌, eqb, ltb, length, take, drop}
+use Rattle.std.specs.Prelude.{ℕ, ◌+◌, ◌%◌, ◌≤◌, ◌<◌, ◌≡◌, true, false, not, cond, ◌&&◌, Ok, Err, Option, Some, None, IfSome, List, ◌++◌, eqb, length, drop}
 use Rattle.wire.specs.Copies.{same_numbers}
 use Rattle.wire.specs.Fields.{byte_at, sixteen_at, spelled}
 use Rattle.wire.specs.Items.{joined}
@@ -9,7 +9,7 @@ use Rattle.transport.specs.declared.Answer.{Answer}
 use Rattle.transport.specs.declared.Answer.TheVariants as answer
 use Rattle.transport.specs.declared.Counts.{Counts}
 use Rattle.transport.specs.Packet.{packet_length, packet_refusal, counter_of}
-use Rattle.transport.specs.Feed.{in_step, fed}
+use Rattle.transport.specs.Feed.{Outcome, in_step, fed}
 use Rattle.transport.specs.State.{hand_at, last_in, held_in, state_in, state_good}
 use Rattle.transport.specs.Calls.{is_taken, is_repeated, is_broken, is_refused_with, next_state}
 
@@ -17,29 +17,31 @@ use Rattle.transport.specs.Calls.{is_taken, is_repeated, is_broken, is_refused_w
 unfoldable pub judged_after : (last p : List ℕ) → Answer
 judged_after last p = cond (not (is_none last) && same_numbers last p) answer.Repeated (cond (in_step last p) answer.Taken answer.Broken)
 
-unfoldable pub judged : (pid : ℕ) → (last p : List ℕ) → Answer
-judged pid last p = cond (eqb (packet_refusal pid p) 0) (judged_after last p) (answer.Refused (packet_refusal pid p))
+unfoldable pub judged : (pid : ℕ) → (last p : List ℕ) → Outcome
+judged pid last p = cond (eqb (packet_refusal pid p) 0) (Ok (judged_after last p)) (Err (packet_refusal pid p))
 
--- IN THE MIDDLE OF A STRETCH the last packet and the number of bytes in hand are not written to the state yet: it lies in the stretch, from byte
--- `at` on, or still in the state where `at` is past the stretch.
-abbrev pub last_seen : (stretch : List ℕ) → (at : ℕ) → (state : List ℕ) → List ℕ
-last_seen xs at s = cond (ltb at (length xs)) (take packet_length (drop at xs)) (last_in s)
+-- IN THE MIDDLE OF A STRETCH the last packet and the number of bytes in hand are not written to the state yet: it is one of the stretch; or none of
+-- them was taken so far, and it is still in the state.
+abbrev pub last_seen : (last : Option (List ℕ)) → (state : List ℕ) → List ℕ
+last_seen None s = last_in s
+last_seen (Some l) s = l
 
 -- the state's bytes with this packet as the last and so many bytes in hand
 abbrev pub with_last : (packet : List ℕ) → (held : ℕ) → (state : List ℕ) → List ℕ
 with_last p held s = p ++ spelled 2 held ++ drop hand_at s
 
 -- what the state's bytes are to be
-unfoldable pub midway : (stretch : List ℕ) → (at held : ℕ) → (state : List ℕ) → List ℕ
-midway xs at held s = cond (ltb at (length xs)) (with_last (take packet_length (drop at xs)) held s) s
+abbrev pub midway : (last : Option (List ℕ)) → (held : ℕ) → (state : List ℕ) → List ℕ
+midway None held s = s
+midway (Some l) held s = with_last l held s
 
-abbrev pub Midway : (pid : ℕ) → (stretch : List ℕ) → (at held : ℕ) → (state : List ℕ) → Type 0
-Midway pid xs at held s =
-    (state_good pid (midway xs at held s) ≡ true) × (held ≡ held_in (midway xs at held s)) × (at < length xs → packet_refusal pid (take packet_length (drop at xs)) ≡ 0)
+abbrev pub Midway : (pid : ℕ) → (last : Option (List ℕ)) → (held : ℕ) → (state : List ℕ) → Type 0
+Midway pid last held s =
+    (state_good pid (midway last held s) ≡ true) × (held ≡ held_in (midway last held s)) × IfSome last (λ l. packet_refusal pid l ≡ 0)
 
 -- WHAT ONE PACKET CAME TO there: v is what the state's bytes were to be, s what they were, with so many bytes in hand; a, n and m are the answer, the
 -- bytes handed on and the bytes in hand, s' and out' what is left. One that is not taken leaves all as it was.
-abbrev pub Stepped : (pid : ℕ) → (v s : List ℕ) → (held : ℕ) → (p out : List ℕ) → (a : Answer) → (n m : ℕ) → (s' out' : List ℕ) → Type 0
+abbrev pub Stepped : (pid : ℕ) → (v s : List ℕ) → (held : ℕ) → (p out : List ℕ) → (a : Outcome) → (n m : ℕ) → (s' out' : List ℕ) → Type 0
 Stepped pid v s held p out a n m s' out' =
     (a ≡ (fed pid (state_in v) p).answer)
     × (n ≡ length (joined (fed pid (state_in v) p).sections))
@@ -60,7 +62,7 @@ pub record Plain (pid : ℕ) (last hand p : List ℕ) : Type 0 where
   pub lacking : length hand + 184 < said_length hand
 
 -- counts with one more answer
-unfoldable pub counted_with : Counts → Answer → Counts
+unfoldable pub counted_with : Counts → Outcome → Counts
 counted_with c a =
     record {
       taken = c.taken + cond (is_taken a) 1 0;
@@ -73,15 +75,15 @@ counted_with c a =
     }
 
 -- the answer of the one packet that was counted; it had 188 bytes
-unfoldable pub counted_as : Counts → Answer
+unfoldable pub counted_as : Counts → Outcome
 counted_as c =
     cond (eqb c.broken 0)
     (cond (eqb c.taken 0)
     (cond (eqb c.repeated 0)
-    (cond (eqb c.refused41 0) (cond (eqb c.refused42 0) (answer.Refused 43) (answer.Refused 42)) (answer.Refused 41))
-    answer.Repeated)
-    answer.Taken)
-    answer.Broken
+    (cond (eqb c.refused41 0) (cond (eqb c.refused42 0) (Err 43) (Err 42)) (Err 41))
+    (Ok answer.Repeated))
+    (Ok answer.Taken))
+    (Ok answer.Broken)
 
 -- one more can be counted
 abbrev pub most : ℕ

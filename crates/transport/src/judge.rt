@@ -1,5 +1,5 @@
 // What becomes of a packet, by the last one.
-ghost use Rattle.std.specs.Prelude.{◌≡◌, cond, ◌+◌, ◌%◌, ◌≤◌, ◌<◌, eqb, length, take, drop};
+ghost use Rattle.std.specs.Prelude.{◌≡◌, cond, ◌+◌, ◌%◌, ◌≤◌, ◌<◌, IfSome, option_copied, eqb, length};
 ghost use Rattle.wire.specs.Copies.{same_numbers};
 ghost use Rattle.transport.specs.Packet.{packet_length, packet_refusal, counter_of, view_of};
 ghost use Rattle.transport.specs.Feed.{weight};
@@ -7,27 +7,22 @@ ghost use Rattle.transport.specs.State.{state_length};
 ghost use Rattle.transport.specs.Calls.{is_taken, is_broken};
 ghost use Rattle.transport.specs.Pieces.{judged_after, judged, last_seen};
 
-use crate::packet::{counter, has_payload, packet_refusal};
+use crate::packet::{counter, has_payload, judge_packet};
 use crate::{Answer, PACKET_LENGTH};
 
-// The last packet lies among these, from `last` on, or still in the state where that is past them.
-pub fn judge(pid: u16, packets: &[u8], last: usize, state: &[u8], p: &[u8]) -> Answer
-    requires { (state_length ≤ length state.now)
-        × (last < length packets.now → packet_refusal pid (take packet_length (drop last packets.now)) ≡ 0) }
-    ensures { result ≡ judged pid (last_seen packets.now last state.now) p.now }
+// By the last packet, or the one in the state where none is known since.
+pub fn judge(pid: u16, last: Option<&[u8]>, state: &[u8], p: &[u8]) -> Result<Answer, u8>
+    requires { (state_length ≤ length state.now) × IfSome (option_copied last) (λ l. packet_refusal pid l ≡ 0) }
+    ensures { result ≡ judged pid (last_seen (option_copied last.entry) state.now) p.now }
 {
-    let n = packet_refusal(pid, p);
-    if n != 0 {
-        return Answer::Refused(n);
-    }
-    if last < packets.len() {
-        let end = last + PACKET_LENGTH;
-        return judge_after(&packets[last..end], p);
+    judge_packet(pid, p)?;
+    if let Some(l) = last {
+        return Ok(judge_after(l, p));
     }
     if state[0] == 0 {
-        return Answer::Taken;
+        return Ok(Answer::Taken);
     }
-    judge_after(&state[..PACKET_LENGTH], p)
+    Ok(judge_after(&state[..PACKET_LENGTH], p))
 }
 
 fn judge_after(last: &[u8], p: &[u8]) -> Answer
@@ -47,49 +42,29 @@ fn judge_after(last: &[u8], p: &[u8]) -> Answer
 fn is_repeat(last: &[u8], p: &[u8]) -> bool
     ensures { result ≡ same_numbers last.now p.now }
 {
-    if wire::byte_at(last, 3) != wire::byte_at(p, 3) {
-        return false;
-    }
-    wire::is_equal(last, p)
+    wire::byte_at(last, 3) == wire::byte_at(p, 3) && wire::is_equal(last, p)
 }
 
-// Whether its counter follows that of the last packet.
+// Whether its counter follows that of the last packet: it turns with each payload.
 fn is_in_step(last: &[u8], p: &[u8]) -> bool
     ensures { result ≡ eqb (counter_of p.now) ((counter_of last.now + weight (view_of p.now)) % 16) }
 {
-    counter(p) == (counter(last) + turn(p)) % 16
-}
-
-// How far a packet turns the counter.
-fn turn(p: &[u8]) -> u8
-    ensures { (result ≡ weight (view_of p.now)) × (result < 2) }
-{
-    if has_payload(p) {
-        return 1;
-    }
-    0
+    counter(p) == (counter(last) + u8::from(has_payload(p))) % 16
 }
 
 // Whether a packet with this answer becomes the last.
-pub fn is_taken(a: Answer) -> bool
+pub fn is_taken(a: Result<Answer, u8>) -> bool
     ensures { result ≡ is_taken a }
 {
-    match a {
-        Answer::Taken => true,
-        Answer::Broken => true,
-        Answer::Repeated => false,
-        Answer::Refused(_) => false,
-    }
+    matches!(a, Ok(Answer::Taken | Answer::Broken))
 }
 
 // How much of the section in hand stays: a break drops it.
-pub fn kept(a: Answer, held: usize) -> usize
+pub fn kept(a: Result<Answer, u8>, held: usize) -> usize
     ensures { result ≡ cond (is_broken a) 0 held }
 {
     match a {
-        Answer::Broken => 0,
-        Answer::Taken => held,
-        Answer::Repeated => held,
-        Answer::Refused(_) => held,
+        Ok(Answer::Broken) => 0,
+        _ => held,
     }
 }

@@ -18,11 +18,12 @@ mod take;
 mod tally;
 
 ghost use Rattle.std.specs.Prelude.{◌≡◌, length};
+ghost use Rattle.wire.specs.Outcomes.{passed};
 ghost use Rattle.transport.specs.Calls.{lent_refusal, feed_answer, feed_state, feed_out, gather_answer, gather_state, gather_out};
 
 use state::is_good;
-use stretch::{came_to, pass};
-use tally::{counted_as, none};
+use stretch::pass;
+use tally::counted_as;
 
 // The bytes of a packet.
 pub const PACKET_LENGTH: usize = 188;
@@ -39,18 +40,17 @@ pub enum Answer {
     Taken,
     Broken,
     Repeated,
-    Refused(u8),
 }
 
-// An answer, beside the bytes of whole sections at the buffer's start.
+// An answer, or the number of a refusal, beside the bytes of whole sections at the buffer's start.
 #[derive(Clone, Copy)]
 pub struct Handed {
-    pub answer: Answer,
+    pub answer: Result<Answer, u8>,
     pub size: usize,
 }
 
 // How many packets had which answer; broken ones are counted among the taken, too.
-#[derive(Clone, Copy)]
+#[derive(Clone, Copy, Default)]
 pub struct Counts {
     pub taken: usize,
     pub repeated: usize,
@@ -61,11 +61,10 @@ pub struct Counts {
     pub refused43: usize,
 }
 
-// What came of a stretch of packets: 1 or 21, and nothing was passed, or 0; the bytes that were passed, the bytes of whole sections at the
-// buffer's start, and how many packets had which answer.
-#[derive(Clone, Copy)]
+// What came of a stretch of packets: the bytes that were passed, the bytes of whole sections at the buffer's start, and how many packets had
+// which answer.
+#[derive(Clone, Copy, Default)]
 pub struct Gathered {
-    pub refusal: u8,
     pub passed: usize,
     pub size: usize,
     pub counts: Counts,
@@ -77,49 +76,45 @@ pub fn feed(pid: u16, p: &[u8], state: &mut [u8], out: &mut [u8]) -> Handed
         × (state.new ≡ feed_state pid state.old (length out.old) p.now)
         × (out.new ≡ feed_out pid state.old p.now out.old) }
 {
-    let n = lent_refusal(pid, state, out.len());
-    if n != 0 {
-        return answered(Answer::Refused(n), 0);
+    if let Err(n) = judge_lent(pid, state, out.len()) {
+        return Handed {
+            answer: Err(n),
+            size: 0,
+        };
     }
     if p.len() != PACKET_LENGTH {
-        return answered(Answer::Refused(40), 0);
+        return Handed {
+            answer: Err(40),
+            size: 0,
+        };
     }
     let g = pass(pid, p, state, out);
-    let counts = g.counts;
-    answered(counted_as(counts), g.size)
+    Handed {
+        answer: counted_as(g.counts),
+        size: g.size,
+    }
 }
 
-// Many packets, laid end to end, one by one, for as long as the buffer has room for what one more may hand on.
-pub fn gather(pid: u16, packets: &[u8], state: &mut [u8], out: &mut [u8]) -> Gathered
+// Many packets, laid end to end, one by one, for as long as the buffer has room for what one more may hand on. Refused with 1 or 21, and then
+// nothing was passed.
+pub fn gather(pid: u16, packets: &[u8], state: &mut [u8], out: &mut [u8]) -> Result<Gathered, u8>
     ensures { (result ≡ gather_answer pid state.old (length out.old) packets.now)
         × (state.new ≡ gather_state pid state.old (length out.old) packets.now)
         × (out.new ≡ gather_out pid state.old packets.now out.old) }
 {
-    let n = lent_refusal(pid, state, out.len());
-    if n != 0 {
-        return came_to(n, 0, 0, none());
-    }
-    pass(pid, packets, state, out)
+    judge_lent(pid, state, out.len())?;
+    Ok(pass(pid, packets, state, out))
 }
 
-// 1 a state that the rules can't have left; 21 a buffer of too little room; else 0.
-fn lent_refusal(pid: u16, state: &[u8], room: usize) -> u8
-    ensures { result ≡ lent_refusal pid state.now room }
+// 1 a state that the rules can't have left; 21 a buffer of too little room.
+fn judge_lent(pid: u16, state: &[u8], room: usize) -> Result<(), u8>
+    ensures { result ≡ passed (lent_refusal pid state.now room) }
 {
     if !is_good(pid, state) {
-        return 1;
+        return Err(1);
     }
     if room < LEAST_ROOM {
-        return 21;
+        return Err(21);
     }
-    0
-}
-
-fn answered(answer: Answer, size: usize) -> Handed
-    ensures { result ≡ record { answer = answer; size = size } }
-{
-    Handed {
-        answer: answer,
-        size: size,
-    }
+    Ok(())
 }

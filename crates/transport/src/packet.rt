@@ -1,37 +1,37 @@
 // One packet: why it is refused, and where its bytes lie.
-ghost use Rattle.std.specs.Prelude.{◌≡◌, false, not, ◌&&◌, ◌-◌, ◌≤◌, ◌<◌, leb, length, take, drop};
+ghost use Rattle.std.specs.Prelude.{◌≡◌, false, not, ◌&&◌, ◌-◌, ◌≤◌, ◌<◌, is_some, IfSome, leb, length, take, drop};
 ghost use Rattle.wire.specs.Fields.{byte_at};
+ghost use Rattle.wire.specs.Outcomes.{passed};
 ghost use Rattle.transport.specs.Packet.{packet_length, has_field, has_payload, counter_of, payload_at, is_start, is_faulty, packet_refusal, view_of};
 
 use crate::PACKET_LENGTH;
 
-// Where a packet's bytes lie: those from `from` to `mid` go on with the section in hand, those from `mid` on begin sections.
+// Where the bytes of a payload lie: those from `from` to `mid` go on with the section in hand, those from `mid` on begin sections.
 #[derive(Clone, Copy)]
 pub struct Parts {
-    pub payload: bool,
     pub start: bool,
     pub from: usize,
     pub mid: usize,
 }
 
-// The number of its refusal; 0 where it is not refused.
+// The number that refuses it, if one does.
 #[tactic(auto, using(crate::proofs::Laws::Packets::refusals))]
-pub fn packet_refusal(pid: u16, p: &[u8]) -> u8
-    ensures { (result ≡ packet_refusal pid p.now) × (result < 256) }
+pub fn judge_packet(pid: u16, p: &[u8]) -> Result<(), u8>
+    ensures { result ≡ passed (packet_refusal pid p.now) }
 {
     if p.len() != PACKET_LENGTH {
-        return 40;
+        return Err(40);
     }
     if p[0] != 0x47 {
-        return 41;
+        return Err(41);
     }
     if wire::sixteen_at(p, 1) % 8192 != pid {
-        return 42;
+        return Err(42);
     }
     if is_faulty(p) {
-        return 43;
+        return Err(43);
     }
-    0
+    Ok(())
 }
 
 fn is_faulty(p: &[u8]) -> bool
@@ -115,37 +115,29 @@ pub fn counter(p: &[u8]) -> u8
     wire::byte_at(p, 3) % 16
 }
 
-// Where the bytes of a packet that is not refused lie.
-pub fn parts_of(p: &[u8]) -> Parts
+// Where the payload of a packet that is not refused lies, if it has one.
+pub fn parts_of(p: &[u8]) -> Option<Parts>
     requires { (length p.now ≡ packet_length) × (is_faulty p.now ≡ false) }
-    ensures { (result.payload ≡ (view_of p.now).payload) × (result.start ≡ (view_of p.now).start)
-        × (result.from ≤ result.mid) × (result.mid ≤ length p.now)
-        × (take (result.mid - result.from) (drop result.from p.now) ≡ (view_of p.now).before)
-        × (drop result.mid p.now ≡ (view_of p.now).after) }
+    ensures { (is_some result ≡ (view_of p.now).payload)
+        × IfSome result (λ v. (v.start ≡ (view_of p.now).start) × (v.from ≤ v.mid) × (v.mid ≤ length p.now)
+        × (take (v.mid - v.from) (drop v.from p.now) ≡ (view_of p.now).before)
+        × (drop v.mid p.now ≡ (view_of p.now).after)) }
 {
-    let end = p.len();
     if !has_payload(p) {
-        return Parts {
-            payload: false,
-            start: false,
-            from: end,
-            mid: end,
-        };
+        return None;
     }
     let at = payload_at(p);
     if !is_start(p) {
-        return Parts {
-            payload: true,
+        return Some(Parts {
             start: false,
             from: at,
-            mid: end,
-        };
+            mid: p.len(),
+        });
     }
     let from = at + 1;
-    Parts {
-        payload: true,
+    Some(Parts {
         start: true,
-        from: from,
+        from,
         mid: from + wire::eight_at(p, at),
-    }
+    })
 }

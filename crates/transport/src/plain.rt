@@ -1,7 +1,6 @@
 // Packets that do nothing but go on with the section in hand. Long sections are made of these, and this is the quick way for them.
-ghost use Rattle.std.specs.Prelude.{◌≡◌, true, ◌+◌, ◌≤◌, ◌<◌, length, take, drop};
+ghost use Rattle.std.specs.Prelude.{◌≡◌, true, ◌+◌, ◌≤◌, ◌<◌, IsSomeAnd, option_copied, length, take, drop};
 ghost use Rattle.section.specs.Whole.{said_length};
-ghost use Rattle.transport.specs.Packet.{packet_length};
 ghost use Rattle.transport.specs.State.{hand_at};
 ghost use Rattle.transport.specs.Pieces.{Plain};
 
@@ -9,19 +8,17 @@ use crate::PACKET_LENGTH;
 use crate::packet::counter;
 use crate::state::HAND_AT;
 
-// Whether a packet of many is one of these; the last one lies among them from `last` on.
-pub fn goes_on(pid: u16, packets: &[u8], last: usize, held: usize, p: &[u8], state: &[u8]) -> bool
-    requires { (last < length packets.now → length (take packet_length (drop last packets.now)) ≡ packet_length)
-        × (hand_at + held ≤ length state.now) }
-    ensures { result ≡ true → (last < length packets.now)
-        × Plain pid (take packet_length (drop last packets.now)) (take held (drop hand_at state.now)) p.now }
+// Whether a packet is one of these, by the last one, if that is known.
+pub fn goes_on(pid: u16, last: Option<&[u8]>, held: usize, p: &[u8], state: &[u8]) -> bool
+    requires { hand_at + held ≤ length state.now }
+    ensures { result ≡ true → IsSomeAnd (option_copied last.entry)
+        (λ l. Plain pid l (take held (drop hand_at state.now)) p.now) }
 {
-    if packets.len() <= last {
+    let Some(l) = last else {
         return false;
-    }
-    let end = last + PACKET_LENGTH;
+    };
     let until = HAND_AT + held;
-    is_plain(pid, &packets[last..end], &state[HAND_AT..until], p)
+    is_plain(pid, l, &state[HAND_AT..until], p)
 }
 
 fn is_plain(pid: u16, last: &[u8], hand: &[u8], p: &[u8]) -> bool

@@ -1,11 +1,11 @@
 // The state's bytes: whether the rules can have left them, and how they change.
-ghost use Rattle.std.specs.Prelude.{◌≡◌, ◌≤◌, ◌<◌, length, take, drop};
+ghost use Rattle.std.specs.Prelude.{◌≡◌, ◌≤◌, ◌<◌, IfSome, option_copied, length};
 ghost use Rattle.transport.specs.Packet.{packet_length};
 ghost use Rattle.transport.specs.Feed.{is_head};
 ghost use Rattle.transport.specs.State.{hand_at, held_in, state_good};
 ghost use Rattle.transport.specs.Pieces.{with_last, midway};
 
-use crate::packet::packet_refusal;
+use crate::packet::judge_packet;
 use crate::{PACKET_LENGTH, STATE_LENGTH};
 
 // Where the number of bytes in hand stands, and where they begin.
@@ -23,10 +23,9 @@ pub fn is_good(pid: u16, state: &[u8]) -> bool
         return false;
     }
     if state[0] == 0 {
-        let zeros = [0u8; HAND_AT];
-        return wire::is_equal(&state[..HAND_AT], &zeros);
+        return wire::is_equal(&state[..HAND_AT], &[0; HAND_AT]);
     }
-    if packet_refusal(pid, &state[..PACKET_LENGTH]) != 0 {
+    if judge_packet(pid, &state[..PACKET_LENGTH]).is_err() {
         return false;
     }
     let held = held_in(state);
@@ -54,21 +53,17 @@ fn is_head(hand: &[u8]) -> bool
     if hand[0] == section::STUFFING {
         return false;
     }
-    section::whole_at(hand) == 0
+    section::whole_at(hand).is_none()
 }
 
-// What is still to be written after a stretch: its packet from `last` on becomes the last, with so many bytes in hand; none where that is
-// past the stretch.
-pub fn keep_last(packets: &[u8], last: usize, held: usize, state: &mut [u8])
-    requires { (last < length packets.now → length (take packet_length (drop last packets.now)) ≡ packet_length)
-        × (held < 65536) × (hand_at ≤ length state.old) }
-    ensures { state.new ≡ midway packets.now last held state.old }
+// What is still to be written after a stretch: the last of its packets that was taken, if one was, with so many bytes in hand.
+pub fn keep_last(last: Option<&[u8]>, held: usize, state: &mut [u8])
+    requires { IfSome (option_copied last) (λ l. length l ≡ packet_length) × (held < 65536) × (hand_at ≤ length state.old) }
+    ensures { state.new ≡ midway (option_copied last.entry) held state.old }
 {
-    if packets.len() <= last {
-        return;
+    if let Some(l) = last {
+        keep(state, l, held);
     }
-    let end = last + PACKET_LENGTH;
-    keep(state, &packets[last..end], held);
 }
 
 // The packet becomes the last, with so many bytes in hand.

@@ -1,5 +1,5 @@
 // One packet, for a state that the rules can have left and a buffer that has room for what it may hand on.
-ghost use Rattle.std.specs.Prelude.{◌≡◌, true, false, List, ℕ, ◌+◌, ◌≤◌, length, take, drop};
+ghost use Rattle.std.specs.Prelude.{◌≡◌, true, false, List, ℕ, ◌+◌, ◌≤◌, option_copied, length, take, drop};
 ghost use Rattle.wire.specs.Items.{items, joined};
 ghost use Rattle.wire.specs.Pieces.{laid_first};
 ghost use Rattle.section.specs.Whole.{whole_at};
@@ -12,14 +12,14 @@ ghost use Rattle.transport.specs.Pieces.{with_last, midway, Midway, Stepped};
 use crate::Answer;
 use crate::hand::{hand_on, whole_in};
 use crate::judge::{is_taken, judge, kept};
-use crate::packet::parts_of;
+use crate::packet::{Parts, parts_of};
 use crate::plain::goes_on;
 use crate::state::HAND_AT;
 
 // What a packet came to: its answer, how many bytes it handed on, and how many are in hand after it.
 #[derive(Clone, Copy)]
 pub struct Step {
-    pub answer: Answer,
+    pub answer: Result<Answer, u8>,
     pub size: usize,
     pub held: usize,
 }
@@ -35,53 +35,35 @@ pub struct Brought {
 // after the last of them.
 pub fn take_packet(
     pid: u16,
-    packets: &[u8],
-    last: usize,
+    last: Option<&[u8]>,
     held: usize,
     p: &[u8],
     state: &mut [u8],
     out: &mut [u8],
 ) -> Step
-    requires { Midway pid packets.now last held state.old × (most_handed ≤ length out.old) }
-    ensures { Stepped pid (midway packets.now last held state.old) state.old held p.now out.old
+    requires { Midway pid (option_copied last) held state.old × (most_handed ≤ length out.old) }
+    ensures { Stepped pid (midway (option_copied last.entry) held state.old) state.old held p.now out.old
         result.answer result.size result.held state.new out.new }
 {
-    if !goes_on(pid, packets, last, held, p, state) {
-        return take_any(pid, packets, last, held, p, state, out);
+    if goes_on(pid, last, held, p, state) {
+        wire::copy_at(state, HAND_AT + held, &p[4..]);
+        return Step {
+            answer: Ok(Answer::Taken),
+            size: 0,
+            held: held + 184,
+        };
     }
-    wire::copy_at(state, HAND_AT + held, &p[4..]);
-    Step {
-        answer: Answer::Taken,
-        size: 0,
-        held: held + 184,
-    }
-}
-
-// The same, whatever packet it is.
-fn take_any(
-    pid: u16,
-    packets: &[u8],
-    last: usize,
-    held: usize,
-    p: &[u8],
-    state: &mut [u8],
-    out: &mut [u8],
-) -> Step
-    requires { Midway pid packets.now last held state.old × (most_handed ≤ length out.old) }
-    ensures { Stepped pid (midway packets.now last held state.old) state.old held p.now out.old
-        result.answer result.size result.held state.new out.new }
-{
-    let answer = judge(pid, packets, last, state, p);
+    let answer = judge(pid, last, state, p);
     if !is_taken(answer) {
         return Step {
-            answer: answer,
+            answer,
             size: 0,
-            held: held,
+            held,
         };
     }
     let b = take_payload(p, kept(answer, held), state, out);
     Step {
-        answer: answer,
+        answer,
         size: b.size,
         held: b.held,
     }
@@ -99,18 +81,13 @@ fn take_payload(p: &[u8], held: usize, state: &mut [u8], out: &mut [u8]) -> Brou
         })) state.old)
         × (out.new ≡ laid_first (joined (hands_on (take held (drop hand_at state.old)) (view_of p.now))) out.old) }
 {
-    let v = parts_of(p);
-    if !v.payload {
-        return Brought {
-            size: 0,
-            held: held,
-        };
-    }
-    let from = v.from;
-    let mid = v.mid;
+    let Some(v) = parts_of(p) else {
+        return Brought { size: 0, held };
+    };
+    let Parts { start, from, mid } = v;
     let end = HAND_AT + held;
     let n = hand_on(&state[HAND_AT..end], &p[from..mid], out);
-    if v.start {
+    if start {
         let b = begin(&p[mid..], state, &mut out[n..]);
         return Brought {
             size: n + b.size,

@@ -1,5 +1,5 @@
 -- THE RUN STRAIGHT FROM PACKETS (02 §2): the packets one by one; the sections that they hand on go to the receiver's run, record and image as they are.
-use Rattle.std.specs.Prelude.{ℕ, cond, List, []}
+use Rattle.std.specs.Prelude.{Result, Err, ℕ, cond, List}
 use Rattle.wire.specs.Items.{joined}
 use Rattle.carousel_record.specs.declared.Carousel.{Carousel}
 use Rattle.carousel_record.specs.Record.{ruled_of}
@@ -7,7 +7,7 @@ use Rattle.receiver.specs.Run.{ran_of, image_ran}
 use Rattle.transport.specs.declared.Gathered.{Gathered}
 use Rattle.transport.specs.Feed.{handed_on}
 use Rattle.transport.specs.State.{state_in}
-use Rattle.transport.specs.Calls.{gathered_packets, tally, gather_answer, gather_state, gather_out}
+use Rattle.transport.specs.Calls.{gathered_packets, gather_answer, gather_state, gather_out}
 use Rattle.transport_run.specs.declared.Heard.{Heard}
 
 -- more sections than any buffer has
@@ -19,8 +19,8 @@ unfoldable pub heard_stretch : (pid : ℕ) → (state : List ℕ) → (room : �
 heard_stretch pid s room xs = joined (handed_on pid (state_in s) (gathered_packets pid s room xs))
 
 -- 1, before all others: a record that breaks its rule. Then no packet is passed.
-abbrev pub none_gathered : Gathered
-none_gathered = record { refusal = 1; passed = 0; size = 0; counts = tally [] }
+abbrev pub none_gathered : Result Gathered ℕ
+none_gathered = Err 1
 
 unfoldable pub heard_answer : Carousel → (pid : ℕ) → (packets state : List ℕ) → (room : ℕ) → (image : List ℕ) → Heard
 heard_answer c pid xs s room image = cond (ruled_of c)

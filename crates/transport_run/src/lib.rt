@@ -5,15 +5,15 @@
 #![tactic(auto)]
 
 ghost use Rattle.std.specs.Prelude.{◌≡◌, length};
-ghost use Rattle.transport_run.specs.Heard.{none_gathered, heard_answer, heard_state, heard_out, heard_image};
+ghost use Rattle.transport_run.specs.Heard.{heard_answer, heard_state, heard_out, heard_image};
 
 use carousel_record::Carousel;
-use transport::{Counts, Gathered};
+use transport::Gathered;
 
-// What came of the packets, beside the record after the sections that they handed on.
+// What came of the packets, or why none was passed, beside the record after the sections that they handed on.
 #[derive(Clone, Copy)]
 pub struct Heard {
-    pub gathered: Gathered,
+    pub gathered: Result<Gathered, u8>,
     pub state: Carousel,
 }
 
@@ -34,36 +34,18 @@ pub fn run_packets(
 {
     if !carousel_record::is_ruled(c) {
         return Heard {
-            gathered: none_gathered(),
+            gathered: Err(1),
             state: c,
         };
     }
     let gathered = transport::gather(pid, packets, state, out);
-    let size = gathered.size;
-    let ran = receiver::run(c, &out[..size], image, usize::MAX);
-    let next = ran.state;
-    Heard {
-        gathered: gathered,
-        state: next,
-    }
-}
-
-fn none_gathered() -> Gathered
-    ensures { result ≡ none_gathered }
-{
-    let counts = Counts {
-        taken: 0,
-        repeated: 0,
-        broken: 0,
-        refused40: 0,
-        refused41: 0,
-        refused42: 0,
-        refused43: 0,
+    let size = match gathered {
+        Ok(g) => g.size,
+        Err(_) => 0,
     };
-    Gathered {
-        refusal: 1,
-        passed: 0,
-        size: 0,
-        counts: counts,
+    let ran = receiver::run(c, &out[..size], image, usize::MAX);
+    Heard {
+        gathered,
+        state: ran.state,
     }
 }

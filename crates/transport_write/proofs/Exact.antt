@@ -6,18 +6,20 @@ use mathlib.Core.Bool.{Bool, true, false, not, cond, ◌||◌}
 use mathlib.Core.List.{List, [], ◌∷◌, ◌++◌}
 use native.Mathlib.Omega.{arith}
 use lib.Dec.{ltb, eqb}
+use Rattle.std.proofs.Common.{Ok, Err}
 use lib.ListN.{length, drop}
 use borrow.Author.Tests.{lt-ltb, le-ltb, ltb-true, ltb-false, eq-eqb, ne_eqb, eqb-true, eqb-false, not-false}
 use Rattle.wire.specs.Fields.{byte_at}
 use Rattle.wire.specs.Items.{Whole, joined}
+use Rattle.wire.specs.Outcomes.{answered}
 use Rattle.wire.specs.Pieces.{laid_first}
 use Rattle.wire.specs.Tests.{holds, RisingFrom}
 use Rattle.wire.proofs.Laws.Tests.{neither, lowest_met}
+use Rattle.wire.proofs.Laws.Outcomes.{is_refused}
 use Rattle.wire.proofs.Laws.Order.{none-exactly, nth-exactly, unmet}
 use Rattle.section.specs.Header.{length_of}
 use Rattle.section.specs.Whole.{said_length, is_short, whole_at}
 use Rattle.section.proofs.Laws.Whole.{whole_is}
-use Rattle.transport_write.specs.declared.Packed.TheVariants as packed
 use Rattle.transport_write.specs.Writer.{section_packets, pack_tests, pack_refusal, pack_answer, packed_bytes}
 use Rattle.transport_write.proofs.Laws.Packets.{packets-many, room-asked}
 
@@ -143,17 +145,20 @@ module _ (pid c : ℕ) (s out : List ℕ) where
   abbrev n : ℕ
   n = pack_refusal pid c s (length out)
 
-  pub refused-keeps : (n ≡ 0 → ⊥) → (pack_answer pid c s (length out) ≡ packed.Refused n) × (packed_bytes pid c s out ≡ out)
+  pub refused-keeps : (n ≡ 0 → ⊥) → (pack_answer pid c s (length out) ≡ Err n) × (packed_bytes pid c s out ≡ out)
   unfolding pack_answer packed_bytes
-  refused-keeps h = rw (ne_eqb n 0 h) (refl, refl)
+  refused-keeps h = (is_refused n _ h, ap (λ (t : Bool). cond t (laid_first (joined (section_packets pid c s)) out) out) (ne_eqb n 0 h))
 
-  pub packed-is : n ≡ 0 → (pack_answer pid c s (length out) ≡ packed.Packets (length (section_packets pid c s))) × (packed_bytes pid c s out ≡ laid_first (joined (section_packets pid c s)) out)
+  pub packed-is : n ≡ 0 → (pack_answer pid c s (length out) ≡ Ok (length (section_packets pid c s))) × (packed_bytes pid c s out ≡ laid_first (joined (section_packets pid c s)) out)
   unfolding pack_answer packed_bytes
-  packed-is h = rw (eq-eqb n 0 h) (refl, refl)
+  packed-is h = (
+    ap (λ (k : ℕ). answered k (length (section_packets pid c s))) h,
+    ap (λ (t : Bool). cond t (laid_first (joined (section_packets pid c s)) out) out) (eq-eqb n 0 h),
+  )
 
   -- "what lies past" them "is unchanged"
-  pub written_is : n ≡ 0 → (pack_answer pid c s (length out) ≡ packed.Packets (length s / 184 + 1))
+  pub written_is : n ≡ 0 → (pack_answer pid c s (length out) ≡ Ok (length s / 184 + 1))
       × (packed_bytes pid c s out ≡ joined (section_packets pid c s) ++ drop (188 * (length s / 184 + 1)) out)
   written_is h =
       let k = packed-is h in
-      (k.0 ∙ ap packed.Packets (packets-many pid c s), k.1 ∙ ap (λ (m : ℕ). joined (section_packets pid c s) ++ drop m out) (room-asked pid c s))
+      (k.0 ∙ ap Ok (packets-many pid c s), k.1 ∙ ap (λ (m : ℕ). joined (section_packets pid c s) ++ drop m out) (room-asked pid c s))

@@ -2,12 +2,12 @@
 use Prim.Native.Nat.{ℕ}
 use mathlib.Core.Path.{◌≡◌, refl}
 use mathlib.Core.List.{List, [], ◌∷◌, ◌++◌, map}
+use Rattle.std.proofs.Common.{Ok, Err}
 use lib.ListN.{length, take, drop, replicate}
 use Rattle.wire.specs.Fields.{field_at}
 use Rattle.wire.specs.Items.{joined}
 use Rattle.wire.specs.Pieces.{cut, cut_in}
 use Rattle.wire.specs.Tests.{first_met}
-use Rattle.transport_write.specs.declared.Packed.TheVariants as packed
 use Rattle.transport_write.specs.Writer.{packets_over, section_packets, pack_refusal, pack_answer}
 
 -- table 0x70, a length L, and L bytes of 7
@@ -58,30 +58,30 @@ unfolding cut cut_in packets_over section_packets
 two-last = refl
 
 -- the answers: how many; a byte too few, or too many; stuffing; a buffer that is one byte short; a PID of 14 bits, a counter of 5
-two-counted : pack_answer 0x112 15 (sounded 181) 376 ≡ packed.Packets 2
+two-counted : pack_answer 0x112 15 (sounded 181) 376 ≡ Ok 2
 unfolding cut cut_in packets_over section_packets joined field_at first_met pack_refusal pack_answer
 two-counted = refl
 
-too_few : pack_answer 0x112 15 (0x70 ∷ 0 ∷ []) 376 ≡ packed.Refused 2
+too_few : pack_answer 0x112 15 (0x70 ∷ 0 ∷ []) 376 ≡ Err 2
 unfolding cut cut_in packets_over section_packets joined field_at first_met pack_refusal pack_answer
 too_few = refl
 
-too_many : pack_answer 0x112 15 (sounded 4 ++ (7 ∷ [])) 376 ≡ packed.Refused 2
+too_many : pack_answer 0x112 15 (sounded 4 ++ (7 ∷ [])) 376 ≡ Err 2
 unfolding cut cut_in packets_over section_packets joined field_at first_met pack_refusal pack_answer
 too_many = refl
 
-stuffed : pack_answer 0x112 15 (0xFF ∷ 0 ∷ 0 ∷ []) 376 ≡ packed.Refused 3
+stuffed : pack_answer 0x112 15 (0xFF ∷ 0 ∷ 0 ∷ []) 376 ≡ Err 3
 unfolding cut cut_in packets_over section_packets joined field_at first_met pack_refusal pack_answer
 stuffed = refl
 
-little-room : pack_answer 0x112 15 (sounded 181) 375 ≡ packed.Refused 21
+little-room : pack_answer 0x112 15 (sounded 181) 375 ≡ Err 21
 unfolding cut cut_in packets_over section_packets joined field_at first_met pack_refusal pack_answer
 little-room = refl
 
-wide_pid : pack_answer 0x2000 15 (sounded 0) 376 ≡ packed.Refused 25
+wide_pid : pack_answer 0x2000 15 (sounded 0) 376 ≡ Err 25
 unfolding cut cut_in packets_over section_packets joined field_at first_met pack_refusal pack_answer
 wide_pid = refl
 
-wide-counter : pack_answer 0x112 16 (sounded 0) 376 ≡ packed.Refused 25
+wide-counter : pack_answer 0x112 16 (sounded 0) 376 ≡ Err 25
 unfolding cut cut_in packets_over section_packets joined field_at first_met pack_refusal pack_answer
 wide-counter = refl

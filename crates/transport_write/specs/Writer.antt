@@ -1,12 +1,11 @@
 -- THE OTHER WAY: the packets of one section. It begins a packet (unit start, pointer 0); the rest of its last packet is 0xFF; no adaptation field.
-use Rattle.std.specs.Prelude.{ℕ, ◌+◌, ◌*◌, ◌/◌, ◌%◌, ◌-◌, not, cond, ◌||◌, List, [], ◌∷◌, ◌++◌, eqb, ltb, length, replicate}
+use Rattle.std.specs.Prelude.{ℕ, ◌+◌, ◌*◌, ◌/◌, ◌%◌, ◌-◌, not, cond, ◌||◌, Result, List, [], ◌∷◌, ◌++◌, eqb, ltb, length, replicate}
 use Rattle.wire.specs.Fields.{byte_at}
 use Rattle.wire.specs.Items.{joined}
+use Rattle.wire.specs.Outcomes.{answered}
 use Rattle.wire.specs.Pieces.{cut, laid_first}
 use Rattle.wire.specs.Tests.{Tests, first_met}
 use Rattle.section.specs.Whole.{said_length}
-use Rattle.transport_write.specs.declared.Packed.{Packed}
-use Rattle.transport_write.specs.declared.Packed.TheVariants as packed
 
 -- u is the unit start bit; the payload bit of the adaptation control is 1; no error, no priority, not scrambled
 abbrev pub packet_head : (pid u counter : ℕ) → List ℕ
@@ -39,8 +38,8 @@ pack_tests pid c s room =
 unfoldable pub pack_refusal : (pid counter : ℕ) → (section : List ℕ) → (room : ℕ) → ℕ
 pack_refusal pid c s room = first_met (pack_tests pid c s room)
 
-unfoldable pub pack_answer : (pid counter : ℕ) → (section : List ℕ) → (room : ℕ) → Packed
-pack_answer pid c s room = cond (eqb (pack_refusal pid c s room) 0) (packed.Packets (length (section_packets pid c s))) (packed.Refused (pack_refusal pid c s room))
+unfoldable pub pack_answer : (pid counter : ℕ) → (section : List ℕ) → (room : ℕ) → Result ℕ ℕ
+pack_answer pid c s room = answered (pack_refusal pid c s room) (length (section_packets pid c s))
 
 -- "what lies past" them "is unchanged; a refusal writes nothing"
 unfoldable pub packed_bytes : (pid counter : ℕ) → (section out : List ℕ) → List ℕ

@@ -7,6 +7,7 @@
 mod put;
 
 ghost use Rattle.std.specs.Prelude.{◌≡◌, ◌+◌, ◌/◌, length};
+ghost use Rattle.wire.specs.Outcomes.{passed};
 ghost use Rattle.transport_write.specs.Writer.{pack_refusal, pack_answer, packed_bytes};
 
 use put::put_section;
@@ -19,49 +20,39 @@ pub const PAYLOAD_LENGTH: usize = 184;
 // The most packets that a section can have.
 pub const MOST_PACKETS: usize = 23;
 
-// How many packets were written; or the refusal's number, and nothing is written.
-#[derive(Clone, Copy)]
-pub enum Packed {
-    Refused(u8),
-    Packets(usize),
-}
-
-// The packets of one section, with the counter of the first.
-pub fn write_packets(pid: u16, counter: u8, s: &[u8], out: &mut [u8]) -> Packed
+// The packets of one section, with the counter of the first. Answers how many were written; or the refusal's number, and nothing is written.
+pub fn write_packets(pid: u16, counter: u8, s: &[u8], out: &mut [u8]) -> Result<usize, u8>
     ensures { (result ≡ pack_answer pid counter s.now (length out.old))
         × (out.new ≡ packed_bytes pid counter s.now out.old) }
 {
-    let n = refusal(pid, counter, s, out.len());
-    if n != 0 {
-        return Packed::Refused(n);
-    }
-    Packed::Packets(put_section(out, pid, counter, s))
+    judge(pid, counter, s, out.len())?;
+    Ok(put_section(out, pid, counter, s))
 }
 
 // 2 or 3, no section; 21, a short buffer; 25, a PID or a counter that is too wide.
-fn refusal(pid: u16, counter: u8, s: &[u8], room: usize) -> u8
-    ensures { result ≡ pack_refusal pid counter s.now room }
+fn judge(pid: u16, counter: u8, s: &[u8], room: usize) -> Result<(), u8>
+    ensures { result ≡ passed (pack_refusal pid counter s.now room) }
 {
     let n = s.len();
     if n < 3 {
-        return 2;
+        return Err(2);
     }
     if n != 3 + wire::twelve_at(s, 1) {
-        return 2;
+        return Err(2);
     }
     if s[0] == section::STUFFING {
-        return 3;
+        return Err(3);
     }
     if room < PACKET_LENGTH * packets_in(n) {
-        return 21;
+        return Err(21);
     }
     if 0x1FFF < pid {
-        return 25;
+        return Err(25);
     }
     if 15 < counter {
-        return 25;
+        return Err(25);
     }
-    0
+    Ok(())
 }
 
 // How many packets a section of n bytes and its pointer fill.

@@ -29,13 +29,10 @@ fn put_unit(out: &mut [u8], pid: u16, counter: u8, unit: &[u8]) -> usize
         × (out.new ≡ laid_first (joined (packets_over pid 1 counter (cut payload_length unit.now))) out.old) }
 {
     let mut written: usize = 0;
-    let mut at: usize = 0;
     let mut start: u8 = 1;
     let mut c = counter;
-    while at < unit.len() {
-        let end = at + wire::lesser(PAYLOAD_LENGTH, unit.len() - at);
-        put_packet(out, PACKET_LENGTH * written, pid, start, c, &unit[at..end]);
-        at = end;
+    for bytes in unit.chunks(PAYLOAD_LENGTH) {
+        put_packet(out, PACKET_LENGTH * written, pid, start, c, bytes);
         start = 0;
         c = (c + 1) % 16;
         written += 1;

@@ -5,6 +5,8 @@ pub mod Spelled
 pub mod Tests
 pub mod Signed
 pub mod Order
+pub mod Sizes
+pub mod Outcomes
 pub mod Steps
 pub mod Frames
 pub mod Meaning

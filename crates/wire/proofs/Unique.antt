@@ -18,8 +18,6 @@ use Rattle.wire.proofs.measured_size.Kinds as size-kinds
 use Rattle.wire.proofs.measured_size.Reads as size-reads
 use Rattle.wire.proofs.measured_end.Kinds as end-kinds
 use Rattle.wire.proofs.measured_end.Reads as end_reads
-use Rattle.wire.proofs.lesser.Kinds as lesser-kinds
-use Rattle.wire.proofs.lesser.Reads as lesser-reads
 use Rattle.wire.proofs.rest.Kinds as rest-kinds
 use Rattle.wire.proofs.rest.Reads as rest-reads
 use Rattle.wire.proofs.bytes_at.Kinds as bytes-at-kinds
@@ -62,6 +60,3 @@ is-equal κs a x y s t p q = p ∙ sym q
 copy_at : (κs : Lfts 2) (a : Dens κs copy-kinds.ps) (x y : (res_t copy-kinds.r κs).Denot) (s t : AtExit (ended_of 2 copy-kinds.ps copy-kinds.r) κs)
     → copy-reads.Post κs a x s → copy-reads.Post κs a y t → s.0.now ≡ t.0.now
 copy_at κs a x y s t p q = p ∙ sym q
-
-lesser : OneAnswer 0 lesser-kinds.ps lesser-kinds.r lesser-reads.Post
-lesser κs a x y s t p q = p ∙ sym q

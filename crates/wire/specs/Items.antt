@@ -1,5 +1,5 @@
 -- Items that follow each other. A kind of item is one function, the size of the item that a list begins with, and 0 where it begins with no whole one.
-use Rattle.std.specs.Prelude.{ℕ, zero, suc, ◌+◌, ◌≤◌, ◌<◌, ◌≡◌, Bool, true, cond, ◌&&◌, List, [], ◌∷◌, ◌++◌, leb, eqb, length, take, drop}
+use Rattle.std.specs.Prelude.{ℕ, zero, suc, ◌+◌, ◌≤◌, ◌<◌, ◌≡◌, Bool, true, cond, ◌&&◌, Option, Some, None, List, [], ◌∷◌, ◌++◌, leb, eqb, length, take, drop}
 use Rattle.wire.specs.Fields.{byte_at}
 
 abbrev pub Size : Type 0
@@ -8,6 +8,11 @@ Size = List ℕ → ℕ
 -- the size that a header of h bytes says: itself, and as many bytes more as it says
 abbrev pub said : ℕ → (List ℕ → ℕ) → Size
 said h more xs = h + more (take h xs)
+
+-- a size as a call answers it: none where it is 0
+abbrev pub sized : ℕ → Option ℕ
+sized zero = None
+sized (suc n) = Some (suc n)
 
 -- The usual kind: a header of h bytes, and as many bytes more as the header says.
 unfoldable pub framed : ℕ → (List ℕ → ℕ) → Size
@@ -48,6 +53,12 @@ unfoldable pub end_of : ℕ → ℕ → List (List ℕ) → ℕ
 end_of zero at is = at
 end_of (suc n) at [] = 0
 end_of (suc n) at (x ∷ is) = end_of n (at + length x) is
+
+-- the same as a call answers it: none where there are fewer
+unfoldable pub end_at : ℕ → ℕ → List (List ℕ) → Option ℕ
+end_at zero at is = Some at
+end_at (suc n) at [] = None
+end_at (suc n) at (x ∷ is) = end_at n (at + length x) is
 
 -- each item meets a test
 unfoldable pub every : (List ℕ → Bool) → List (List ℕ) → Bool

@@ -6,3 +6,4 @@ pub mod Items
 pub mod Places
 pub mod Copies
 pub mod Pieces
+pub mod Outcomes

@@ -8,25 +8,18 @@
 
 mod copies;
 
-ghost use Rattle.std.specs.Prelude.{◌≡◌, ◌<◌, min, take, drop};
+ghost use Rattle.std.specs.Prelude.{◌≡◌, ◌<◌, take, drop};
 ghost use Rattle.wire.specs.Places.{after, bytes};
-ghost use Rattle.wire.specs.Items.{measured, items, end_of};
+ghost use Rattle.wire.specs.Items.{measured, sized, items, end_at};
 ghost use Rattle.wire.specs.Fields.{byte_at, twelve_at, sixteen_at, thirty_two_at};
 
 pub use copies::{copy_at, is_equal};
 
-// A part of a slice: where it starts and how many bytes it has; or nothing.
+// A part of a slice: where it starts and how many bytes it has.
 #[derive(Clone, Copy)]
-pub enum Place {
-    At { start: usize, size: usize },
-    Nothing,
-}
-
-// The number of an item among others, from 0; or none.
-#[derive(Clone, Copy)]
-pub enum Hit {
-    Item(usize),
-    Missing,
+pub struct Span {
+    pub start: usize,
+    pub size: usize,
 }
 
 // The byte at a place.
@@ -75,18 +68,21 @@ pub fn thirty_two_at(s: &[u8], at: usize) -> u32
 }
 
 // The size of the item that a slice begins with: a header of `h` bytes, whose byte `at` says how
-// many bytes follow. 0 where they are not all there.
-pub fn measured_size(s: &[u8], h: usize, at: usize) -> usize
-    ensures { result ≡ measured h at s.now }
+// many bytes follow. None where they are not all there, and of an item of no bytes.
+pub fn measured_size(s: &[u8], h: usize, at: usize) -> Option<usize>
+    ensures { result ≡ sized (measured h at s.now) }
 {
     if s.len() < h {
-        return 0;
+        return None;
     }
     let m = said_at(s, h, at);
     if s.len() - h < m {
-        return 0;
+        return None;
     }
-    h + m
+    if h + m == 0 {
+        return None;
+    }
+    Some(h + m)
 }
 
 // What the header says; a header that does not reach to its byte `at` says 0.
@@ -99,58 +95,37 @@ fn said_at(s: &[u8], h: usize, at: usize) -> usize
     eight_at(s, at)
 }
 
-// Where the first `count` such items from `start` on end, 0 where there are fewer.
-pub fn measured_end(s: &[u8], start: usize, count: usize, h: usize, at: usize) -> usize
-    ensures { result ≡ end_of count start (items (measured h at) (drop start s.now)) }
+// Where the first `count` such items from `start` on end, if there are as many.
+pub fn measured_end(s: &[u8], start: usize, count: usize, h: usize, at: usize) -> Option<usize>
+    ensures { result ≡ end_at count start (items (measured h at) (drop start s.now)) }
 {
-    let mut left = count;
     let mut i = start;
-    while 0 < left {
+    for k in 0..count {
         if s.len() <= i {
-            return 0;
+            return None;
         }
-        let n = measured_size(&s[i..], h, at);
-        if n == 0 {
-            return 0;
-        }
-        i += n;
-        left -= 1;
+        i += measured_size(&s[i..], h, at)?;
     }
-    i
+    Some(i)
 }
 
 // What follows the first `at` bytes.
-pub fn rest(x: &[u8], at: usize) -> Place
+pub fn rest(x: &[u8], at: usize) -> Option<Span>
     ensures { result ≡ after at x.now }
 {
-    if x.len() < at {
-        return Place::Nothing;
-    }
-    Place::At {
-        start: at,
-        size: x.len() - at,
-    }
+    let size = x.len().checked_sub(at)?;
+    Some(Span { start: at, size })
 }
 
 // The `n` bytes from `at` on.
-pub fn bytes_at(x: &[u8], at: usize, n: usize) -> Place
+pub fn bytes_at(x: &[u8], at: usize, n: usize) -> Option<Span>
     ensures { result ≡ bytes at n x.now }
 {
     if x.len() < at {
-        return Place::Nothing;
+        return None;
     }
     if x.len() - at < n {
-        return Place::Nothing;
+        return None;
     }
-    Place::At { start: at, size: n }
-}
-
-// Whichever is less.
-pub fn lesser(m: usize, n: usize) -> usize
-    ensures { result ≡ min m n }
-{
-    if m < n {
-        return m;
-    }
-    n
+    Some(Span { start: at, size: n })
 }

@@ -3,13 +3,13 @@ use Prim.Native.Nat.{ℕ, ◌+◌}
 use mathlib.Core.Path.{◌≡◌, refl, sym, ap, ◌∙◌}
 use mathlib.Core.Bool.{Bool, true, false, cond, ◌&&◌}
 use mathlib.Core.List.{List}
+use Rattle.std.proofs.Common.{Option, Some, None, unwrap_or}
 use native.Mathlib.Omega.{arith}
 use lib.Dec.{eqb}
 use lib.ListN.{length}
 use borrow.Author.Tests.{eq-eqb, ne_eqb}
 use Rattle.wire.specs.Items.{items, fills, every, number}
 use Rattle.wire.specs.Tests.{first_met}
-use Rattle.ait_descriptors.specs.declared.Walked.TheVariants.{Malformed, WellMade}
 use Rattle.ait_descriptors.specs.Kinds.{application}
 use Rattle.ait_descriptors.specs.Descriptor.{descriptor, tag_of}
 use Rattle.ait_descriptors.specs.Contents.{walked_of}
@@ -21,28 +21,28 @@ module _ (l : List ℕ) where
   abbrev zeros : ℕ
   zeros = number (λ d. eqb (tag_of d) 0x00) (items descriptor l)
 
-  pub walked_bad : walked_of l ≡ Malformed → good_loop l ≡ false
+  pub walked_bad : walked_of l ≡ None → good_loop l ≡ false
   unfolding walked_of good_loop
   walked_bad = go (good_loop l)
     where
-      go : (t : Bool) → cond t (WellMade zeros) Malformed ≡ Malformed → t ≡ false
+      go : (t : Bool) → cond t (Some zeros) None ≡ None → t ≡ false
       go true e = let z : ◌≡◌ {A = ℕ} 0 1 = cc in absurd (omega arith)
       go false e = refl
 
   module _ (m : ℕ) where
-    pub walked-good : walked_of l ≡ WellMade m → (good_loop l ≡ true) × (zeros ≡ m)
+    pub walked-good : walked_of l ≡ Some m → (good_loop l ≡ true) × (zeros ≡ m)
     unfolding walked_of good_loop
     walked-good = go (good_loop l)
       where
-        go : (t : Bool) → cond t (WellMade zeros) Malformed ≡ WellMade m → (t ≡ true) × (zeros ≡ m)
-        go true e = (refl, cc)
+        go : (t : Bool) → cond t (Some zeros) None ≡ Some m → (t ≡ true) × (zeros ≡ m)
+        go true e = (refl, ap (λ (o : Option ℕ). unwrap_or o 0) e)
         go false e = let z : ◌≡◌ {A = ℕ} 0 1 = cc in absurd (omega arith)
 
-  pub own_bad : walked_of l ≡ Malformed → 7 ≡ own_refusal l
+  pub own_bad : walked_of l ≡ None → 7 ≡ own_refusal l
   unfolding own_refusal first_met
   own_bad w = ap (λ (t : Bool). loop_refusal t (sole_loop l)) (sym (walked_bad w))
 
-  module _ (m : ℕ) (w : walked_of l ≡ WellMade m) where
+  module _ (m : ℕ) (w : walked_of l ≡ Some m) where
     own-good : (t : Bool) → eqb zeros 1 ≡ t → loop_refusal true t ≡ own_refusal l
     unfolding own_refusal sole_loop
     own-good t e = λ j. loop_refusal (sym (walked-good m w).0 j) (sym e j)
@@ -82,6 +82,15 @@ module _ (l : List ℕ) where
         go true true f = absurd (omega arith)
         go true false f = refl
         go false s f = absurd (omega arith)
+
+    pub eighteen_else : (k ≡ 0 → ⊥) → (k ≡ 7 → ⊥) → k ≡ 18
+    unfolding own_refusal first_met
+    eighteen_else z n = e ∙ go (good_loop l) (sole_loop l) (λ f. z (e ∙ f)) (λ f. n (e ∙ f))
+      where
+        go : (g s : Bool) → (loop_refusal g s ≡ 0 → ⊥) → (loop_refusal g s ≡ 7 → ⊥) → loop_refusal g s ≡ 18
+        go true true z n = absurd (z refl)
+        go true false z n = refl
+        go false s z n = absurd (n refl)
 
     pub not_eighteen : (k ≡ 7 → ⊥) → (k ≡ 18 → ⊥) → sole_loop l ≡ true
     unfolding own_refusal first_met

@@ -1,70 +1,85 @@
 -- `ait_body::applications_refusal` meets its contract: the invariant is `Judging`.
-use mathlib.Core.Path.{◌≡◌, refl, ap, ◌∙◌}
+use mathlib.Core.Path.{◌≡◌, refl, sym, ap, ◌∙◌}
 use mathlib.Core.Logic.{inl}
 use native.Mathlib.Omega.{arith}
 use Prim.Native.Nat.{◌+◌, ◌≤◌}
-use lib.ListN.{length, drop}
+use lib.ListN.{length, take, drop}
+use Rattle.wire.specs.Items.{sized}
+use Rattle.wire.specs.Outcomes.{passed}
 use Rattle.wire.proofs.Laws.Frames.{rest_in}
+use Rattle.wire.proofs.Laws.Sizes.{sized-has, sized-none}
+use Rattle.wire.proofs.Laws.Outcomes.{refused_by_lem, not_refused}
 use Rattle.wire.proofs.Laws.Loops.{tail, item-fits}
 use Rattle.ait_descriptors.specs.Kinds.{application, size_of}
 use Rattle.ait_descriptors.proofs.Laws.Kinds.{application_kind, application-least}
-use Rattle.ait_body.specs.Body.{own_refusal}
+use Rattle.ait_body.specs.Body.{own_loop, own_refusal}
+use Rattle.ait_body.proofs.Laws.Body.{eighteen_else}
 use Rattle.ait_body.proofs.Laws.Applications.{judge_open, judge_bad, judge_eighteen, judge-turn, judge-done}
 use Rattle.ait_body.proofs.applications_refusal.Goals as goal
-use Rattle.ait_body.proofs.applications_refusal.Goals.{After-size_of-n}
+use Rattle.ait_body.proofs.applications_refusal.Goals.{In-Some, After-own_refusal}
 
-pub loop-i-init : goal.loop-i-init
-loop-i-init c = (((omega arith, refl), (omega arith, refl)), inl (refl, (omega arith, refl)))
+pub loop-n-init : goal.loop-n-init
+loop-n-init c = (((omega arith, refl), (omega arith, refl)), inl (refl, (omega arith, refl)))
 
 -- what the call answered: the size of the application at i, that it ends within the slice and has its nine bytes
-sized : (c : After-size_of-n) → c.size_of-n.result ≡ application (drop c.loop-i.i c.args.s.now)
+size : (c : In-Some) → (c.in-Some.n ≡ application (drop c.loop-n.i c.args.s.now)) × (c.in-Some.n ≡ 0 → ⊥)
 unfolding size_of
-sized c = c.size_of-n.ensures ∙ ap application (tail c.args.s.now c.loop-i.i)
+size c = sized-has _ _ (c.in-Some.ensures ∙ ap (λ l. sized (application l)) (tail c.args.s.now c.loop-n.i))
 
-within : (c : After-size_of-n) → c.loop-i.i + c.size_of-n.result ≤ length c.args.s.now
-within c = item-fits application application_kind c.args.s.now c.loop-i.i _ (sized c) (omega arith)
+within : (c : In-Some) → c.loop-n.i + c.in-Some.n ≤ length c.args.s.now
+within c = item-fits application application_kind c.args.s.now c.loop-n.i _ (size c).0 (omega arith)
 
-nine : (c : After-size_of-n) → (c.size_of-n.result ≡ 0 → ⊥) → 9 ≤ c.size_of-n.result
-nine c n = let h = application-least _ (λ z. n (sized c ∙ z)) in omega (arith, sized c)
+nine : (c : In-Some) → 9 ≤ c.in-Some.n
+nine c = let h = application-least _ (λ z. (size c).1 ((size c).0 ∙ z)) in omega (arith, (size c).0)
 
-pub returns-then-n-eq0 : goal.returns-then-n-eq0
-returns-then-n-eq0 c = judge_open _ _ _ (sized (goal.at.returns-then-n-eq0 c).After-size_of-n) _ c.loop-i.invariant (omega arith) c.if-n-eq0.true
+-- and what is said of its own loop
+own : (c : After-own_refusal) → c.own_refusal.result ≡ passed (own_refusal (own_loop (take c.in-Some.n (drop c.loop-n.i c.args.s.now))))
+own c =
+    let q = (goal.at.After-own_refusal c).In-Some in
+    c.own_refusal.ensures ∙ ap (λ l. passed (own_refusal l)) (rest_in c.args.s.now c.loop-n.i 9 c.in-Some.n (nine q) (within q))
 
 pub overflow_add-e : goal.overflow_add-e
-overflow_add-e c = omega (arith, within (goal.at.overflow_add-e c).After-size_of-n)
+overflow_add-e c = omega (arith, within (goal.at.overflow_add-e c).In-Some)
 
 pub slice_bounds-own_refusal-count : goal.slice_bounds-own_refusal-count
-slice_bounds-own_refusal-count c = omega (arith, nine (goal.at.slice_bounds-own_refusal-count c).After-size_of-n c.if-n-eq0.false)
+slice_bounds-own_refusal-count c = omega (arith, nine (goal.at.slice_bounds-own_refusal-count c).In-Some)
 
 pub slice_bounds-own_refusal-start : goal.slice_bounds-own_refusal-start
-slice_bounds-own_refusal-start c = omega (arith, nine (goal.at.slice_bounds-own_refusal-start c).After-size_of-n c.if-n-eq0.false)
+slice_bounds-own_refusal-start c = omega (arith, nine (goal.at.slice_bounds-own_refusal-start c).In-Some)
 
 pub slice_bounds-own_refusal-end : goal.slice_bounds-own_refusal-end
-slice_bounds-own_refusal-end c = omega (arith, within (goal.at.slice_bounds-own_refusal-end c).After-size_of-n)
+slice_bounds-own_refusal-end c = omega (arith, within (goal.at.slice_bounds-own_refusal-end c).In-Some)
 
-pub returns-then-k-eq7 : goal.returns-then-k-eq7
-returns-then-k-eq7 c =
-    let q = (goal.at.returns-then-k-eq7 c).After-size_of-n in
-    let k = c.own_refusal-k.ensures ∙ ap own_refusal (rest_in c.args.s.now c.loop-i.i 9 c.size_of-n.result (nine q c.if-n-eq0.false) (within q)) in
-    judge_bad _ _ _ (sized q) _ c.loop-i.invariant c.if-n-eq0.false _ k c.if-k-eq7.true
+pub returns-in-Err-eq7 : goal.returns-in-Err-eq7
+returns-in-Err-eq7 c =
+    let q = size (goal.at.returns-in-Err-eq7 c).In-Some in
+    let k = refused_by_lem _ _ tt (sym c.in-Err-eq7.is ∙ own (goal.at.returns-in-Err-eq7 c).After-own_refusal) in
+    ap passed (judge_bad _ _ _ q.0 _ c.loop-n.invariant q.1 _ k.0 c.in-Err-eq7.field-0-test)
 
-pub loop-i-smaller-then-k-eq18 : goal.loop-i-smaller-then-k-eq18
-loop-i-smaller-then-k-eq18 c = omega (arith, within (goal.at.loop-i-smaller-then-k-eq18 c).After-size_of-n)
+pub loop-n-smaller-in-Err : goal.loop-n-smaller-in-Err
+loop-n-smaller-in-Err c = let q = (goal.at.loop-n-smaller-in-Err c).In-Some in omega (arith, within q, nine q)
 
-pub loop-i-preserved-then-k-eq18 : goal.loop-i-preserved-then-k-eq18
-loop-i-preserved-then-k-eq18 c =
-    let q = (goal.at.loop-i-preserved-then-k-eq18 c).After-size_of-n in
-    let k = c.own_refusal-k.ensures ∙ ap own_refusal (rest_in c.args.s.now c.loop-i.i 9 c.size_of-n.result (nine q c.if-n-eq0.false) (within q)) in
-    judge_eighteen _ _ _ (sized q) _ c.loop-i.invariant c.if-n-eq0.false _ k c.if-k-eq7.false c.if-k-eq18.true
+pub loop-n-preserved-in-Err : goal.loop-n-preserved-in-Err
+loop-n-preserved-in-Err c =
+    let q = size (goal.at.loop-n-preserved-in-Err c).In-Some in
+    let k = refused_by_lem _ _ tt (sym c.in-Err.is ∙ own (goal.at.loop-n-preserved-in-Err c).After-own_refusal) in
+    let e = eighteen_else _ _ k.0 (λ z. k.1 (sym k.0 ∙ z)) c.in-Err.k-test.1 in
+    judge_eighteen _ _ _ q.0 _ c.loop-n.invariant q.1 _ k.0 c.in-Err.k-test.1 e
 
-pub loop-i-smaller : goal.loop-i-smaller
-loop-i-smaller c = omega (arith, within (goal.at.loop-i-smaller c).After-size_of-n)
+pub loop-n-smaller : goal.loop-n-smaller
+loop-n-smaller c = let q = (goal.at.loop-n-smaller c).In-Some in omega (arith, within q, nine q)
 
-pub loop-i-preserved : goal.loop-i-preserved
-loop-i-preserved c =
-    let q = (goal.at.loop-i-preserved c).After-size_of-n in
-    let k = c.own_refusal-k.ensures ∙ ap own_refusal (rest_in c.args.s.now c.loop-i.i 9 c.size_of-n.result (nine q c.if-n-eq0.false) (within q)) in
-    judge-turn _ _ _ (sized q) _ c.loop-i.invariant c.if-n-eq0.false _ k c.if-k-eq7.false c.if-k-eq18.false
+pub loop-n-preserved : goal.loop-n-preserved
+loop-n-preserved c =
+    let q = size (goal.at.loop-n-preserved c).In-Some in
+    let k = not_refused _ tt _ (sym c.in-Ok.is ∙ own (goal.at.loop-n-preserved c).After-own_refusal) in
+    judge-turn _ _ _ q.0 _ c.loop-n.invariant q.1 0 (sym k) (omega arith) (omega arith)
+
+pub returns-then-i-s : goal.returns-then-i-s
+unfolding size_of
+returns-then-i-s c =
+    let z = sym (sized-none _ (c.in_default.ensures ∙ ap (λ l. sized (application l)) (tail c.args.s.now c.loop-n.i))) in
+    ap passed (judge_open _ _ _ z _ c.loop-n.invariant (omega arith) refl)
 
 pub returns : goal.returns
-returns c = judge-done c.args.s.now c.loop-i.i _ (omega arith) c.loop-i.invariant
+returns c = judge-done c.args.s.now c.loop-n.i _ (omega arith) c.loop-n.invariant

@@ -4,8 +4,8 @@ use lib.ListN.{length}
 use Rattle.ait_body.proofs.Laws.Applications.{Judging}
 use Rattle.ait_body.proofs.applications_refusal.Given as goal
 
-abbrev pub invariant-loop-i : goal.invariant-loop-i
-invariant-loop-i l = Judging l.s l.i l.number
+abbrev pub invariant-loop-n : goal.invariant-loop-n
+invariant-loop-n l = Judging l.s l.i l.answer
 
-abbrev pub decreases-loop-i : goal.decreases-loop-i
-decreases-loop-i l = length l.s - l.i
+abbrev pub decreases-loop-n : goal.decreases-loop-n
+decreases-loop-n l = length l.s - l.i

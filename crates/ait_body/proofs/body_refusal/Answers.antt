@@ -3,6 +3,7 @@ use mathlib.Core.Path.{◌≡◌, sym, ap, ◌∙◌}
 use native.Mathlib.Omega.{arith}
 use Prim.Native.Nat.{ℕ, ◌+◌}
 use lib.ListN.{length, take, drop}
+use Rattle.wire.specs.Outcomes.{passed}
 use Rattle.wire.specs.Fields.{twelve_at}
 use Rattle.wire.proofs.Laws.Finders.{part}
 use Rattle.wire.proofs.Laws.Loops.{tail}
@@ -26,19 +27,19 @@ common c =
     c.walk_loop.ensures ∙ ap walked_of (part b 2 c.twelve_at-n.result ∙ ap (λ (x : ℕ). take x (drop 2 b)) n)
 
 pub returns-then-at-twelve_at : goal.returns-then-at-twelve_at
-returns-then-at-twelve_at c = let n = lengths (goal.at.returns-then-at-twelve_at c).After-twelve_at in is7 _ (uneven _ (λ e. omega (arith, n, c.if-at-twelve_at.true)))
+returns-then-at-twelve_at c = let n = lengths (goal.at.returns-then-at-twelve_at c).After-twelve_at in ap passed (is7 _ (uneven _ (λ e. omega (arith, n, c.if-at-twelve_at.true))))
 
-pub returns-in-Malformed : goal.returns-in-Malformed
-returns-in-Malformed c =
+pub returns-in-None : goal.returns-in-None
+returns-in-None c =
     let b = c.args.b.now in
-    let n = lengths (goal.at.returns-in-Malformed c).After-twelve_at in
+    let n = lengths (goal.at.returns-in-None c).After-twelve_at in
     let e : 4 + common_length b + loop_length b ≡ length b = omega (arith, n) in
-    is7 _ (common_bad _ e (walked_bad _ (sym (common (goal.at.returns-in-Malformed c).After-walk_loop) ∙ c.in-Malformed.is)))
+    ap passed (is7 _ (common_bad _ e (walked_bad _ (sym (common (goal.at.returns-in-None c).After-walk_loop) ∙ c.in-None.is))))
 
-pub returns-in-WellMade : goal.returns-in-WellMade
-returns-in-WellMade c =
+pub returns-in-Some : goal.returns-in-Some
+returns-in-Some c =
     let b = c.args.b.now in
-    let n = lengths (goal.at.returns-in-WellMade c).After-twelve_at in
+    let n = lengths (goal.at.returns-in-Some c).After-twelve_at in
     let e : 4 + common_length b + loop_length b ≡ length b = omega (arith, n) in
-    c.applications_refusal.ensures ∙ ap applications_refusal (tail b _ ∙ ap (λ (x : ℕ). drop (4 + x) b) n.0)
-    ∙ applications_decide b e (walked-good _ _ (sym (common (goal.at.returns-in-WellMade c).After-walk_loop) ∙ c.in-WellMade.is)).0
+    c.applications_refusal.ensures ∙ ap passed (ap applications_refusal (tail b _ ∙ ap (λ (x : ℕ). drop (4 + x) b) n.0)
+    ∙ applications_decide b e (walked-good _ _ (sym (common (goal.at.returns-in-Some c).After-walk_loop) ∙ c.in-Some.is)).0)

@@ -3,20 +3,30 @@ use Prim.Native.Nat.{ℕ, zero, suc, ◌+◌, ◌≤◌, ◌<◌}
 use mathlib.Core.Path.{◌≡◌, refl, sym, ap, ◌∙◌}
 use mathlib.Core.Bool.{Bool, true, false, cond}
 use mathlib.Core.List.{List, [], ◌∷◌}
+use Rattle.std.proofs.Common.{Option, Some, None, IfSome}
 use native.Mathlib.Omega.{arith}
 use lib.Dec.{leb}
 use lib.ListN.{length, take, drop}
 use borrow.Author.Tests.{le-leb, lt-leb, leb-true}
 use Rattle.wire.specs.Fields.{byte_at, twelve_at, bits}
 use Rattle.wire.proofs.Laws.Fields.{field_take}
-use Rattle.wire.specs.Items.{Size, IsKind, items, count, number, end_of}
+use Rattle.wire.specs.Items.{Size, IsKind, items, sized, count, number, end_of, end_at}
 use Rattle.wire.proofs.Laws.Frames.{framed_kind, framed-least, same_byte, same_length}
+use Rattle.wire.proofs.Laws.Sizes.{sized-some, sized-has}
+use Rattle.wire.proofs.Laws.Loops.{item-fits}
 use Rattle.wire.proofs.Laws.Counted.{counted-fits, counted-own, counted-all, ends-after}
 use Rattle.ait_descriptors.specs.declared.Kind.{Kind}
 use Rattle.ait_descriptors.specs.declared.Kind.TheVariants.{Application, Descriptor, Profile, Label, Name, Base, Extension, Identifier}
 use Rattle.ait_descriptors.specs.Descriptor.{descriptor}
 use Rattle.ait_descriptors.specs.Kinds.{application, size_of}
 use Rattle.ait_descriptors.specs.Tag02.{extension, extensions_start, extension_count, base}
+
+-- an end that is not 0, as a call answers it
+end-sized : (n at : ℕ) (is : List (List ℕ)) → 0 < at → end_at n at is ≡ sized (end_of n at is)
+unfolding end_at end_of
+end-sized zero at is h = sized-some at h
+end-sized (suc n) at [] h = refl
+end-sized (suc n) at (x ∷ is) h = end-sized n (at + length x) is (omega arith)
 
 -- a base with its extensions: what the first bytes say, then a counted list
 module _ (xs : List ℕ) where
@@ -35,9 +45,18 @@ module _ (xs : List ℕ) where
   unfolding base
   base-is h = rw (le-leb (extensions_start xs) (length xs) h)
 
+  -- as code measures it
+  pub base-at : extensions_start xs ≤ length xs → end_at (extension_count xs) (extensions_start xs) (items extension (drop (extensions_start xs) xs)) ≡ sized (base xs)
+  base-at h = end-sized (extension_count xs) (extensions_start xs) (items extension (drop (extensions_start xs) xs)) (omega arith) ∙ ap sized (sym (base-is h))
+
   pub base-none : length xs < extensions_start xs → base xs ≡ 0
   unfolding base
   base-none h = rw (lt-leb (extensions_start xs) (length xs) h)
+
+-- an item that a call measured ends within the list
+pub within : (size : Size) → IsKind size → (s : List ℕ) (i : ℕ) (r : Option ℕ) → r ≡ sized (size (drop i s)) → i ≤ length s → IfSome r (λ n. i + n ≤ length s)
+within size kind s i None e h = tt
+within size kind s i (Some n) e h = item-fits size kind s i n (sized-has n (size (drop i s)) e).0 h
 
 pub extension_kind : IsKind extension
 extension_kind = framed_kind 1 (λ h. byte_at h 0)

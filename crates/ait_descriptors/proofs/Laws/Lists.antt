@@ -3,16 +3,15 @@ use Prim.Native.Nat.{ℕ, ◌+◌, ◌-◌, ◌≤◌, ◌<◌}
 use mathlib.Core.Path.{◌≡◌, sym, ap, ◌∙◌}
 use mathlib.Core.Bool.{Bool, true, false, cond}
 use mathlib.Core.List.{List, []}
+use Rattle.std.proofs.Common.{None}
 use native.Mathlib.Omega.{arith}
 use lib.Dec.{eqb}
 use lib.ListN.{length, take, drop, length-drop, drop_of_length-le}
 use lib.Seq.{take_all, take-nil}
 use borrow.Author.Tests.{eq-eqb, ne_eqb}
-use Rattle.wire.specs.declared.Place.{Place}
-use Rattle.wire.specs.declared.Place.TheVariants.{At, Nothing}
 use Rattle.wire.specs.Fields.{byte_at, sixteen_at}
 use Rattle.wire.specs.Items.{count, items, items_in}
-use Rattle.wire.specs.Places.{Finder, after, bytes, Inside, part_at}
+use Rattle.wire.specs.Places.{Place, At, Finder, after, bytes, Inside, part_at}
 use Rattle.wire.proofs.Laws.Finders.{Sound, sound-after, sound-bytes}
 use Rattle.ait_descriptors.specs.declared.Kind.{Kind}
 use Rattle.ait_descriptors.specs.declared.Repeated.{Repeated}
@@ -30,7 +29,7 @@ pub inside_of : (f : Finder) → Sound f → (p : Place) (s : List ℕ) → p �
 inside_of f sf p s e a n h = sf s a n (sym e ∙ h)
 
 -- a finder behind a test
-inside_if : (t : Bool) (p : Place) (s : List ℕ) → Inside p s → Inside (cond t p Nothing) s
+inside_if : (t : Bool) (p : Place) (s : List ℕ) → Inside p s → Inside (cond t p None) s
 inside_if true p s i a n h = i a n h
 inside_if false p s i a n h = let z : ◌≡◌ {A = ℕ} 0 1 = cc in absurd (omega arith)
 
@@ -48,7 +47,7 @@ sound-list Identifiers s = sound_tagged 0x05 2 s
 
 -- what repeats in a descriptor, from the facts that code learns
 module _ (d : List ℕ) where
-  pub tagged-other : (t a : ℕ) → (tag_of d ≡ t → ⊥) → Nothing ≡ tagged_rest t a d
+  pub tagged-other : (t a : ℕ) → (tag_of d ≡ t → ⊥) → None ≡ tagged_rest t a d
   unfolding tagged_rest
   tagged-other t a n = rw (ne_eqb (tag_of d) t n)
 
@@ -56,7 +55,7 @@ module _ (d : List ℕ) where
   unfolding tagged_rest
   tagged_is t a e = rw (eq-eqb (tag_of d) t e)
 
-  pub bases-other : (sixteen_at d 2 ≡ 3 → ⊥) → Nothing ≡ bases_in d
+  pub bases-other : (sixteen_at d 2 ≡ 3 → ⊥) → None ≡ bases_in d
   unfolding bases_in
   bases-other n = rw (ne_eqb (sixteen_at d 2) 3 n)
 
@@ -64,7 +63,7 @@ module _ (d : List ℕ) where
   unfolding bases_in
   bases-is e = rw (eq-eqb (sixteen_at d 2) 3 e)
 
-  pub profiles-other : (tag_of d ≡ 0x00 → ⊥) → Nothing ≡ profiles_in d
+  pub profiles-other : (tag_of d ≡ 0x00 → ⊥) → None ≡ profiles_in d
   unfolding profiles_in
   profiles-other n = rw (ne_eqb (tag_of d) 0 n)
 
@@ -85,7 +84,7 @@ count_of k p q s e = ap (λ (r : Place). count (size_of k) (part_at r s)) e
 
 -- a count at a place
 module _ (k : Kind) (p : Place) (s : List ℕ) where
-  pub counted_none : p ≡ Nothing → 0 ≡ count_at k p s
+  pub counted_none : p ≡ None → 0 ≡ count_at k p s
   unfolding count_at count part_at items items_in
   counted_none e = ap (λ (q : Place). count_at k q s) (sym e)
 

@@ -2,13 +2,12 @@
 use Prim.Native.Nat.{ℕ, zero, suc, ◌+◌, ◌≤◌}
 use mathlib.Core.Path.{◌≡◌, refl, sym, ap, ◌∙◌}
 use mathlib.Core.List.{List, [], ◌∷◌, ◌++◌, map}
+use Rattle.std.proofs.Common.{Some, None}
 use native.Mathlib.Omega.{arith}
 use lib.ListN.{length, take, drop, length-take, length-drop}
 use lib.Seq.{take_at, drop_at, drop-drop}
-use Rattle.wire.specs.declared.Place.{Place}
-use Rattle.wire.specs.declared.Place.TheVariants.{At, Nothing}
 use Rattle.wire.specs.Items.{Size, IsKind, items, items_in}
-use Rattle.wire.specs.Places.{place_from, item_at, in_part, Inside, part_at}
+use Rattle.wire.specs.Places.{Place, At, place_from, item_at, in_part, Inside, part_at}
 use Rattle.wire.proofs.Laws.Finders.{in_part-at, part_part, item-is}
 use Rattle.ait_grammar.specs.Bytes.{spell_all}
 use Rattle.ait_grammar.specs.Shown.{ValueAt}
@@ -44,20 +43,20 @@ module _ {A : Type 0} (spell : A → List ℕ) where
     pub value_found : (p : Place) (s : List ℕ) → Inside p s → part_at p s ≡ spell_all spell vs
         → (c : ℕ) × (in_part (item_at size k) p s ≡ At c (length (spell v))) × (take (length (spell v)) (drop c s) ≡ spell v)
     unfolding part_at items items_in
-    value_found Nothing s i f = absurd (none vs e (sym (ap (items size) f ∙ are)))
+    value_found None s i f = absurd (none vs e (sym (ap (items size) f ∙ are)))
       where
         none : (us : List A) → ValueAt k us v → map spell us ≡ items size [] → ⊥
         none [] d g = d
         none (u ∷ us) d g = let z : ◌≡◌ {A = ℕ} 0 1 = cc in omega arith
-    value_found (At a n) s i f =
+    value_found (Some p) s i f =
         let r = value-at in
-        let l : List ℕ = take n (drop a s) in
+        let l : List ℕ = take p.size (drop p.start s) in
         let t : item_at size k l ≡ At r.0 (length (spell v)) = ap (item_at size k) f ∙ r.1 in
         let j = item-is size kind k l r.0 (length (spell v)) t in
-        let h = i a n refl in
-        let w : r.0 + length (spell v) ≤ n = omega (arith, simp (length-take, length-drop) at j.0) in (
-          a + r.0,
-          in_part-at (item_at size k) s a n r.0 (length (spell v)) t,
-          sym (part_part s a n r.0 (length (spell v)) h w)
+        let h = i p.start p.size refl in
+        let w : r.0 + length (spell v) ≤ p.size = omega (arith, simp (length-take, length-drop) at j.0) in (
+          p.start + r.0,
+          in_part-at (item_at size k) s p.start p.size r.0 (length (spell v)) t,
+          sym (part_part s p.start p.size r.0 (length (spell v)) h w)
               ∙ ap (λ (x : List ℕ). take (length (spell v)) (drop r.0 x)) f ∙ r.2,
         )

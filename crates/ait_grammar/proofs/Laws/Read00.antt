@@ -6,10 +6,9 @@ use native.Mathlib.Nat.{mod-eq_of_lt}
 use native.Mathlib.Omega.{arith}
 use lib.ListN.{length, take, drop, length-append}
 use lib.Seq.{drop_at, take_at}
-use Rattle.wire.specs.declared.Place.{Place}
 use Rattle.wire.specs.Fields.{byte_at, sixteen_at, bits, spelled}
 use Rattle.wire.specs.Items.{count, items}
-use Rattle.wire.specs.Places.{after, bytes, part_at}
+use Rattle.wire.specs.Places.{Place, after, bytes, part_at}
 use Rattle.wire.proofs.Laws.Fields.{spelled_length, spelled-reads}
 use Rattle.ait_grammar.specs.Bytes.{sized8, spell_all}
 use Rattle.ait_grammar.specs.Contents.{DescriptorValue, spell_contents, spell_descriptor, FitsDescriptor, of00}

@@ -6,10 +6,9 @@ use native.Mathlib.Nat.{mod-eq_of_lt}
 use native.Mathlib.Omega.{arith}
 use lib.ListN.{length, drop, length-append}
 use lib.Seq.{get_or-drop, drop_at}
-use Rattle.wire.specs.declared.Place.{Place}
 use Rattle.wire.specs.Fields.{byte_at, field_at, sixteen_at, bits, spelled}
 use Rattle.wire.specs.Items.{count, items}
-use Rattle.wire.specs.Places.{after, part_at}
+use Rattle.wire.specs.Places.{Place, after, part_at}
 use Rattle.wire.proofs.Laws.Fields.{field_drop, spelled_length, spelled-reads}
 use Rattle.wire.proofs.Laws.Finders.{after-at}
 use Rattle.wire.proofs.Laws.Loops.{tail}

@@ -6,10 +6,9 @@ use native.Mathlib.Nat.{mod-eq_of_lt}
 use native.Mathlib.Omega.{arith}
 use lib.ListN.{length, take, drop, length-append}
 use lib.Seq.{get_or-drop, drop-drop, drop_at}
-use Rattle.wire.specs.declared.Place.{Place}
 use Rattle.wire.specs.Fields.{byte_at, field_at, spelled}
 use Rattle.wire.specs.Items.{Size, count, items, Whole, IsKind}
-use Rattle.wire.specs.Places.{after, bytes, part_at}
+use Rattle.wire.specs.Places.{Place, after, bytes, part_at}
 use Rattle.wire.proofs.Laws.Fields.{field-one, field_drop, spelled_length, spelled-reads}
 use Rattle.wire.proofs.Laws.Finders.{after-at, bytes-at}
 use Rattle.wire.proofs.Laws.Loops.{tail}

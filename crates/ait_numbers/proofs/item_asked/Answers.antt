@@ -2,9 +2,9 @@
 use mathlib.Core.Path.{sym, ◌∙◌}
 use Rattle.ait_numbers.proofs.item_asked.Goals as goal
 
-pub returns-in-Items : goal.returns-in-Items
-returns-in-Items c =
-    rw (sym c.asked_by.ensures ∙ c.in-Items.is) c.item_at.ensures.0
+pub returns-in-Some : goal.returns-in-Some
+returns-in-Some c =
+    rw (sym c.asked_by.ensures ∙ c.in-Some.is) c.item_at.ensures.0
 
-pub returns-in-Nothing : goal.returns-in-Nothing
-returns-in-Nothing c = rw (sym c.asked_by.ensures ∙ c.in-Nothing.is) c.no_place.ensures
+pub returns-in-None : goal.returns-in-None
+returns-in-None c = rw (sym c.asked_by.ensures ∙ c.in-None.is) c.no_place.ensures

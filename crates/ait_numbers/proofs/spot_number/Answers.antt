@@ -1,12 +1,14 @@
 -- `ait_numbers::spot_number` meets its contract.
-use mathlib.Core.Path.{refl}
-use Rattle.ait_numbers.specs.Shapes.{spot_number}
+use mathlib.Core.Path.{◌≡◌, refl, ◌∙◌}
+use Rattle.std.proofs.Common.{Some, None, unwrap_or}
+use Rattle.section.specs.Refusals.{Spot}
+use Rattle.ait_numbers.specs.Shapes.{nowhere, spot_number}
 use Rattle.ait_numbers.proofs.spot_number.Goals as goal
 
-pub returns-in-Nowhere : goal.returns-in-Nowhere
+told : (p : Spot) → unwrap_or p nowhere ≡ spot_number p
 unfolding spot_number
-returns-in-Nowhere c = rw c.in-Nowhere.is refl
+told (Some p) = refl
+told None = refl
 
-pub returns-in-Byte : goal.returns-in-Byte
-unfolding spot_number
-returns-in-Byte c = rw c.in-Byte.is refl
+pub returns : goal.returns
+returns c = c.unwrap_or.ensures ∙ told c.args.place

@@ -3,16 +3,14 @@ use Prim.Native.Nat.{ℕ, ◌+◌, ◌%◌, ◌≤◌, ◌<◌}
 use mathlib.Core.Path.{◌≡◌, sym, ap, ◌∙◌}
 use mathlib.Core.Bool.{Bool, true, false}
 use mathlib.Core.List as L
+use Rattle.std.proofs.Common.{Some, None}
 use native.Mathlib.Omega.{arith}
 use lib.Dec.{eqb, leb}
 use lib.ListN.{length, get_or, take, drop, length-drop}
 use lib.Seq.{length-take-le}
 use borrow.Author.Tests.{eq-eqb, eqb-true, leb-true}
-use Rattle.wire.specs.declared.Place.{Place}
-use Rattle.wire.specs.declared.Place.TheVariants.{At}
-use Rattle.wire.specs.declared.Hit.TheVariants.{Item, Missing}
 use Rattle.wire.specs.Items.{items, count, every, number}
-use Rattle.wire.specs.Places.{item_at, first, part_at}
+use Rattle.wire.specs.Places.{Place, At, item_at, first, part_at}
 use Rattle.wire.proofs.Laws.Finders.{sound_item}
 use Rattle.wire.proofs.Laws.Parts.{part-at, item_in, found_met, found_inside}
 use Rattle.wire.proofs.Laws.Nth.{nth_item, first-at, first-nowhere, one-there, one_only}
@@ -53,7 +51,7 @@ module _ (s : L.List ℕ) (o : Scope) where
     met j a n t e f = ap (test_of test) (sym (nth-descriptor j a n e).1) ∙ f
 
     -- the first of them to meet a test is there and meets it, and none before it does
-    pub first-descriptor : (j : ℕ) → first_to test (part_at (scope_at o s) s) ≡ Item j
+    pub first-descriptor : (j : ℕ) → first_to test (part_at (scope_at o s) s) ≡ Some j
         → ((a : ℕ) × (n : ℕ) × (descriptor_at o j s ≡ At a n) × (test_of test (take n (drop a s)) ≡ true))
         × ((m a n : ℕ) → m < j → descriptor_at o m s ≡ At a n → test_of test (take n (drop a s)) ≡ false)
     unfolding first
@@ -70,7 +68,7 @@ module _ (s : L.List ℕ) (o : Scope) where
             let g : test_of test (get_or those j L.[]) ≡ true = ap (λ (i : ℕ). test_of test (get_or those i L.[])) z ∙ f in
             ((t.0, t.1, t.2, met j t.0 t.1 true t.2 g), λ i a n h d. met i a n false d (b i (omega (arith, e, h))))
 
-    pub no-descriptor : first_to test (part_at (scope_at o s) s) ≡ Missing → (m a n : ℕ) → descriptor_at o m s ≡ At a n → test_of test (take n (drop a s)) ≡ false
+    pub no-descriptor : first_to test (part_at (scope_at o s) s) ≡ None → (m a n : ℕ) → descriptor_at o m s ≡ At a n → test_of test (take n (drop a s)) ≡ false
     unfolding first
     no-descriptor e m a n d = met m a n false d (first-nowhere (test_of test) 0 those e m (nth-descriptor m a n d).0)
 
@@ -96,7 +94,7 @@ module _ (s : L.List ℕ) (g : FormedTable s) where
   application-at i l = item_in (size_of kind.Application) (kinds.kind_of_lem kind.Application) s i (loop_at s) l
 
   -- so where its labels are looked for, it is found
-  pub sole-found : (i : ℕ) → i < count_at kind.Application (loop_at s) s → (j : ℕ) × (first_to (Tagged 0x00) (part_at (own_at i s) s) ≡ Item j)
+  pub sole-found : (i : ℕ) → i < count_at kind.Application (loop_at s) s → (j : ℕ) × (first_to (Tagged 0x00) (part_at (own_at i s) s) ≡ Some j)
   unfolding first scope_at
   sole-found i l =
       let t = application-at i l in
@@ -104,7 +102,7 @@ module _ (s : L.List ℕ) (g : FormedTable s) where
 
   -- its place, its tag, and that no other descriptor of the application has that tag
   pub sole-place : (i : ℕ) → i < count_at kind.Application (loop_at s) s
-      → (j : ℕ) × (a : ℕ) × (n : ℕ) × (first_to (Tagged 0x00) (part_at (own_at i s) s) ≡ Item j) × (descriptor_at (Own i) j s ≡ At a n) × (tag_of (take n (drop a s)) ≡ 0x00)
+      → (j : ℕ) × (a : ℕ) × (n : ℕ) × (first_to (Tagged 0x00) (part_at (own_at i s) s) ≡ Some j) × (descriptor_at (Own i) j s ≡ At a n) × (tag_of (take n (drop a s)) ≡ 0x00)
       × ((k b m : ℕ) → descriptor_at (Own i) k s ≡ At b m → tag_of (take m (drop b s)) ≡ 0x00 → k ≡ j)
   unfolding scope_at test_of
   sole-place i l =

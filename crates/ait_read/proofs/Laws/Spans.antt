@@ -3,16 +3,17 @@
 use Prim.Native.Nat.{ℕ, ◌+◌, ◌≤◌}
 use mathlib.Core.Path.{◌≡◌, sym, ◌∙◌}
 use mathlib.Core.List as L
+use Rattle.std.proofs.Common.{Ok}
 use native.Mathlib.Omega.{arith}
 use lib.ListN.{length, take, drop, length-drop}
 use lib.Seq.{length-take-le}
 use borrow.Author.Tests.{le-leb}
-use Rattle.wire.specs.declared.Place.TheVariants.{At}
+use Rattle.wire.specs.Places.{At, item_at}
 use Rattle.wire.specs.Fields.{byte_at}
 use Rattle.wire.proofs.Laws.Parts.{found_item, found_inside}
 use Rattle.wire.proofs.Laws.Frames.{framed-least}
+use Rattle.wire.proofs.Laws.Finders.{at-same, sound_item}
 use Rattle.section.specs.declared.Header.{Header}
-use Rattle.section.specs.declared.Checked.TheVariants.{Accepted}
 use Rattle.ait_descriptors.specs.declared.Kind.TheVariants as kind
 use Rattle.ait_descriptors.specs.Kinds.{size_of}
 use Rattle.ait_descriptors.specs.Descriptor.{descriptor, tag_of, contents_of, rest_of}
@@ -26,18 +27,17 @@ use Rattle.ait_descriptors.proofs.Laws.Kinds as kinds
 use Rattle.ait_read.specs.declared.Scope.{Scope}
 use Rattle.ait_descriptors.specs.declared.Repeated.{Repeated}
 use Rattle.ait_descriptors.specs.declared.Repeated.TheVariants.{Names, Bases}
-use Rattle.ait_descriptors.specs.declared.Span.{Span}
+use Rattle.wire.specs.declared.Span.{Span}
 use Rattle.ait_descriptors.specs.declared.Described.{Described}
 use Rattle.ait_descriptors.specs.declared.Described.TheVariants as described
-use Rattle.ait_read.specs.declared.steps.Step.TheVariants.{Extensions, Item}
 use Rattle.ait_read.specs.Acceptance.{table_judged}
-use Rattle.ait_read.specs.Places.{scope_at, descriptor_at, list_at, repeated_at, extensions_at, extension_at, step_in}
+use Rattle.ait_read.specs.Places.{scope_at, descriptor_at, list_at, repeated_at, extensions_at, extension_at}
 use Rattle.ait_descriptors.specs.Contents.{contents_good, list_in, kind_of, described_of}
 use Rattle.ait_descriptors.specs.Tag00.{described00}
 use Rattle.ait_read.specs.Answers.{span_part}
 use Rattle.ait_descriptors.proofs.Laws.Records.{cases-02, cases}
 use Rattle.ait_read.proofs.Laws.Made.{descriptor_made}
-use Rattle.ait_read.proofs.Laws.Places.{sound_scope, sound-descriptor, sound-list_at, sound_repeated, sound-extensions, sound-extension, sound-step}
+use Rattle.ait_read.proofs.Laws.Places.{sound_scope, sound-descriptor, sound-list_at, sound_repeated, sound-extensions, sound-extension, sound-extensions_in}
 use Rattle.ait_descriptors.proofs.Laws.Lists.{sound-list}
 
 -- a span within the n bytes from a on
@@ -104,14 +104,13 @@ module _ (s : L.List ℕ) (o : Scope) (j a n : ℕ) (e : descriptor_at o j s ≡
   unfolding list_at
   list_in_lem what b m f =
       let q = found_inside (list_in what) (sound-list what) (descriptor_at o j s) s (sound-descriptor o j s) b m f in
-      let x : q.0 ≡ a = cc in
-      let y : q.1 ≡ n = cc in
-      (omega (arith, q.3), omega (arith, q.4))
+      let x = at-same a n q.0 q.1 (sym e ∙ q.2) in
+      (omega (arith, x.0, q.3), omega (arith, x.1, q.4))
 
   item_in : (what : Repeated) (k b m : ℕ) → repeated_at o j what k s ≡ At b m → (a ≤ b) × (b + m ≤ a + n)
-  unfolding repeated_at step_in
+  unfolding repeated_at
   item_in what k b m f =
-      let q = found_inside (step_in (Item (kind_of what) k)) (sound-step (Item (kind_of what) k)) (list_at o j what s) s (sound-list_at o j what s) b m f in
+      let q = found_inside (item_at (size_of (kind_of what)) k) (sound_item (size_of (kind_of what)) (kinds.kind_of_lem (kind_of what)) k) (list_at o j what s) s (sound-list_at o j what s) b m f in
       let l = list_in_lem what q.0 q.1 q.2 in
       (omega (arith, q.3), omega (arith, q.4))
 
@@ -130,16 +129,16 @@ module _ (s : L.List ℕ) (o : Scope) (j a n : ℕ) (e : descriptor_at o j s ≡
       wider _ b m a n (item_in Bases k b m f) (omega arith, omega arith)
 
   pub extension-lies : (k i b m : ℕ) → extension_at o j k i s ≡ At b m → Lies (extension_read (take m (drop b s)) b) a n
-  unfolding extension_at extensions_at extension_read size_of step_in
+  unfolding extension_at extensions_at extension_read size_of
   extension-lies k i b m f =
       let q = found_item extension kinds.extension_kind i (extensions_at o j k s) s (sound-extensions o j k s) b m f in
       let g = framed-least 1 (λ h. byte_at h 0) (take m (drop b s)) (λ z. omega (arith, z, q.5, q.6)) in
-      let r = found_inside extensions_in (sound-step Extensions) (repeated_at o j Bases k s) s (sound_repeated o j Bases k s) q.0 q.1 q.2 in
+      let r = found_inside extensions_in sound-extensions_in (repeated_at o j Bases k s) s (sound_repeated o j Bases k s) q.0 q.1 q.2 in
       let u = item_in Bases k r.0 r.1 r.2 in
       wider _ b m a n (omega (arith, q.3, r.3), omega (arith, q.4, r.4)) (rest-lies 1 s b m (sound-extension o j k i s b m f) (omega (arith, g, q.6)))
 
   -- EVERY SPAN OF A DESCRIPTOR'S ANSWER LIES IN THE DESCRIPTOR
-  module _ (h : Header) (accepted : table_judged s ≡ Accepted h) where
+  module _ (h : Header) (accepted : table_judged s ≡ Ok h) where
     -- a 0x02 has its protocol and its label, since it is well made
     five : tag_of d ≡ 0x02 → 5 ≤ n
     unfolding contents_good

@@ -1,55 +1,36 @@
 -- `ait_read::descriptor_at` meets its contract.
 use mathlib.Core.Path.{◌≡◌, ap, ◌∙◌}
+use Rattle.std.proofs.Common.{rules, Err}
 use native.Mathlib.Omega.{arith}
-use Prim.Native.Nat.{ℕ, ◌<◌}
-use mathlib.Core.List.{List}
+use Prim.Native.Nat.{◌<◌}
 use lib.ListN.{take, drop}
-use Rattle.ait_read.specs.declared.Scope.{Scope}
-use Rattle.ait_read.specs.declared.DescriptorAnswer.{DescriptorAnswer}
-use Rattle.ait_read.specs.declared.Located.TheVariants as located
-use Rattle.ait_read.specs.declared.DescriptorAnswer.TheVariants as descriptor
 use Rattle.ait_read.specs.Places.{descriptor_at}
 use Rattle.ait_descriptors.specs.Contents.{described_of}
-use Rattle.ait_read.specs.Answers.{located_of, span_part, descriptor_answer, number_of_descriptor, place_number}
+use Rattle.ait_read.specs.Answers.{span_part, descriptor_answer}
 use Rattle.ait_read.proofs.Laws.Acceptance.{told, cut}
 use Rattle.ait_read.proofs.Laws.Places.{sound-descriptor}
-use Rattle.ait_read.proofs.Laws.Numbers.{descriptor-number}
+use Rattle.ait_read.proofs.Laws.Numbers.{refused_there, made_there}
 use Rattle.ait_read.proofs.descriptor_at.Goals as goal
-use Rattle.ait_read.proofs.descriptor_at.Goals.{In-At}
+use Rattle.ait_read.proofs.descriptor_at.Goals.{In_ok-at}
 
--- where the thing lies, and the part that is cut out there
-found : (c : In-At) →
-    located_of c.args.s.now (descriptor_at c.args.scope c.args.j c.args.s.now)
-    ≡ located.At c.in-At.start c.in-At.size
-found c =
-    told _ _ (descriptor_at c.args.scope c.args.j c.args.s.now) _ _ c.descriptor_place.ensures
-    c.locate.ensures c.in-At.is
-
-there : (c : In-At) →
-    (span_part c.args.s.now c.in-At.start c.in-At.size
-    ≡ take c.in-At.size (drop c.in-At.start c.args.s.now)) × (c.in-At.start < 65536)
+-- the part that is cut out where the thing lies
+there : (c : In_ok-at) → let at = c.in_ok-at.at in (span_part c.args.s.now at.start at.size ≡ take at.size (drop at.start c.args.s.now)) × (at.start < 65536)
 there c =
-    cut _ (descriptor_at c.args.scope c.args.j c.args.s.now) (sound-descriptor c.args.scope c.args.j c.args.s.now) _ _ (found c)
+    let q = descriptor_at c.args.scope c.args.j c.args.s.now in
+    cut _ q (sound-descriptor c.args.scope c.args.j c.args.s.now) _ (told _ _ q _ _ c.descriptor_place.ensures c.locate.ensures c.in_ok-at.was)
 
-pub overflow_cast-start : goal.overflow_cast-start
-overflow_cast-start c = omega (arith, (there (goal.at.overflow_cast-start c).In-At).1)
-
--- an answer, with its number
-numbered : (s : List ℕ) (o : Scope) (j : ℕ) (r : DescriptorAnswer) → r ≡ descriptor_answer s o j → (r ≡ descriptor_answer s o j) × (number_of_descriptor r ≡ place_number s (descriptor_at o j s))
-numbered s o j r e = (e, ap number_of_descriptor e ∙ descriptor-number s o j)
-
-pub returns-in-Refused : goal.returns-in-Refused
+pub returns-in_err-at : goal.returns-in_err-at
 unfolding descriptor_answer
-returns-in-Refused c =
-    numbered c.args.s.now c.args.scope c.args.j _
-    (rw (told _ _ (descriptor_at c.args.scope c.args.j c.args.s.now) _ _
-    c.descriptor_place.ensures c.locate.ensures c.in-Refused.is))
+returns-in_err-at c =
+    let r : c.from_residual.result ≡ Err c.in_err-at.field-0.0 = search rules in
+    rw r (refused_there (λ a n. described_of (take n (drop a c.args.s.now)) a) _ _ _ _ c.descriptor_place.ensures c.locate.ensures _ c.in_err-at.was)
 
-pub returns-in-At : goal.returns-in-At
+pub overflow_cast-at : goal.overflow_cast-at
+overflow_cast-at c = omega (arith, (there (goal.at.overflow_cast-at c).In_ok-at).1)
+
+pub returns : goal.returns
 unfolding descriptor_answer
-returns-in-At c =
-    let x = there (goal.at.returns-in-At c).In-At in
-    numbered c.args.s.now c.args.scope c.args.j _
-    (rw (found (goal.at.returns-in-At c).In-At)
-    (ap descriptor.Found (c.describe.ensures
-    ∙ ap (λ (l : List ℕ). described_of l c.in-At.start) (c.part-x.ensures ∙ x.0))))
+returns c =
+    let x = there (goal.at.returns c).In_ok-at in
+    made_there (λ a n. described_of (take n (drop a c.args.s.now)) a) _ _ _ _ c.descriptor_place.ensures c.locate.ensures _ c.in_ok-at.was _
+    (c.describe.ensures ∙ ap (λ l. described_of l c.in_ok-at.at.start) (c.part.ensures ∙ x.0))

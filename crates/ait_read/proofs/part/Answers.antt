@@ -7,16 +7,16 @@ use Rattle.wire.proofs.Laws.Finders.{part}
 use Rattle.ait_read.specs.Answers.{span_part}
 use Rattle.ait_read.proofs.part.Goals as goal
 
-pub returns-then-s-size : goal.returns-then-s-size
+pub returns-then-s-at : goal.returns-then-s-at
 unfolding span_part
-returns-then-s-size c = rw (lt-leb (c.before.args.start + c.before.args.size) (length c.before.args.s.now) (omega arith))
+returns-then-s-at c = rw (lt-leb (c.before.args.at.start + c.before.args.at.size) (length c.before.args.s.now) (omega arith))
 
-pub returns-then-s-size-2 : goal.returns-then-s-size-2
+pub returns-then-s-at-2 : goal.returns-then-s-at-2
 unfolding span_part
-returns-then-s-size-2 c = rw (lt-leb (c.before.args.start + c.before.args.size) (length c.before.args.s.now) (omega arith))
+returns-then-s-at-2 c = rw (lt-leb (c.before.args.at.start + c.before.args.at.size) (length c.before.args.s.now) (omega arith))
 
 pub returns : goal.returns
 unfolding span_part
-returns c = rw (le-leb (c.args.start + c.args.size)
+returns c = rw (le-leb (c.args.at.start + c.args.at.size)
     (length c.args.s.now) (omega arith))
-    (part c.args.s.now c.args.start c.args.size)
+    (part c.args.s.now c.args.at.start c.args.at.size)

@@ -1,32 +1,38 @@
 -- The hand-out and the missing report, from the facts that code learns on its ways.
-use Prim.Native.Nat.{ℕ, ◌≤◌, ◌<◌}
-use mathlib.Core.Path.{◌≡◌, refl, sym, ◌∙◌}
+use Prim.Native.Nat.{ℕ, zero, suc, ◌≤◌, ◌<◌}
+use mathlib.Core.Path.{◌≡◌, refl, sym, ap, ◌∙◌}
 use mathlib.Core.Bool.{Bool, true, false, cond}
 use mathlib.Core.List.{List, [], ◌∷◌}
 use native.Mathlib.Omega.{arith}
 use lib.Dec.{eqb}
 use lib.ListN.{length, get_or}
 use borrow.Author.Tests.{eq-eqb, ne_eqb, eqb-true, lt-ltb, le-ltb, ltb-true, ltb-false, not-false}
+use Rattle.wire.specs.Outcomes.{answered, number_of}
 use Rattle.wire.specs.Tests.{first_met}
 use Rattle.wire.proofs.Laws.Order.{none-exactly}
 use Rattle.section.specs.Answer.{refused}
 use Rattle.carousel_record.specs.declared.Carousel.{Carousel}
-use Rattle.carousel_handout.specs.declared.Report.TheVariants as report
+use Rattle.std.proofs.Common.{Ok, Err, Some, None}
 use Rattle.carousel_record.specs.Record.{announced_by, record_of, starts_by, module_at, place_of, bytes_of, missing_of, module_part, ruled_of}
 use Rattle.carousel_record.specs.Refusals.{meets13, meets15}
 use Rattle.carousel_handout.specs.Calls.{handout_tests, handout_number, handout_place, handed_out, missing_number, lack_of, report_on, report_of, number_of_report}
+
+-- an answer that a number decides
+pub answered-has : {A : Type 0} (n : ℕ) (a b : A) → Ok b ≡ answered n a → b ≡ a
+answered-has zero a b e = cc
+answered-has (suc n) a b e = let z : ◌≡◌ {A = ℕ} 0 (suc n) = ap number_of e in absurd (omega arith)
 
 -- how many, and none
 pub lack-count : (bs : List ℕ) → (lack_of bs).count ≡ length bs
 lack-count [] = refl
 lack-count (b ∷ bs) = refl
 
-pub lack-whole : (bs : List ℕ) → (lack_of bs).count ≡ 0 → report_on bs ≡ report.Whole
+pub lack-whole : (bs : List ℕ) → (lack_of bs).count ≡ 0 → report_on bs ≡ Ok None
 unfolding report_on
 lack-whole [] e = refl
 lack-whole (b ∷ bs) e = absurd (omega arith)
 
-pub lack-some : (bs : List ℕ) → ((lack_of bs).count ≡ 0 → ⊥) → report_on bs ≡ report.Lacking (lack_of bs)
+pub lack-some : (bs : List ℕ) → ((lack_of bs).count ≡ 0 → ⊥) → report_on bs ≡ Ok (Some (lack_of bs))
 unfolding report_on
 lack-some [] n = absurd (n refl)
 lack-some (b ∷ bs) n = refl
@@ -39,12 +45,12 @@ module _ (c : Carousel) (number : ℕ) where
   lacks = missing_of (record_of c) place
 
   -- the missing report
-  pub report-1 : ruled_of c ≡ false → report_of c number ≡ report.Refused (refused 1)
+  pub report-1 : ruled_of c ≡ false → report_of c number ≡ Err (refused 1)
   unfolding report_of missing_number first_met
   report-1 r = rw r
 
   module _ (r : ruled_of c ≡ true) where
-    pub report-13 : length (announced_by c).modules ≤ place → report_of c number ≡ report.Refused (refused 13)
+    pub report-13 : length (announced_by c).modules ≤ place → report_of c number ≡ Err (refused 13)
     unfolding report_of missing_number first_met meets13
     report-13 h = rw (r, le-ltb place (length (announced_by c).modules) h)
 
@@ -62,7 +68,7 @@ module _ (c : Carousel) (number : ℕ) where
   unfolding report_of
   report-number = go (eqb (missing_number c number) 0) refl
     where
-      go : (t : Bool) → eqb (missing_number c number) 0 ≡ t → number_of_report (cond t (report_on lacks) (report.Refused (refused (missing_number c number)))) ≡ missing_number c number
+      go : (t : Bool) → eqb (missing_number c number) 0 ≡ t → number_of_report (cond t (report_on lacks) (Err (refused (missing_number c number)))) ≡ missing_number c number
       go true e = on-number lacks ∙ sym (eqb-true (missing_number c number) 0 e)
       go false e = refl
 
@@ -119,10 +125,10 @@ module _ (c : Carousel) (number : ℕ) where
     out_part e = rw (eq-eqb (handout_number c image number) 0 e)
 
     -- where it lies
-    pub place_none : (handout_number c image number ≡ 0 → ⊥) → handout_place c image number ≡ record { number = handout_number c image number; start = 0; size = 0 }
+    pub place_none : (handout_number c image number ≡ 0 → ⊥) → handout_place c image number ≡ Err (refused (handout_number c image number))
     unfolding handout_place
     place_none n = rw (ne_eqb (handout_number c image number) 0 n)
 
-    pub place_part : handout_number c image number ≡ 0 → handout_place c image number ≡ record { number = 0; start = get_or (starts_by c) place 0; size = (module_at (announced_by c) place).size }
+    pub place_part : handout_number c image number ≡ 0 → handout_place c image number ≡ Ok (record { start = get_or (starts_by c) place 0; size = (module_at (announced_by c) place).size })
     unfolding handout_place
     place_part e = rw (eq-eqb (handout_number c image number) 0 e)

@@ -4,6 +4,7 @@ use mathlib.Core.Path.{◌≡◌, refl, sym, ap, ◌∙◌}
 use mathlib.Core.Bool.{true, false}
 use mathlib.Core.List.{List, map, map-map}
 use native.Mathlib.Omega.{arith}
+use Rattle.std.proofs.Common.{Ok, Err}
 use lib.Dec.{eqb, leb}
 use lib.ListN.{length, take, drop, length-map, length-drop}
 use lib.Seq.{drop-drop, length-take-le}
@@ -19,13 +20,12 @@ use Rattle.carousel_messages.specs.declared.CarouselTable.{CarouselTable}
 use Rattle.carousel_messages.specs.declared.CarouselTable.TheVariants.{Announcements, Blocks}
 use Rattle.carousel_messages.specs.declared.Announcement.{Announcement}
 use Rattle.carousel_messages.specs.declared.Block.{Block}
-use Rattle.carousel_messages.specs.declared.Judged.{Judged}
-use Rattle.carousel_messages.specs.declared.Judged.TheVariants as judged
+use Rattle.carousel_messages.specs.declared.Message.TheVariants as message
 use Rattle.carousel_messages.specs.Message.{adaptation_of, message_length_of, payload_of}
 use Rattle.carousel_messages.specs.Contents.{module_kind, module_count_of, modules_start, modules_end, modules_of, module_size_of, block_size_of, announcement_framed, block_data_of}
 use Rattle.carousel_messages.specs.Limits.{most_modules, beyond10, twice11}
 use Rattle.carousel_messages.specs.Refusals.{message_framed, payload_framed, message_meets7, meets10, meets11, message_tests}
-use Rattle.carousel_messages.specs.Judged.{announcement_of, block_of, judged_of, number_of_judged, carousel_table_in}
+use Rattle.carousel_messages.specs.Judged.{Judged, announcement_of, block_of, judged_of, number_of_judged, carousel_table_in}
 use Rattle.carousel_messages.specs.Heard.{listed_of, list_of, span_of, Announced, announced, announced_in, heard_in, heard_of}
 use Rattle.carousel_messages.proofs.Laws.Limits.{within}
 use Rattle.carousel_messages.proofs.Laws.Listed.{module_kind_lem}
@@ -71,7 +71,7 @@ tables-differ : Blocks ≡ Announcements → ⊥
 tables-differ e = let z : ◌≡◌ {A = ℕ} 0 1 = cc in omega arith
 
 -- AN ANNOUNCEMENT
-module _ (s : List ℕ) (a : Announcement) (e : judged_of s ≡ judged.Announced a) where
+module _ (s : List ℕ) (a : Announcement) (e : judged_of s ≡ Ok (message.Announced a)) where
   abbrev p : List ℕ
   p = payload_of (body_of s)
 
@@ -107,19 +107,19 @@ module _ (s : List ℕ) (a : Announcement) (e : judged_of s ≡ judged.Announced
   whole : 12 + adaptation_of (body_of s) + length p ≡ length (body_of s)
   whole = payload-long Announcements (body_of s) passes.0
 
-  span-is : span_of s a.start a.size ≡ take size (drop from p)
+  span-is : span_of s a.part.start a.part.size ≡ take size (drop from p)
   unfolding announcement_of
-  span-is = ap (λ (x : Announcement). span_of s x.start x.size) (sym is_it) ∙ part-said s long whole from size in_it
+  span-is = ap (λ (x : Announcement). span_of s x.part.start x.part.size) (sym is_it) ∙ part-said s long whole from size in_it
 
-  pub announcement-inside : a.start + a.size ≤ length s
+  pub announcement-inside : a.part.start + a.part.size ≤ length s
   unfolding announcement_of
   announcement-inside =
       let i = part-inside s long whole from size in_it in
-      let j : a.start + a.size ≡ 20 + adaptation_of (body_of s) + from + size = ap (λ (x : Announcement). x.start + x.size) (sym is_it) in
+      let j : a.part.start + a.part.size ≡ 20 + adaptation_of (body_of s) + from + size = ap (λ (x : Announcement). x.part.start + x.part.size) (sym is_it) in
       omega arith
 
   -- ITS MODULES ARE THE MESSAGE'S, and as many as it says
-  pub modules-said : list_of (span_of s a.start a.size) ≡ map listed_of (modules_of (payload_of (body_of s)))
+  pub modules-said : list_of (span_of s a.part.start a.part.size) ≡ map listed_of (modules_of (payload_of (body_of s)))
   unfolding list_of
   modules-said = ap (λ (l : List ℕ). map listed_of (items module_kind l)) span-is ∙ ap (map listed_of) (counted-items module_kind module_kind_lem (module_count_of p) from (drop from p)
       (framed-ends p framed))
@@ -128,7 +128,7 @@ module _ (s : List ℕ) (a : Announcement) (e : judged_of s ≡ judged.Announced
   unfolding announcement_of
   how-many = counted (module_count_of p) from (items module_kind (drop from p)) (framed-ends p framed) ∙ ap (λ (x : Announcement). x.count) is_it
 
-  pub count-said : a.count ≡ length (list_of (span_of s a.start a.size))
+  pub count-said : a.count ≡ length (list_of (span_of s a.part.start a.part.size))
   count-said = sym (ap length modules-said ∙ length-map (modules_of p) listed_of ∙ how-many)
 
   pub heard-small : a.count ≤ most_modules
@@ -140,8 +140,8 @@ module _ (s : List ℕ) (a : Announcement) (e : judged_of s ≡ judged.Announced
       omega arith
 
   -- and within the limits
-  limits : (beyond10 a.block_size (map (λ m. m.size) (list_of (span_of s a.start a.size))) ≡ false)
-      × (twice11 (map (λ m. m.number) (list_of (span_of s a.start a.size))) ≡ false)
+  limits : (beyond10 a.block_size (map (λ m. m.size) (list_of (span_of s a.part.start a.part.size))) ≡ false)
+      × (twice11 (map (λ m. m.number) (list_of (span_of s a.part.start a.part.size))) ≡ false)
   unfolding meets10 meets11 announcement_of
   limits = rw (modules-said, ← is_it, map-map, map-map) (passes.1, passes.2)
 
@@ -151,14 +151,14 @@ unfolding heard_of heard_in announced_in
 heard_limits s a e = go (judged_of s) refl e
   where
     go : (j : Judged) → judged_of s ≡ j → heard_in s j ≡ announced a → (beyond10 a.block_size (map (λ m. m.size) a.modules) ≡ false) × (twice11 (map (λ m. m.number) a.modules) ≡ false)
-    go (judged.Announced x) j e =
-        let q : announced_in x (span_of s x.start x.size) ≡ a = cc in
+    go (Ok (message.Announced x)) j e =
+        let q : announced_in x (span_of s x.part.start x.part.size) ≡ a = cc in
         rw (← q) (limits s x j)
-    go (judged.Refused r) j e = let z : ◌≡◌ {A = ℕ} 0 1 = cc in absurd (omega arith)
-    go (judged.Carried b) j e = let z : ◌≡◌ {A = ℕ} 0 1 = cc in absurd (omega arith)
+    go (Err r) j e = let z : ◌≡◌ {A = ℕ} 0 1 = cc in absurd (omega arith)
+    go (Ok (message.Carried b)) j e = let z : ◌≡◌ {A = ℕ} 0 1 = cc in absurd (omega arith)
 
 -- A BLOCK
-module _ (s : List ℕ) (b : Block) (e : judged_of s ≡ judged.Carried b) where
+module _ (s : List ℕ) (b : Block) (e : judged_of s ≡ Ok (message.Carried b)) where
   abbrev carries : List ℕ
   carries = payload_of (body_of s)
 
@@ -173,19 +173,19 @@ module _ (s : List ℕ) (b : Block) (e : judged_of s ≡ judged.Carried b) where
   unfolding payload_framed
   six = let l = leb-true 6 (length carries) (fits Blocks (body_of s) fitting).1 in omega arith
 
-  pub block_inside : b.start + b.size ≤ length s
+  pub block_inside : b.part.start + b.part.size ≤ length s
   unfolding block_of
   block_inside =
       let n = six in
       let i = part-inside s (taken-long s ((carried-exactly s b).0 e).0) (payload-long Blocks (body_of s) fitting) 6 (length carries - 6) (omega arith) in
-      let j : b.start + b.size ≡ 20 + adaptation_of (body_of s) + 6 + (length carries - 6) = ap (λ (x : Block). x.start + x.size) (sym ((carried-exactly s b).0 e).2) in
+      let j : b.part.start + b.part.size ≡ 20 + adaptation_of (body_of s) + 6 + (length carries - 6) = ap (λ (x : Block). x.part.start + x.part.size) (sym ((carried-exactly s b).0 e).2) in
       omega arith
 
   -- ITS DATA ARE THE MESSAGE'S
-  pub data-said : span_of s b.start b.size ≡ block_data_of (payload_of (body_of s))
+  pub data-said : span_of s b.part.start b.part.size ≡ block_data_of (payload_of (body_of s))
   unfolding block_of
   data-said =
       let n = six in
-      ap (λ (x : Block). span_of s x.start x.size) (sym ((carried-exactly s b).0 e).2)
+      ap (λ (x : Block). span_of s x.part.start x.part.size) (sym ((carried-exactly s b).0 e).2)
       ∙ part-said s (taken-long s ((carried-exactly s b).0 e).0) (payload-long Blocks (body_of s) fitting) 6 (length carries - 6) (omega arith)
       ∙ tail (payload_of (body_of s)) 6

@@ -5,12 +5,15 @@ use mathlib.Core.List.{List, map}
 use native.Mathlib.Omega.{arith}
 use lib.ListN.{length, get_or, take, drop, length-map, length-drop}
 use lib.Seq.{drop-drop, get_or-drop}
+use Rattle.std.proofs.Common.{Some}
+use Rattle.std.specs.List.{slice_get}
+use Rattle.std.proofs.lemmas.Option.{slice_get-get_or}
 use Rattle.wire.specs.Items.{items}
 use Rattle.wire.proofs.Laws.Steps.{items-step}
 use Rattle.wire.proofs.Laws.Loops.{tail, item-fits}
 use Rattle.carousel_messages.specs.declared.Listed.{Listed}
 use Rattle.carousel_messages.specs.Contents.{module_kind}
-use Rattle.carousel_messages.specs.Heard.{listed_of, none_listed, list_of, listed_at}
+use Rattle.carousel_messages.specs.Heard.{listed_of, none_listed, list_of}
 use Rattle.carousel_messages.proofs.Laws.Listed.{module_kind_lem, some_size}
 
 -- i modules were read, and those from byte `at` on are the others
@@ -33,14 +36,15 @@ module _ (list : List ℕ) (i at : ℕ) (v : Reading list i at) where
   part = take (length list - at) (drop at list)
 
   -- the module that is read there
-  pub reading-here : (m : Listed) → m ≡ listed_at part 0 → m ≡ get_or (list_of list) i none_listed
-  reading-here m e =
+  pub reading-here : i < length (list_of list) → slice_get (list_of part) 0 ≡ Some (get_or (list_of list) i none_listed)
+  reading-here h =
       let z : i + 0 ≡ i = omega arith in
-      e
-      ∙ ap (λ (xs : List ℕ). listed_at xs 0) (tail list at)
-      ∙ ap (λ (ms : List Listed). get_or ms 0 none_listed) v.1
+      let l = ap length v.1 ∙ length-drop i (list_of list) in
+      ap (λ (xs : List ℕ). slice_get (list_of xs) 0) (tail list at)
+      ∙ slice_get-get_or (list_of (drop at list)) 0 none_listed (omega arith)
+      ∙ ap Some (ap (λ (ms : List Listed). get_or ms 0 none_listed) v.1
       ∙ get_or-drop i (list_of list) 0 none_listed
-      ∙ ap (λ (k : ℕ). get_or (list_of list) k none_listed) z
+      ∙ ap (λ (k : ℕ). get_or (list_of list) k none_listed) z)
 
   -- and the byte where it ends
   pub reading-next : (n : ℕ) → n ≡ module_kind part → i < length (list_of list) → Reading list (i + 1) (at + n)

@@ -4,6 +4,7 @@ use mathlib.Core.Path.{◌≡◌, refl, sym, ap, ◌∙◌}
 use mathlib.Core.Bool.{Bool, true, false, not, ◌&&◌, ◌||◌}
 use mathlib.Core.List.{List, [], ◌∷◌, map, map-map}
 use native.Mathlib.Omega.{arith}
+use Rattle.std.proofs.Common.{Ok, Err}
 use lib.Dec.{eqb, leb, ltb}
 use lib.ListN.{length, length-map, take, drop, drop_of_length-le}
 use borrow.Author.Tests.{eq-eqb, ne_eqb, lt-ltb, le-ltb, le-leb, lt-leb, leb-true, eqb-true, not-false}
@@ -15,12 +16,11 @@ use Rattle.wire.specs.Items.{items, end_of}
 use Rattle.section.specs.declared.Header.{Header}
 use Rattle.section.specs.declared.Refusal.{Refusal}
 use Rattle.section.specs.declared.Rules.TheVariants.{Carousel}
-use Rattle.section.specs.declared.Checked.TheVariants as checked
 use Rattle.section.specs.Answer.{refused, checked_by}
 use Rattle.carousel_messages.specs.declared.CarouselTable.{CarouselTable}
 use Rattle.carousel_messages.specs.declared.CarouselTable.TheVariants.{Announcements, Blocks}
 use Rattle.carousel_messages.specs.declared.Listed.{Listed}
-use Rattle.carousel_messages.specs.declared.Judged.TheVariants as judged
+use Rattle.carousel_messages.specs.declared.Message.TheVariants as message
 use Rattle.carousel_messages.specs.Message.{message_of, adaptation_of, message_length_of, payload_of, wanted_of}
 use Rattle.carousel_messages.specs.Contents.{module_kind, modules_start, modules_end, module_count_of, modules_of, block_size_of, module_size_of, announcement_framed}
 use Rattle.carousel_messages.specs.Contents.{block_module_of, block_version_of, block_number_of}
@@ -210,7 +210,7 @@ module _ (t : CarouselTable) (h : Header) (b : List ℕ) where
       unfolding message_refusal payload_refusal first_met short7 message_meets7
       is-payload f = rw (le-ltb (length b) 12 l, m, f)
 
-  pub judged_bad : (message_refusal t h b ≡ 0 → ⊥) → judged.Refused (refused (message_refusal t h b)) ≡ message_judged t h b
+  pub judged_bad : (message_refusal t h b ≡ 0 → ⊥) → Err (refused (message_refusal t h b)) ≡ message_judged t h b
   unfolding message_judged
   judged_bad n = rw (ne_eqb (message_refusal t h b) 0 n)
 
@@ -219,20 +219,20 @@ module _ (t : CarouselTable) (h : Header) (b : List ℕ) where
   judged-good e = rw (eq-eqb (message_refusal t h b) 0 e)
 
 module _ (t : CarouselTable) (b : List ℕ) where
-  pub read-announced : t ≡ Announcements → judged.Announced (announcement_of b) ≡ read_of t b
+  pub read-announced : t ≡ Announcements → Ok (message.Announced (announcement_of b)) ≡ read_of t b
   unfolding read_of
   read-announced e = rw e
 
-  pub read-carried : t ≡ Blocks → judged.Carried (block_of b) ≡ read_of t b
+  pub read-carried : t ≡ Blocks → Ok (message.Carried (block_of b)) ≡ read_of t b
   unfolding read_of
   read-carried e = rw e
 
 -- whatever register g is handed in
 module _ (g : ℕ) (s : List ℕ) where
-  pub judged-refused : (r : Refusal) → checked_by g Carousel s ≡ checked.Refused r → judged.Refused r ≡ judged_by g s
+  pub judged-refused : (r : Refusal) → checked_by g Carousel s ≡ Err r → Err r ≡ judged_by g s
   unfolding judged_by
   judged-refused r e = rw e
 
-  pub judged-message : (h : Header) → checked_by g Carousel s ≡ checked.Accepted h → message_judged (carousel_table_of h.table) h (body_of s) ≡ judged_by g s
+  pub judged-message : (h : Header) → checked_by g Carousel s ≡ Ok h → message_judged (carousel_table_of h.table) h (body_of s) ≡ judged_by g s
   unfolding judged_by
   judged-message h e = rw e

@@ -106,21 +106,26 @@ module _ (a : Announced) (limits : beyond10 a.block_size (sizes_of a.modules) �
         bounded = bytes_most bs a.modules limits;
       }
 
-  -- what code writes for it is the section at its place
-  module _ (id : ℕ) (image : List ℕ) (place : ℕ) (q : place ≡ blocks_to a i + b) where
-    pub section-is : (last : ℕ) → last ≡ min 255 (blocks_of a.block_size m.size - 1) → (ds : List ℕ)
+  -- what code writes for it is that block's section
+  module _ (image : List ℕ) where
+    pub block-is : (last : ℕ) → last ≡ min 255 (blocks_of a.block_size m.size - 1) → (ds : List ℕ)
         → ds ≡ take (block_length_of a.block_size m.size b) (drop (start_of a i + b * a.block_size) image)
         → section_bytes block_table m.number (m.version % 32) (b % 256) last (message_bytes 0x1003 a.download (carried_bytes m.number m.version b ds))
-        ≡ section_at id a image (1 + place)
+        ≡ block_bytes a i b image
     unfolding block_bytes block_data
-    section-is last l ds d = rw (l, d, ← e) (sym (ap (λ (k : ℕ). section_at id a image (1 + k)) q ∙ block-place a image id i b u v))
+    block-is last l ds d = rw (l, d, ← e)
 
-    pub section-size : bytes_of a ≤ length image → length (section_at id a image (1 + place)) ≡ 30 + block_length_of a.block_size m.size b
-    section-size h =
+    pub block-long : bytes_of a ≤ length image → length (block_bytes a i b image) ≡ 30 + block_length_of a.block_size m.size b
+    block-long h =
         let bs = a.block_size in
         let n = block_length_of bs m.size b in
         let ds : List ℕ = take n (drop (start_of a i + b * bs) image) in
         let w = chosen.inside in
         let l : length ds ≡ n = length-take-le n (drop (start_of a i + b * bs) image) (rw length-drop (omega arith)) in
-        sym (ap length (section-is (min 255 (blocks_of bs m.size - 1)) refl ds refl))
+        sym (ap length (block-is (min 255 (blocks_of bs m.size - 1)) refl ds refl))
         ∙ block_size_lem block_table _ _ _ _ 0x1003 _ _ _ _ ds ∙ ap (λ (k : ℕ). 30 + k) l
+
+    -- which stands at its place
+    pub section-size : (id place : ℕ) → place ≡ blocks_to a i + b → bytes_of a ≤ length image
+        → length (section_at id a image (1 + place)) ≡ 30 + block_length_of a.block_size m.size b
+    section-size id place q h = ap (λ (k : ℕ). length (section_at id a image (1 + k))) q ∙ ap length (block-place a image id i b u v) ∙ block-long h

@@ -1,15 +1,17 @@
 -- Numbers in bytes, as code takes them apart, and the pieces of a section put together.
-use Prim.Native.Nat.{ℕ, suc, ◌+◌, ◌-◌, ◌/◌, ◌%◌, ◌^◌, ◌≤◌, ◌<◌}
+use Prim.Native.Nat.{ℕ, ◌+◌, ◌-◌, ◌/◌, ◌%◌, ◌≤◌, ◌<◌}
 use mathlib.Core.Path.{◌≡◌, refl, sym, ap, ap₂, ◌∙◌}
 use mathlib.Core.List.{List, [], ◌∷◌, ◌++◌, append_assoc}
+use mir.Syntax.{w16, w32}
+use Rattle.std.specs.Int.{to_be_bytes}
 use native.Mathlib.Numerals.{add-one}
 use native.Mathlib.Omega.{arith}
-use lib.ListN.{length, get_or, take, drop, replicate, length-append, length-take, length-drop, drop_of_length-le}
-use lib.Seq.{sets, sets-eq, length-sets, length-take-le, drop_at, drop-cons, drop-drop, get_or-take, take-append-add, take-append_seam, drop-append-add}
+use lib.ListN.{length, get_or, take, drop, replicate, length-append, length-drop}
+use lib.Seq.{sets, sets-eq, length-sets, length-take-le, drop_at, drop-cons, drop-drop, take-append-add, take-append_seam, drop-append-add}
 use Rattle.text.specs.Text.{reached}
 use Rattle.text.proofs.Laws.Puts.{Puts, puts_then, reached-none}
 use Rattle.carousel_play.specs.Bytes.{front_bytes, section_bytes, message_bytes, module_bytes, modules_bytes, list_bytes}
-use Rattle.carousel_play.specs.declared.frame.Head.{Head}
+use Rattle.carousel_play.specs.declared.spell.Head.{Head}
 use Rattle.carousel_play.specs.Pieces.{head_bytes, message_head, framed_by}
 use Rattle.carousel_play.proofs.Laws.Framing.{section-long, message-long}
 use Rattle.wire.specs.Fields.{spelled}
@@ -21,34 +23,21 @@ use Rattle.carousel_messages.specs.Heard.{none_listed}
 use Rattle.carousel_play.specs.declared.Playlist.{Playlist}
 use Rattle.carousel_play.specs.Calls.{to_play}
 
-pub two_bytes : (x : ℕ) → x < 2 ^ 16 → (x / 256) ∷ (x % 256) ∷ [] ≡ spelled 2 x
+pub two_bytes : (x : ℕ) → to_be_bytes w16 x ≡ spelled 2 x
 unfolding spelled
-two_bytes x h =
-    let e : x / 256 ≡ x / 256 ^ 1 % 256 = omega arith in
-    let f : x % 256 ≡ x / 256 ^ 0 % 256 = omega arith in
-    λ i. e i ∷ f i ∷ []
+two_bytes x = let z : x % 256 ≡ x / 1 % 256 = omega arith in ap (λ (b : ℕ). x / 256 % 256 ∷ b ∷ []) z
 
-pub four_bytes : (x : ℕ) → x < 2 ^ 32 → spelled 2 (x / 65536) ++ spelled 2 (x % 65536) ≡ spelled 4 x
+pub four_bytes : (x : ℕ) → to_be_bytes w32 x ≡ spelled 4 x
 unfolding spelled
-four_bytes x h =
-    let e : x / 65536 / 256 ^ 1 % 256 ≡ x / 256 ^ 3 % 256 = omega arith in
-    let f : x / 65536 / 256 ^ 0 % 256 ≡ x / 256 ^ 2 % 256 = omega arith in
-    let g : x % 65536 / 256 ^ 1 % 256 ≡ x / 256 ^ 1 % 256 = omega arith in
-    let k : x % 65536 / 256 ^ 0 % 256 ≡ x / 256 ^ 0 % 256 = omega arith in
-    λ i. e i ∷ f i ∷ g i ∷ k i ∷ []
+four_bytes x = let z : x % 256 ≡ x / 1 % 256 = omega arith in ap (λ (b : ℕ). x / 16777216 % 256 ∷ x / 65536 % 256 ∷ x / 256 % 256 ∷ b ∷ []) z
 
 -- "what lies past the section is unchanged"
 pub left-past : (l s : List ℕ) → length s ≤ length l → sets l 0 s ≡ s ++ drop (length s) l
 left-past l s h = let e : 0 + length s ≡ length s = omega arith in sets-eq s l 0 (omega arith) ∙ ap (λ (n : ℕ). s ++ drop n l) e
 
--- the first n of some modules, from place i on
-pub modules-left : (ms : List Listed) (n : ℕ) → n ≤ length ms → (i : ℕ) → i < n → drop i (take n ms) ≡ get_or ms i none_listed ∷ drop (i + 1) (take n ms)
-modules-left ms n h i l =
-    let k = length-take-le n ms h in
-    rw (add-one i) (drop-cons (take n ms) i none_listed (omega arith) ∙ ap (λ (x : Listed). x ∷ drop (suc i) (take n ms)) (get_or-take n ms i none_listed l))
-
-pub none_left : (ms : List Listed) (n i : ℕ) → n ≤ i → drop i (take n ms) ≡ []
-none_left ms n i l = let k = length-take n ms in let m : length (take n ms) ≤ i = omega arith in drop_of_length-le (take n ms) m
+-- modules from place i on
+pub modules-left : (ms : List Listed) (i : ℕ) → i < length ms → drop i ms ≡ get_or ms i none_listed ∷ drop (i + 1) ms
+modules-left ms i l = rw (add-one i) (drop-cons ms i none_listed l)
 
 -- ONE MODULE AND THEN THE REST: what the loop over modules keeps
 pub module-step : (out : List ℕ) (end : ℕ) (x : Listed) (xs rest : List Listed) (out' : List ℕ) (end' : ℕ) → rest ≡ x ∷ xs → Puts out end (module_bytes x) out' end'
@@ -79,16 +68,16 @@ unfolding list_bytes spelled to_play
 list_pieces p e = λ i. spelled 4 p.download ++ spelled 2 p.block_size ++ replicate 10 0 ++ spelled 2 0 ++ spelled 2 (e i) ++ modules_bytes (take p.count p.modules) ++ spelled 2 0
 
 -- THE TWO HEADERS AND A PAYLOAD are all of a section but its CRC
-pub front_pieces : (t x v n l m id : ℕ) (q : List ℕ) (size : ℕ) → length q ≡ size
-    → head_bytes t x v n l (12 + size) ++ message_head m id size ++ q ≡ front_bytes t x v n l (message_bytes m id q)
+pub front_pieces : (h : Head) (q : List ℕ) (size : ℕ) → length q ≡ size
+    → head_bytes h (12 + size) ++ message_head h size ++ q ≡ front_bytes h.table h.extension h.version h.number h.last (message_bytes h.message h.identifier q)
 unfolding head_bytes message_head front_bytes message_bytes spelled
-front_pieces t x v n l m id q size e =
-    let f : 12 + size ≡ length (message_bytes m id q) = omega arith in
-    λ i. head_bytes t x v n l (f i) ++ message_head m id (sym e i) ++ q
+front_pieces h q size e =
+    let f : 12 + size ≡ length (message_bytes h.message h.identifier q) = omega arith in
+    λ i. head_bytes h (f i) ++ message_head h (sym e i) ++ q
 
-pub heads-long : (t x v n l m id size : ℕ) → length (head_bytes t x v n l (12 + size) ++ message_head m id size) ≡ 20
+pub heads-long : (h : Head) (size : ℕ) → length (head_bytes h (12 + size) ++ message_head h size) ≡ 20
 unfolding head_bytes message_head spelled
-heads-long t x v n l m id size = refl
+heads-long h size = refl
 
 -- THE SECTION AROUND A PAYLOAD: 20 bytes f before it and four bytes c behind it, where `size` bytes stand in a buffer from byte 20 on
 module _ (l f : List ℕ) (size : ℕ) (twenty : length f ≡ 20) (room : 24 + size ≤ length l) where
@@ -129,21 +118,20 @@ module _ (l f : List ℕ) (size : ℕ) (twenty : length f ≡ 20) (room : 24 + s
 
 -- with the two headers before it and their CRC behind it, it is a whole section
 pub framed : (l : List ℕ) (h : Head) (size : ℕ) → 24 + size ≤ length l → (m k : List ℕ)
-    → m ≡ sets l 0 (head_bytes h.table h.extension h.version h.number h.last (12 + size) ++ message_head h.message h.identifier size)
+    → m ≡ sets l 0 (head_bytes h (12 + size) ++ message_head h size)
     → k ≡ sets m (20 + size) (spelled 4 (crc_of (take (20 + size) m))) → k ≡ sets l 0 (framed_by h (take size (drop 20 l)))
 unfolding framed_by section_bytes
 framed l h size room m k e f =
-    let t = h.table in
-    let g : List ℕ = head_bytes t h.extension h.version h.number h.last (12 + size) ++ message_head h.message h.identifier size in
-    let n = heads-long t h.extension h.version h.number h.last h.message h.identifier size in
+    let g : List ℕ = head_bytes h (12 + size) ++ message_head h size in
+    let n = heads-long h size in
     let q : List ℕ = take size (drop 20 l) in
     let long : length q ≡ size = length-take-le size (drop 20 l) (rw length-drop (omega arith)) in
-    let whole = front_pieces t h.extension h.version h.number h.last h.message h.identifier q size long in
+    let whole = front_pieces h q size long in
     let there : take (20 + size) m ≡ g ++ q = ap (take (20 + size)) e ∙ front-there l g size n room in
     f
     ∙ ap₂ (λ (x y : List ℕ). sets x (20 + size) (spelled 4 (crc_of y))) e (there ∙ whole)
     ∙ framing l g size n room _ (spelled_length 4 _)
-    ∙ ap (λ (x : List ℕ). sets l 0 (x ++ spelled 4 (crc_of (front_bytes t h.extension h.version h.number h.last (message_bytes h.message h.identifier q))))) whole
+    ∙ ap (λ (x : List ℕ). sets l 0 (x ++ spelled 4 (crc_of (front_bytes h.table h.extension h.version h.number h.last (message_bytes h.message h.identifier q))))) whole
 
 -- A PAYLOAD THAT WAS PUT is read again, and a section laid over it is all that is seen of it
 module _ (l p : List ℕ) (at : ℕ) (room : at + length p ≤ length l) where

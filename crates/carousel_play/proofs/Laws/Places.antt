@@ -12,6 +12,12 @@ use Rattle.carousel_record.specs.Record.{block_count}
 use Rattle.carousel_play.specs.Bytes.{announcement_bytes, block_bytes}
 use Rattle.carousel_play.specs.Rotation.{module_sections, sections_to, rotation, blocks_to, section_count, section_at}
 
+-- a module's blocks come before those of the modules after it
+pub rises : (a : Announced) (i n : ℕ) → i < n → blocks_to a i + block_count a i ≤ blocks_to a n
+unfolding blocks_to
+rises a i zero l = absurd (omega arith)
+rises a i (suc n) l = elim (dec_lt i n) [ yes k ↦ let h = rises a i n k in omega arith | no k ↦ let g : i ≡ n = omega arith in rw g (omega arith) ]
+
 module _ (a : Announced) (image : List ℕ) where
   module-long : (i n : ℕ) → length (module_sections a image i n) ≡ n
   unfolding module_sections
@@ -46,7 +52,7 @@ module _ (a : Announced) (image : List ℕ) where
   sections-at (suc n) i b l m = elim (dec_lt i n) [
     | yes k ↦
         let e = sections-long n in
-        let f = rises i n k in
+        let f = rises a i n k in
         get_or-append (sections_to a image n) (module_sections a image n (block_count a n)) [] (blocks_to a i + b) (omega arith) ∙ sections-at n i b k m
     | no k ↦
         let g : i ≡ n = omega arith in
@@ -58,10 +64,6 @@ module _ (a : Announced) (image : List ℕ) where
         ∙ module-at i (block_count a i) b m
         )
   ]
-    where
-      rises : (i n : ℕ) → i < n → blocks_to a i + block_count a i ≤ blocks_to a n
-      rises i zero l = absurd (omega arith)
-      rises i (suc n) l = elim (dec_lt i n) [ yes k ↦ let h = rises i n k in omega arith | no k ↦ let g : i ≡ n = omega arith in rw g (omega arith) ]
 
   pub rotation-long : (id : ℕ) → length (rotation id a image) ≡ section_count a
   rotation-long id = let e = sections-long (length a.modules) in omega arith
@@ -87,10 +89,3 @@ pub places : (a : Announced) (k : ℕ) → k < section_count a
     → (k ≡ 0) ⊎ ((i : ℕ) × (b : ℕ) × (i < length a.modules) × (b < block_count a i) × (k ≡ 1 + (blocks_to a i + b)))
 places a zero l = inl refl
 places a (suc k) l = let q = below a (length a.modules) k (omega arith) in inr (q.0, q.1, q.2, q.3, omega (arith, q.4))
-
--- the identifier is the announcement's alone
-pub any-identifier : (id : ℕ) (a : Announced) (image : List ℕ) (k : ℕ) → (k ≡ 0 → ⊥) → section_at 0 a image (1 + (k - 1)) ≡ section_at id a image k
-any-identifier id a image k h =
-    let e : 1 + (k - 1) ≡ suc (k - 1) = omega (arith, h) in
-    let f : suc (k - 1) ≡ k = omega (arith, h) in
-    ap (section_at 0 a image) e ∙ ap (section_at id a image) f

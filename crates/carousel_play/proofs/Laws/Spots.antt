@@ -5,6 +5,7 @@ use mathlib.Core.List.{List, [], ◌∷◌}
 use native.Mathlib.Numerals.{add-one}
 use native.Mathlib.Omega.{arith}
 use lib.ListN.{length, get_or}
+use Rattle.std.proofs.Common.{Option, Some, None}
 use lib.Seq.{get_or-take, length-take-le}
 use Rattle.carousel_messages.specs.declared.Listed.{Listed}
 use Rattle.carousel_messages.specs.Limits.{most_modules}
@@ -58,15 +59,23 @@ module _ (a : Announced) (n : ℕ) (long : length a.modules ≡ n) (place left s
       (omega arith, omega arith, omega arith, t)
 
   -- or in it
-  pub walked_here : (b : ℕ) → b ≡ blocks_of a.block_size m.size → left < b → (i < n) × (left < block_count a i) × (place ≡ blocks_to a i + left) × (start ≡ start_of a i)
-  walked_here b e f = let k = its-blocks in (l, omega arith, w.1, w.3 (omega arith))
+  pub walked_here : (b : ℕ) → b ≡ blocks_of a.block_size m.size → left < b
+      → (i < length a.modules) × (left < block_count a i) × (start ≡ start_of a i) × (place ≡ blocks_to a i + left)
+  walked_here b e f = let k = its-blocks in (omega arith, omega arith, w.3 (omega arith), w.1)
 
--- never past them all
-pub walked-past : (a : Announced) (n place left start i : ℕ) → Walked a n place left start i → n ≤ i → place < blocks_to a n → ⊥
-walked-past a n place left start i w l p =
+-- or past them all
+pub walked-past : (a : Announced) (n place left start i : ℕ) → Walked a n place left start i → n ≤ i → blocks_to a n ≤ place
+walked-past a n place left start i w l =
     let e : i ≡ n = omega (arith, w.0) in
     let q : place ≡ blocks_to a n + left = w.1 ∙ ap (λ (k : ℕ). blocks_to a k + left) e in
     omega arith
+
+pub one_or_none : {X : Type 0} (x : X) → Some x ≡ None → ⊥
+one_or_none {X = X} x e = let z : ◌≡◌ {A = ℕ} 1 0 = ap (λ o. many o) e in omega arith
+  where
+    many : Option X → ℕ
+    many (Some y) = 1
+    many None = 0
 
 -- the sections with one module more
 pub blocks-next : (a : Announced) (i sum : ℕ) (m : Listed) → module_at a i ≡ m → (b : ℕ) → b ≡ blocks_of a.block_size m.size → sum ≡ 1 + blocks_to a i → sum + b ≡ 1 + blocks_to a (i + 1)

@@ -1,71 +1,99 @@
 -- The marks that a new announcement keeps, one place at a time, as the loop brings them. r is the record before, q the one after, without a mark.
-use Prim.Native.Nat.{ℕ, zero, suc, ◌+◌, ◌-◌, ◌*◌, ◌%◌, ◌≤◌, ◌<◌}
+use Prim.Native.Nat.{ℕ, zero, suc, ◌+◌, ◌-◌, ◌*◌, ◌≤◌, ◌<◌}
 use mathlib.Core.Path.{◌≡◌, refl, sym, ap, ◌∙◌}
-use mathlib.Core.Bool.{Bool, true, false, ◌&&◌}
+use mathlib.Core.Bool.{Bool, true, false, cond, ◌&&◌}
 use mathlib.Core.List.{List, map, ◌++◌, append_assoc, append-nil}
 use native.Mathlib.Nat.{add-sub_cancel_left}
 use native.Mathlib.Omega.{arith}
 use lib.Dec.{eqb, ltb}
 use lib.ListN.{length, get_or, take, drop, replicate, length-append, length-replicate, replicate-append-replicate}
 use lib.Seq.{take_at, drop_at, drop-drop}
-use borrow.Author.Tests.{ltb-true, lt-ltb, eq-eqb}
+use borrow.Author.Tests.{ltb-true, ltb-false, lt-ltb, le-ltb, eq-eqb}
 use Rattle.wire.specs.Copies.{overwrite}
 use Rattle.carousel_messages.specs.Limits.{most_modules}
+use Rattle.std.proofs.Common.{Option, Some, None, unwrap_or}
+use Rattle.carousel_messages.specs.declared.Listed.{Listed}
+use Rattle.carousel_messages.specs.Heard.{found}
+use Rattle.carousel_record.specs.declared.Module.{Module}
 use Rattle.carousel_record.specs.declared.Carousel.{Carousel}
 use Rattle.carousel_record.specs.Marks.{module_words, mark_words}
-use Rattle.carousel_record.specs.Record.{Record, announced_by, record_of, number_in, place_among, unused}
+use Rattle.carousel_record.specs.Record.{Record, announced_by, record_of, number_in, place_among, place_of, slot_at, slot_of, unused}
 use Rattle.carousel_record.specs.Keeping.{modules_in, place_for, same_at, SameAt, place_before, is_kept, words_kept, words_from, marks_kept}
-use Rattle.carousel_record.proofs.Laws.Entries.{among-entries}
+use Rattle.carousel_record.proofs.Laws.Entries.{found-entries}
 use Rattle.carousel_record.proofs.Laws.Says.{says_module, says-start, says-count, said-within}
+use Rattle.carousel_step.specs.Held.{still_at}
+use Rattle.carousel_step.proofs.Laws.Slots.{found-slot, no_slot}
 use Rattle.carousel_record.proofs.Laws.Keeping.{same_means, words_length, from_length, none_from}
 
--- the test that is left where downloadId and blockSize are the same: place i is counted, and the two entries are the same
-abbrev pub same_still : (c d : Carousel) (i j : ℕ) → Bool
-same_still c d i j =
-    ltb i c.count
-    && eqb (get_or c.modules (i % most_modules) unused).number (get_or d.modules j unused).number
-    && eqb (get_or c.modules (i % most_modules) unused).version (get_or d.modules j unused).version
-    && eqb (get_or c.modules (i % most_modules) unused).size (get_or d.modules j unused).size
-    && eqb (get_or c.modules (i % most_modules) unused).start (get_or d.modules j unused).start
+-- the test that is left where downloadId and blockSize are the same: the two entries are the same
+abbrev same_entry : Module → Module → Bool
+same_entry m k = eqb m.number k.number && eqb m.version k.version && eqb m.size k.size && eqb m.start k.start
 
-module _ (c d : Carousel) (i j : ℕ) where
-  pub same-still : length c.modules ≡ most_modules → length d.modules ≡ most_modules → c.count ≤ most_modules → d.count ≤ most_modules
-      → c.download ≡ d.download → c.block_size ≡ d.block_size → j < d.count
-      → same_at (record_of c) (record_of d) i j ≡ same_still c d i j
+-- Two records of one downloadId and one blockSize, and the module at place j of the second.
+module _ (c d : Carousel) (j : ℕ) (lc : length c.modules ≡ most_modules) (ld : length d.modules ≡ most_modules) (fc : c.count ≤ most_modules) (fd : d.count ≤ most_modules)
+    (e : c.download ≡ d.download) (f : c.block_size ≡ d.block_size) (k : j < d.count) where
+  abbrev m : Module
+  m = get_or d.modules j unused
+
+  -- where it was: the place of its number among those of the record before
+  abbrev p : ℕ
+  p = place_of (announced_by c) m.number
+
+  pub was-at : p ≡ place_before (record_of c) (record_of d) j
+  was-at = sym (ap (λ (x : Listed). place_for (record_of c) x.number) (says_module d j k))
+
+  same-there : (i : ℕ) → i < c.count → same_at (record_of c) (record_of d) i j ≡ same_entry (get_or c.modules i unused) m
   unfolding same_at announced_by
-  same-still lc ld fc fd e f k = go (ltb i c.count) refl
+  same-there i l =
+      rw (
+        says-count c lc fc,
+        says-count d ld fd,
+        lt-ltb i c.count l,
+        lt-ltb j d.count k,
+        eq-eqb _ _ e,
+        eq-eqb _ _ f,
+        says_module c i l,
+        says_module d j k,
+        says-start c i l,
+        says-start d j k,
+      ) refl
+
+  same-nowhere : (i : ℕ) → c.count ≤ i → same_at (record_of c) (record_of d) i j ≡ false
+  unfolding same_at announced_by
+  same-nowhere i l = rw (says-count c lc fc, le-ltb i c.count l) refl
+
+  -- its old place, where it is the same
+  pub still-is : still_at (slot_of c m.number) m ≡ cond (same_at (record_of c) (record_of d) p j) (Some p) None
+  still-is = go (ltb p c.count) refl
     where
-      go : (t : Bool) → ltb i c.count ≡ t → same_at (record_of c) (record_of d) i j ≡ same_still c d i j
+      go : (t : Bool) → ltb p c.count ≡ t → still_at (slot_of c m.number) m ≡ cond (same_at (record_of c) (record_of d) p j) (Some p) None
       go true h =
-          let l = ltb-true i c.count h in
-          let m : i % most_modules ≡ i = omega arith in
-          rw (
-            says-count c lc fc,
-            says-count d ld fd,
-            lt-ltb j d.count k,
-            eq-eqb _ _ e,
-            eq-eqb _ _ f,
-            m,
-            says_module c i l,
-            says_module d j k,
-            says-start c i l,
-            says-start d j k,
-            h,
-          ) refl
-      go false h = rw (says-count c lc fc, h) refl
+          let l = ltb-true p c.count h in
+          ap (λ o. still_at o m) (found-slot c lc fc m.number l) ∙ ap (λ (t : Bool). cond t (Some p) None) (sym (same-there p l))
+      go false h =
+          let l = ltb-false p c.count h in
+          ap (λ o. still_at o m) (no_slot c lc fc m.number l) ∙ ap (λ (t : Bool). cond t (Some p) None) (sym (same-nowhere p l))
 
-  -- one that is the same is there
-  pub same-within : same_at (record_of c) (record_of d) i j ≡ true → i < c.count
-  same-within e = said-within c i (same_means (record_of c) (record_of d) i j e).before
+-- one that is the same is there
+pub same-within : (c d : Carousel) (i j : ℕ) → same_at (record_of c) (record_of d) i j ≡ true → i < c.count
+same-within c d i j e = said-within c i (same_means (record_of c) (record_of d) i j e).before
 
-  -- where the module at place j was: the place of its number among those of the record before
-  pub was-at : j < d.count → (ns : List ℕ) → ns ≡ map number_in c.modules → i ≡ place_among (get_or d.modules j unused).number (take c.count ns)
-      → i ≡ place_before (record_of c) (record_of d) j
-  unfolding announced_by
-  was-at h ns n e =
-      let k = (get_or d.modules j unused).number in
-      e ∙ ap (λ (l : List ℕ). place_among k (take c.count l)) n ∙ among-entries k c.count c.modules
-      ∙ sym (ap (λ m. place_for (record_of c) m.number) (says_module d j h))
+-- what such an answer tells
+pub still-has : (t : Bool) (p i : ℕ) → Some i ≡ cond t (Some p) None → (i ≡ p) × (t ≡ true)
+still-has true p i e = (ap (λ o. unwrap_or o 0) e, refl)
+still-has false p i e = let z : ◌≡◌ {A = ℕ} 0 1 = cc in absurd (omega arith)
+
+pub still-none : (t : Bool) (p : ℕ) → None ≡ cond t (Some p) None → t ≡ false
+still-none true p e = let z : ◌≡◌ {A = ℕ} 0 1 = cc in absurd (omega arith)
+still-none false p e = refl
+
+-- the entry that was found among the numbers of entries
+pub slot-is : (c : Carousel) (k : ℕ) (ns : List ℕ) → ns ≡ map number_in c.modules
+    → slot_at (found (place_among k (take c.count ns)) (length (take c.count ns))) c.modules ≡ slot_of c k
+unfolding announced_by
+slot-is c k ns e =
+    ap (λ (ns : List ℕ). slot_at (found (place_among k (take c.count ns)) (length (take c.count ns))) c.modules) e
+    ∙ ap (λ (o : Option ℕ). slot_at o c.modules) (found-entries k c.count c.modules)
 
 -- where no module is the same, none keeps its marks
 module _ (r q : Record) (other : (i j : ℕ) → SameAt r q i j → ⊥) where

@@ -3,6 +3,7 @@ use Prim.Native.Nat.{ℕ, ◌+◌, ◌*◌, ◌≤◌, ◌<◌}
 use mathlib.Core.Path.{◌≡◌, refl, ap, ap₂}
 use mathlib.Core.Bool.{Bool, true, false, not, cond, ◌&&◌, ◌||◌}
 use mathlib.Core.List.{List}
+use Rattle.std.proofs.Common.{Ok, Err, Option}
 use lib.Dec.{eqb, ltb}
 use lib.ListN.{length, take, drop}
 use borrow.Author.Tests.{eq-eqb, ne_eqb, lt-ltb, le-ltb}
@@ -12,11 +13,11 @@ use Rattle.section.specs.declared.Refusal.{Refusal}
 use Rattle.section.specs.Answer.{refused}
 use Rattle.carousel_messages.specs.declared.Announcement.{Announcement}
 use Rattle.carousel_messages.specs.declared.Block.{Block}
-use Rattle.carousel_messages.specs.declared.Judged.TheVariants as judged
+use Rattle.carousel_messages.specs.declared.Message.TheVariants as message
 use Rattle.carousel_messages.specs.Judged.{judged_of}
 use Rattle.carousel_messages.specs.Heard.{Announced, Arrived, announced_in, arrived_in, span_of, heard_in, heard_of}
 use Rattle.carousel_record.specs.declared.Carousel.{Carousel}
-use Rattle.carousel_record.specs.declared.Module.{Module}
+use Rattle.carousel_record.specs.declared.Slot.{Slot}
 use Rattle.carousel_record.specs.declared.Head.{Head}
 use Rattle.carousel_record.specs.Blocks.{blocks_of, block_length_of}
 use Rattle.carousel_record.specs.Marks.{mark_of, is_marked}
@@ -24,16 +25,16 @@ use Rattle.carousel_record.specs.Record.{Record, record_of, place_of, received, 
 use Rattle.carousel_step.specs.Step.{StepOutcome, refusing, new, same, repeated, stored, block_refusal, bytes_differ}
 use Rattle.carousel_step.specs.Step.{matched, same_announced, on_announced, on_arrived, on_heard, outcome_of, image_after, returning, stepped_of}
 use Rattle.carousel_step.specs.Step.{image_of}
-use Rattle.carousel_step.specs.Held.{held_refusal, put_outcome, held_outcome}
+use Rattle.carousel_step.specs.Held.{slot_place, slot_entry, is_past, held_refusal, put_outcome, held_outcome}
 
 -- 12 to 16, one after another, by the head of a record and the entry that was found
-module _ (h : Head) (i : ℕ) (m : Module) (n : ℕ) (d : Arrived) where
-  pub is-12-none : h.count ≡ 0 → held_refusal h i m n d ≡ 12
+module _ (h : Head) (o : Option Slot) (n : ℕ) (d : Arrived) where
+  pub is-12-none : h.count ≡ 0 → held_refusal h o n d ≡ 12
   unfolding held_refusal first_met
   is-12-none e = rw (eq-eqb h.count 0 e)
 
   module _ (some : h.count ≡ 0 → ⊥) where
-    pub is-12 : (h.download ≡ d.download → ⊥) → held_refusal h i m n d ≡ 12
+    pub is-12 : (h.download ≡ d.download → ⊥) → held_refusal h o n d ≡ 12
     unfolding held_refusal first_met
     is-12 e = rw (ne_eqb h.count 0 some, ne_eqb h.download d.download e)
 
@@ -41,41 +42,38 @@ module _ (h : Head) (i : ℕ) (m : Module) (n : ℕ) (d : Arrived) where
       not-12 : (eqb h.count 0 || not (eqb h.download d.download)) ≡ false
       not-12 = ap₂ (λ (x y : Bool). x || not y) (ne_eqb h.count 0 some) (eq-eqb h.download d.download its)
 
-      pub is-13 : h.count ≤ i → held_refusal h i m n d ≡ 13
+      pub is-13 : is_past h.count o ≡ true → held_refusal h o n d ≡ 13
       unfolding held_refusal first_met
-      is-13 e = rw (not-12, le-ltb i h.count e)
+      is-13 e = rw (not-12, e)
 
-      module _ (found : i < h.count) where
-        not-13 : not (ltb i h.count) ≡ false
-        not-13 = ap not (lt-ltb i h.count found)
-
-        pub is-14 : (m.version ≡ d.version → ⊥) → held_refusal h i m n d ≡ 14
+      module _ (not-13 : is_past h.count o ≡ false) where
+        pub is-14 : ((slot_entry o).version ≡ d.version → ⊥) → held_refusal h o n d ≡ 14
         unfolding held_refusal first_met
-        is-14 e = rw (not-12, not-13, ne_eqb m.version d.version e)
+        is-14 e = rw (not-12, not-13, ne_eqb (slot_entry o).version d.version e)
 
-        module _ (version : m.version ≡ d.version) where
-          pub is-15 : n < h.bytes → held_refusal h i m n d ≡ 15
+        module _ (version : (slot_entry o).version ≡ d.version) where
+          pub is-15 : n < h.bytes → held_refusal h o n d ≡ 15
           unfolding held_refusal first_met
-          is-15 e = rw (not-12, not-13, eq-eqb m.version d.version version, lt-ltb n h.bytes e)
+          is-15 e = rw (not-12, not-13, eq-eqb (slot_entry o).version d.version version, lt-ltb n h.bytes e)
 
           module _ (room : h.bytes ≤ n) where
             abbrev fits : Bool
-            fits = ltb d.block (blocks_of h.block_size m.size) && eqb (length d.bytes) (block_length_of h.block_size m.size d.block)
+            fits = ltb d.block (blocks_of h.block_size (slot_entry o).size) && eqb (length d.bytes) (block_length_of h.block_size (slot_entry o).size d.block)
 
             either_not : (t u : Bool) → (not t || not u) ≡ not (t && u)
             either_not true u = refl
             either_not false u = refl
 
-            its-16 : (not (ltb d.block (blocks_of h.block_size m.size)) || not (eqb (length d.bytes) (block_length_of h.block_size m.size d.block))) ≡ not fits
-            its-16 = either_not (ltb d.block (blocks_of h.block_size m.size)) (eqb (length d.bytes) (block_length_of h.block_size m.size d.block))
+            its-16 : (not (ltb d.block (blocks_of h.block_size (slot_entry o).size)) || not (eqb (length d.bytes) (block_length_of h.block_size (slot_entry o).size d.block))) ≡ not fits
+            its-16 = either_not (ltb d.block (blocks_of h.block_size (slot_entry o).size)) (eqb (length d.bytes) (block_length_of h.block_size (slot_entry o).size d.block))
 
-            pub is-16 : fits ≡ false → held_refusal h i m n d ≡ 16
+            pub is-16 : fits ≡ false → held_refusal h o n d ≡ 16
             unfolding held_refusal first_met
-            is-16 e = rw (not-12, not-13, eq-eqb m.version d.version version, le-ltb n h.bytes room, its-16, e)
+            is-16 e = rw (not-12, not-13, eq-eqb (slot_entry o).version d.version version, le-ltb n h.bytes room, its-16, e)
 
-            pub is-matching : fits ≡ true → held_refusal h i m n d ≡ 0
+            pub is-matching : fits ≡ true → held_refusal h o n d ≡ 0
             unfolding held_refusal first_met
-            is-matching e = rw (not-12, not-13, eq-eqb m.version d.version version, le-ltb n h.bytes room, its-16, e)
+            is-matching e = rw (not-12, not-13, eq-eqb (slot_entry o).version d.version version, le-ltb n h.bytes room, its-16, e)
 
 -- a matching block
 module _ (r : Record) (image : List ℕ) (i : ℕ) (d : Arrived) where
@@ -122,15 +120,15 @@ module _ (k at : ℕ) (ws image bytes : List ℕ) where
       put_other e = rw (le-ltb (length image) (at + length bytes) room, marked, e)
 
 -- a block of a record that is held in parts
-module _ (h : Head) (i : ℕ) (m : Module) (ws image : List ℕ) (d : Arrived) where
-  pub held_bad : (n : ℕ) → held_refusal h i m (length image) d ≡ n → (n ≡ 0 → ⊥) → held_outcome h i m ws image d ≡ refusing (refused n)
+module _ (h : Head) (o : Option Slot) (ws image : List ℕ) (d : Arrived) where
+  pub held_bad : (n : ℕ) → held_refusal h o (length image) d ≡ n → (n ≡ 0 → ⊥) → held_outcome h o ws image d ≡ refusing (refused n)
   unfolding held_outcome
   held_bad n e z = rw (e, ne_eqb n 0 z)
 
-  pub held-good : held_refusal h i m (length image) d ≡ 0
-      → held_outcome h i m ws image d ≡ put_outcome (mark_of i d.block) (m.start + d.block * h.block_size) ws image d.bytes
+  pub held-good : held_refusal h o (length image) d ≡ 0
+      → held_outcome h o ws image d ≡ put_outcome (mark_of (slot_place o) d.block) ((slot_entry o).start + d.block * h.block_size) ws image d.bytes
   unfolding held_outcome
-  held-good e = rw (eq-eqb (held_refusal h i m (length image) d) 0 e)
+  held-good e = rw (eq-eqb (held_refusal h o (length image) d) 0 e)
 
 -- an announcement
 module _ (r : Record) (a : Announced) where
@@ -161,14 +159,14 @@ module _ (c : Carousel) (s image : List ℕ) where
   comes_broken e = rw e
 
   module _ (ruled : ruled_of c ≡ true) where
-    pub comes-refused : (n : Refusal) → judged_of s ≡ judged.Refused n → outcome_of c s image ≡ refusing n
+    pub comes-refused : (n : Refusal) → judged_of s ≡ Err n → outcome_of c s image ≡ refusing n
     unfolding outcome_of heard_of heard_in on_heard
     comes-refused n e = rw (ruled, e)
 
-    pub comes-announced : (a : Announcement) → judged_of s ≡ judged.Announced a → outcome_of c s image ≡ on_announced (record_of c) (announced_in a (span_of s a.start a.size))
+    pub comes-announced : (a : Announcement) → judged_of s ≡ Ok (message.Announced a) → outcome_of c s image ≡ on_announced (record_of c) (announced_in a (span_of s a.part.start a.part.size))
     unfolding outcome_of heard_of heard_in on_heard
     comes-announced a e = rw (ruled, e)
 
-    pub comes-carried : (b : Block) → judged_of s ≡ judged.Carried b → outcome_of c s image ≡ on_arrived (record_of c) image (arrived_in b (span_of s b.start b.size))
+    pub comes-carried : (b : Block) → judged_of s ≡ Ok (message.Carried b) → outcome_of c s image ≡ on_arrived (record_of c) image (arrived_in b (span_of s b.part.start b.part.size))
     unfolding outcome_of heard_of heard_in on_heard
     comes-carried b e = rw (ruled, e)

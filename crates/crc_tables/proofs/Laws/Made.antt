@@ -1,15 +1,13 @@
 -- How the tables are made: an entry is the sum of those of its bits, and that of a bit is that of the bit below and one clear bit more.
 use mathlib.Core.Path.{◌≡◌, refl, sym, ap, ap₂, subst, ◌∙◌}
-use mathlib.Core.Bool.{Bool, true, false}
 use mathlib.Core.List.{List, [], ◌∷◌, ◌++◌}
 use Prim.Native.Nat.{ℕ, zero, suc, ◌+◌, ◌*◌, ◌/◌, ◌%◌, ◌^◌, ◌<◌, ◌≤◌}
 use native.Mathlib.Numerals.{add-one, one-add}
 use native.Mathlib.Omega.{arith}
-use lib.Dec.{ltb, lit<}
-use borrow.Author.Tests.{ltb-true, ltb-false}
+use lib.Dec.{lit<}
 use lib.ListN.{length, get_or, take, set, replicate, length-replicate}
 use lib.Seq.{get_or-take, take-suc-set, take_all}
-use lib.Pow.{pow_mono, pow-add, shr-shr, shl-shr}
+use lib.Pow.{pow-add, shr-shr, shl-shr}
 use lib.Bits.{bit_xor, xor_comm, xor_self, xor_shifted}
 use Rattle.section.specs.Crc.{generator, crc_bit, crc_bits, crc_byte, crc_from}
 use Rattle.crc_tables.specs.By.{◌⊕◌}
@@ -21,17 +19,6 @@ use Rattle.crc_tables.proofs.Laws.Entries.{entry-is}
 
 pub twice-is : (n w : ℕ) → w ≡ 2 ^ n → w * 2 ≡ 2 ^ (n + 1)
 twice-is n w e = ap (λ (x : ℕ). x * 2) e ∙ sym (pow-add 2 n 1)
-
-pub half : (n w : ℕ) → w ≡ 2 ^ n → w < 256 → w ≤ 128
-half n w e h = go (ltb n 8) refl
-  where
-    go : (t : Bool) → ltb n 8 ≡ t → w ≤ 128
-    go true f =
-        let k = ltb-true n 8 f in
-        let l : n ≤ 7 = omega arith in
-        let m : 2 ^ n ≤ 128 = pow_mono l in
-        omega arith
-    go false f = let m : 256 ≤ 2 ^ n = pow_mono (ltb-false n 8 f) in absurd (omega arith)
 
 -- ---- the sum of two
 

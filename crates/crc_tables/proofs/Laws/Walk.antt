@@ -5,7 +5,7 @@ use Prim.Native.Nat.{ℕ, suc, ◌+◌, ◌-◌, ◌/◌, ◌<◌, ◌≤◌}
 use native.Mathlib.Numerals.{add-one}
 use native.Mathlib.Omega.{arith}
 use lib.ListN.{length, get_or, take, drop, length-drop, drop_of_length-le}
-use lib.Seq.{take_all, drop-cons, drop-drop}
+use lib.Seq.{take_all, drop-cons}
 use lib.Bits.{xor_zero_r}
 use borrow.Author.Tests.{lt-ltb, le-ltb}
 use Rattle.section.specs.Crc.{all_ones, crc_of}
@@ -16,9 +16,6 @@ use Rattle.crc_tables.proofs.Laws.Xor.{xor_assoc}
 pub rest : (s : List ℕ) (i : ℕ) → take (length s - i) (drop i s) ≡ drop i s
 rest s i = let e = length-drop i s in take_all (length s - i) (drop i s) (omega arith)
 
-pub rest-long : (n : ℕ) (s : List ℕ) (i : ℕ) → n ≤ length s - i → n ≤ length (take (length s - i) (drop i s))
-rest-long n s i h = rw (rest s i, length-drop i s) h
-
 pub too_few : (t s : List ℕ) → length t < 4096 → crc_by t s ≡ crc_of s
 unfolding crc_by
 too_few t s h = simp (lt-ltb _ _ h)
@@ -27,16 +24,16 @@ pub enough : (t s : List ℕ) → 4096 ≤ length t → groups t (length s / 16)
 unfolding crc_by
 enough t s h = simp (le-ltb _ _ h)
 
-pub group-next : (t : List ℕ) (r i : ℕ) (s : List ℕ) → 16 ≤ length s - i
-    → groups t ((length s - i) / 16) r (drop i s) ≡ groups t ((length s - (i + 16)) / 16) (sixteen t r (drop i s)) (drop (i + 16) s)
+pub group-next : (t : List ℕ) (r : ℕ) (s : List ℕ) → 16 ≤ length s → groups t (length s / 16) r s ≡ groups t (length (drop 16 s) / 16) (sixteen t r s) (drop 16 s)
 unfolding groups
-group-next t r i s h =
-    let e : (length s - i) / 16 ≡ suc ((length s - (i + 16)) / 16) = omega arith in
-    ap (λ (n : ℕ). groups t n r (drop i s)) e ∙ ap (groups t ((length s - (i + 16)) / 16) (sixteen t r (drop i s))) (drop-drop 16 i s)
+group-next t r s h =
+    let l = length-drop 16 s in
+    let e : length s / 16 ≡ suc (length (drop 16 s) / 16) = omega arith in
+    ap (λ (n : ℕ). groups t n r s) e
 
-pub group_end : (t : List ℕ) (r i : ℕ) (s : List ℕ) → length s - i < 16 → groups t ((length s - i) / 16) r (drop i s) ≡ up_to15 t r (drop i s)
+pub group_end : (t : List ℕ) (r : ℕ) (s : List ℕ) → length s < 16 → groups t (length s / 16) r s ≡ up_to15 t r s
 unfolding groups
-group_end t r i s h = let e : (length s - i) / 16 ≡ 0 = omega arith in ap (λ (n : ℕ). groups t n r (drop i s)) e
+group_end t r s h = let e : length s / 16 ≡ 0 = omega arith in ap (λ (n : ℕ). groups t n r s) e
 
 pub under4 : (t : List ℕ) (r : ℕ) (s : List ℕ) → length s < 4 → up_to15 t r s ≡ ones t r s
 unfolding up_to15

@@ -1,4 +1,4 @@
--- `crc_tables::from_clear` meets its contract. The invariant: what is added so far, with what the rest leaves, is what all of it leaves.
+-- `crc_tables::from_clear` meets its contract.
 use Prim.Native.Nat.{ℕ, suc, ◌+◌, ◌-◌}
 use mathlib.Core.Path.{◌≡◌, refl, ap, ◌∙◌}
 use native.Mathlib.Omega.{arith}
@@ -8,18 +8,16 @@ use Rattle.crc_tables.proofs.Laws.Walk.{clear_next, clear_end}
 use Rattle.crc_tables.proofs.from_clear.Goals as goal
 
 pub loop-i-init : goal.loop-i-init
-loop-i-init c = (omega arith, refl)
+loop-i-init c = refl
 
 pub loop-i-preserved : goal.loop-i-preserved
 loop-i-preserved c =
-    let a = c.args in
     let h = c.loop-i in
-    let t = a.t.now in
-    let s = a.s.now in
-    let k = h.k - 1 in
+    let t = c.args.t.now in
+    let s = c.args.s.now in
+    let k = length s - 1 - h.i in
     let e : suc k + h.i ≡ length s = omega arith in
-    let n : k + (h.i + 1) ≡ length s = omega arith in
-    (n, ap (λ (y : ℕ). h.x ⊕ y ⊕ from_clear t (drop (h.i + 1) s)) c.entry-x.ensures ∙ clear_next t h.x k h.i s e ∙ h.invariant.1)
+    ap (λ (y : ℕ). h.x ⊕ y ⊕ from_clear t (drop (h.i + 1) s)) c.entry-x.ensures ∙ clear_next t h.x k h.i s e ∙ h.invariant
 
 pub returns : goal.returns
-returns c = clear_end _ _ c.loop-i.i _ (omega arith) ∙ c.loop-i.invariant.1
+returns c = clear_end _ _ c.loop-i.i _ (omega arith) ∙ c.loop-i.invariant

@@ -1,5 +1,5 @@
 -- The five numbers of a record as code goes through them, and a part of the numbers.
-use Prim.Native.Nat.{ℕ, ◌+◌, ◌-◌, ◌^◌, ◌<◌, ◌≤◌}
+use Prim.Native.Nat.{ℕ, ◌+◌, ◌-◌, ◌^◌, ◌<◌}
 use mathlib.Core.Path.{◌≡◌, sym, ap, ◌∙◌}
 use mathlib.Core.Bool.{true, false, ◌||◌}
 use mathlib.Core.List.{List}
@@ -12,37 +12,12 @@ use lib.Signed.{mag, lt_z}
 use mir.Syntax.{w32}
 use mir.Val.{to_z, of_z, SFits}
 use mir.ValLaws.{to_z-of_z}
-use borrow.Author.Tests.{le-leb, lt-leb}
 use Rattle.wire.proofs.Laws.Signed.{below-told, above-told}
 use Rattle.drift_list.specs.Writing.{cell, fix_in, outside, wide_at}
 
 -- a number read and passed on
 pub kept : (r z : ℤ) → (r ≡ z) × (mag r < 2147483648) → to_z w32 (of_z w32 r) ≡ z
 kept r z e = to_z-of_z w32 r (record { sfits = e.1 }) ∙ e.0
-
-module _ (ns : List ℤ) where
-  pub wide-1 : outside (2 ^ 20) (cell ns 0) ≡ true → true ≡ wide_at ns 0
-  unfolding wide_at
-  wide-1 a = rw a
-
-  module _ (a : outside (2 ^ 20) (cell ns 0) ≡ false) where
-    pub wide-2 : outside (2 ^ 2) (cell ns 1) ≡ true → true ≡ wide_at ns 0
-    unfolding wide_at
-    wide-2 b = rw (a, b)
-
-    module _ (b : outside (2 ^ 2) (cell ns 1) ≡ false) where
-      pub wide-3 : 2 ^ 27 ≤ mag (cell ns 2) → true ≡ wide_at ns 0
-      unfolding wide_at
-      wide-3 h = rw (a, b, le-leb (2 ^ 27) (mag (cell ns 2)) h)
-
-      module _ (x : mag (cell ns 2) < 2 ^ 27) where
-        pub wide-4 : 2 ^ 26 ≤ mag (cell ns 3) → true ≡ wide_at ns 0
-        unfolding wide_at
-        wide-4 h = rw (a, b, lt-leb (2 ^ 27) (mag (cell ns 2)) x, le-leb (2 ^ 26) (mag (cell ns 3)) h)
-
-        pub wide-5 : mag (cell ns 3) < 2 ^ 26 → outside (2 ^ 14) (cell ns 4) ≡ wide_at ns 0
-        unfolding wide_at
-        wide-5 y = sym (rw (a, b, lt-leb (2 ^ 27) (mag (cell ns 2)) x, lt-leb (2 ^ 26) (mag (cell ns 3)) y))
 
 -- a part of the numbers, from place i on
 abbrev pub rest : List ℤ → ℕ → List ℤ

@@ -14,24 +14,6 @@ use Rattle.wire.proofs.Laws.Spelled.{shift, spelled-join}
 use Rattle.drift_list.proofs.Laws.Records.{number_of, fix-spelled}
 use Rattle.wire.proofs.Laws.Signed.{twos_lt}
 
--- four stores are the number's four bytes
-pub four-spelled : (l : List ℕ) (i x : ℕ) → x < 2 ^ 32 → set (set (set (set l i (x / 16777216)) (i + 1) (x / 65536 % 256)) (i + 2) (x / 256 % 256)) (i + 3) (x % 256) ≡ sets l i (spelled 4 x)
-unfolding spelled
-four-spelled l i x h =
-    let a : x / 16777216 ≡ x / 16777216 % 256 = omega arith in
-    let z : x % 256 ≡ x / 1 % 256 = omega arith in
-    let i1 : i + 1 ≡ suc i = omega arith in
-    let i2 : i + 2 ≡ suc (suc i) = omega arith in
-    let i3 : i + 3 ≡ suc (suc (suc i)) = omega arith in
-    λ j. set (set (set (set l i (a j)) (i1 j) (x / 65536 % 256)) (i2 j) (x / 256 % 256)) (i3 j) (z j)
-
--- a store keeps the room
-pub room2 : (l : List ℕ) (i a j b k : ℕ) → k < length l → k < length (set (set l i a) j b)
-room2 l i a j b k h = let e = length-set (set l i a) j b in let f = length-set l i a in omega arith
-
-pub room3 : (l : List ℕ) (i a j b m c k : ℕ) → k < length l → k < length (set (set (set l i a) j b) m c)
-room3 l i a j b m c k h = let g = length-set (set (set l i a) j b) m c in let r = room2 l i a j b k h in omega arith
-
 -- one after another
 pub sets_more : (l : List ℕ) (i : ℕ) (a b : List ℕ) → sets (sets l i a) (i + length a) b ≡ sets l i (a ++ b)
 sets_more l i [] b = ap (λ (k : ℕ). sets l k b) (omega arith)

@@ -1,17 +1,17 @@
 -- `drift_list::state_of` meets its contract.
-use mathlib.Core.Path.{refl, sym}
-use borrow.Author.Tests.{eq-eqb, ne_eqb}
+use native.Mathlib.Omega.{arith}
+use Rattle.std.proofs.lemmas.Bool.Decides.{nat_tests}
 use Rattle.drift_list.specs.Values.{state_of}
 use Rattle.drift_list.proofs.state_of.Goals as goal
 
-pub returns-then-n-eq0 : goal.returns-then-n-eq0
+pub returns-in-0 : goal.returns-in-0
 unfolding state_of
-returns-then-n-eq0 c = sym (rw (eq-eqb _ 0 c.if-n-eq0.true) refl)
+returns-in-0 c = grind (arith, nat_tests)
 
-pub returns-then-n-eq1 : goal.returns-then-n-eq1
+pub returns-in-1 : goal.returns-in-1
 unfolding state_of
-returns-then-n-eq1 c = sym (rw (ne_eqb _ 0 c.if-n-eq0.false, eq-eqb _ 1 c.if-n-eq1.true) refl)
+returns-in-1 c = grind (arith, nat_tests)
 
-pub returns : goal.returns
+pub returns-in_default : goal.returns-in_default
 unfolding state_of
-returns c = sym (rw (ne_eqb _ 0 c.if-n-eq0.false, ne_eqb _ 1 c.if-n-eq1.false) refl)
+returns-in_default c = let w = c.in_default in grind (arith, nat_tests)

@@ -1,5 +1,5 @@
 -- Numbers with a sign, and digits.
-use Prim.Native.Nat.{ℕ, zero, suc, ◌+◌, ◌-◌, ◌/◌, ◌%◌}
+use Prim.Native.Nat.{ℕ, zero, suc, ◌-◌, ◌/◌, ◌%◌}
 use mathlib.Core.Path.{◌≡◌, refl, sym, ap, ap₂, ◌∙◌}
 use mathlib.Core.List.{List, [], ◌++◌}
 use native.Mathlib.Omega.{arith}
@@ -18,12 +18,6 @@ kept_abs z f r e = e ∙ ap nat_abs (to_z-of_z w32 z f)
 
 -- by the sign: `mag` is n for n, and n for -(n + 1)
 module _ (z : ℤ) where
-  pub below_abs : z ≡ negsuc (mag z) → mag z + 1 ≡ nat_abs z
-  below_abs e = let s : mag z + 1 ≡ suc (mag z) = omega arith in s ∙ sym (ap nat_abs e)
-
-  pub above_abs : z ≡ pos (mag z) → mag z ≡ nat_abs z
-  above_abs e = sym (ap nat_abs e)
-
   pub below-decimal : z ≡ negsuc (mag z) → codes "-" ++ decimal (nat_abs z) ≡ signed_decimal z
   unfolding signed_decimal
   below-decimal e = ap (λ (y : ℤ). codes "-" ++ decimal (nat_abs y)) e ∙ sym (ap signed_decimal e)

@@ -3,22 +3,24 @@ use Prim.Native.Nat.{ℕ}
 use mathlib.Core.Path.{◌≡◌, refl, sym, ap, ap₂, ◌∙◌}
 use mathlib.Core.Bool.{Bool, true, false, cond}
 use mathlib.Core.List.{List, [], ◌++◌, append-nil}
-use native.Mathlib.Omega.{arith}
 use lib.Dec.{eqb}
 use borrow.Author.Tests.{eqb-true, eqb-false, eq-eqb, ne_eqb}
 use Rattle.text.specs.Text.{codes, decimal}
 use Rattle.carousel_record.specs.declared.Carousel.{Carousel}
 use Rattle.carousel_record.specs.Changes.{empty_record}
-use Rattle.carousel_handout.specs.declared.Handed.{Handed}
-use Rattle.carousel_handout.specs.Calls.{handout_number, handout_place, handed_out, report_of}
+use Rattle.section.specs.declared.Refusal.{Refusal}
+use Rattle.carousel_handout.specs.Calls.{Handed, number_of_handed, handout_number, handout_place, handed_out, report_of}
 use Rattle.carousel_handout.proofs.Laws.Calls.{place_part, place_none}
 use Rattle.receiver.specs.declared.Ran.{Ran}
 use Rattle.receiver.specs.Run.{run_of, ran_of, image_ran}
-use Rattle.drift_list.specs.declared.Reading.{Reading}
-use Rattle.drift_list.specs.declared.Reading.TheVariants as reading
+use Rattle.std.proofs.Common.{Ok, Err, is_err}
+use Rattle.wire.proofs.Laws.Tests.{clash}
+use Rattle.wire.proofs.Laws.Outcomes.{refused_by_lem, not_refused}
+use Rattle.drift_list.specs.declared.Heading.{Heading}
 use Rattle.drift_list.specs.Values.{fix_of}
 use Rattle.drift_list.specs.Reading.{issue_of, count_of, fix_at, read_refusal}
-use Rattle.drift_list.specs.Answers.{list_answer}
+use Rattle.drift_list.specs.Answers.{heading_of, list_answer}
+use Rattle.drift_list.proofs.Answers.{list-taken}
 use Rattle.drift_report.specs.Lines.{fix_lines, list_header, list_text}
 use Rattle.drift_report.specs.Page.{lack_text, refused_text, module_text, page_budget, page_text}
 
@@ -36,12 +38,18 @@ module _ (c : Carousel) (number n : ℕ) where
 -- of a module: why it is not handed out, or its list
 module _ (c : Carousel) (image : List ℕ) (number : ℕ) where
   -- the place's number is the hand-out's
-  pub place-number : (h : Handed) → h ≡ handout_place c image number → h.number ≡ handout_number c image number
-  place-number h e = ap (λ (x : Handed). x.number) e ∙ go (eqb (handout_number c image number) 0) refl
+  pub place-number : (h : Handed) → h ≡ handout_place c image number → number_of_handed h ≡ handout_number c image number
+  place-number h e = ap number_of_handed e ∙ go (eqb (handout_number c image number) 0) refl
     where
-      go : (t : Bool) → eqb (handout_number c image number) 0 ≡ t → (handout_place c image number).number ≡ handout_number c image number
-      go true t = ap (λ (x : Handed). x.number) (place_part c number image (eqb-true _ _ t)) ∙ sym (eqb-true _ _ t)
-      go false t = ap (λ (x : Handed). x.number) (place_none c number image (eqb-false _ _ t))
+      go : (t : Bool) → eqb (handout_number c image number) 0 ≡ t → number_of_handed (handout_place c image number) ≡ handout_number c image number
+      go true t = ap number_of_handed (place_part c number image (eqb-true _ _ t)) ∙ sym (eqb-true _ _ t)
+      go false t = ap number_of_handed (place_none c number image (eqb-false _ _ t))
+
+  pub place-refused : (r : Refusal) → Err r ≡ handout_place c image number → r.number ≡ 0 → ⊥
+  place-refused r e z =
+      let p = place_part c number image (sym (place-number (Err r) e) ∙ z) in
+      let f : ◌≡◌ {A = Bool} true false = ap (λ (h : Handed). is_err h) (e ∙ p) in
+      clash true refl f
 
   pub module-refused : (n : ℕ) → n ≡ handout_number c image number → (n ≡ 0 → ⊥) → refused_text c number n ≡ module_text c image number
   unfolding module_text
@@ -56,7 +64,7 @@ module _ (c : Carousel) (image : List ℕ) (number : ℕ) where
       sym (ap (λ (t : Bool). cond t (list_text (handed_out c image number)) (refused_text c number (handout_number c image number)))
       (eq-eqb (handout_number c image number) 0 (sym e ∙ z)))
 
--- of a list: its refusal, or its records. `Reading` is what was answered
+-- of a list: its refusal, or its records
 module _ (s : List ℕ) where
   abbrev refused_line : List ℕ
   refused_line = codes "list," ++ decimal (read_refusal s) ++ codes "\n"
@@ -64,56 +72,32 @@ module _ (s : List ℕ) where
   abbrev record_lines : List ℕ
   record_lines = codes "issue," ++ decimal (issue_of s) ++ codes "\n" ++ list_header ++ fix_lines (count_of s) 0 (λ k. fix_of (fix_at s k))
 
-  -- an answer says which of the two it was
-  abbrev is_issue : Reading → ℕ
-  is_issue (reading.Refused n) = 0
-  is_issue (reading.Issue i n) = 1
-
-  abbrev refusal_in : Reading → ℕ
-  refusal_in (reading.Refused n) = n
-  refusal_in (reading.Issue i n) = 0
-
-  abbrev issue_in : Reading → ℕ
-  issue_in (reading.Refused n) = 0
-  issue_in (reading.Issue i n) = i
-
-  abbrev count_in : Reading → ℕ
-  count_in (reading.Refused n) = 0
-  count_in (reading.Issue i n) = n
-
   -- refused with n
-  pub refusal-told : (n : ℕ) → list_answer s ≡ reading.Refused n → (n ≡ read_refusal s) × (read_refusal s ≡ 0 → ⊥)
+  pub refusal-told : (n : ℕ) → list_answer s ≡ Err n → (n ≡ read_refusal s) × (read_refusal s ≡ 0 → ⊥)
   unfolding list_answer
-  refusal-told n e = go (eqb (read_refusal s) 0) refl e
-    where
-      go : (t : Bool) → eqb (read_refusal s) 0 ≡ t → cond t (reading.Issue (issue_of s) (count_of s)) (reading.Refused (read_refusal s)) ≡ reading.Refused n
-          → (n ≡ read_refusal s) × (read_refusal s ≡ 0 → ⊥)
-      go true t e = let z : ◌≡◌ {A = ℕ} 1 0 = ap is_issue e in absurd (omega arith)
-      go false t e = (sym (ap refusal_in e), eqb-false _ _ t)
+  refusal-told n e = refused_by_lem n (read_refusal s) (heading_of s) (sym e)
 
   -- read
-  pub issue-told : (i n : ℕ) → list_answer s ≡ reading.Issue i n → (read_refusal s ≡ 0) × (i ≡ issue_of s) × (n ≡ count_of s)
+  pub heading-told : (h : Heading) → list_answer s ≡ Ok h → (read_refusal s ≡ 0) × (h ≡ heading_of s)
   unfolding list_answer
-  issue-told i n e = go (eqb (read_refusal s) 0) refl e
-    where
-      go : (t : Bool) → eqb (read_refusal s) 0 ≡ t → cond t (reading.Issue (issue_of s) (count_of s)) (reading.Refused (read_refusal s)) ≡ reading.Issue i n
-          → (read_refusal s ≡ 0) × (i ≡ issue_of s) × (n ≡ count_of s)
-      go true t e = (eqb-true _ _ t, sym (ap issue_in e), sym (ap count_in e))
-      go false t e = let z : ◌≡◌ {A = ℕ} 0 1 = ap is_issue e in absurd (omega arith)
+  heading-told h e =
+      let z = not_refused (read_refusal s) (heading_of s) h (sym e) in
+      let t = list-taken s (read_refusal s) refl z in
+      (z, cc)
 
-  pub list-refused : (n : ℕ) → list_answer s ≡ reading.Refused n → codes "list," ++ decimal n ++ codes "\n" ≡ list_text s
+  pub list-refused : (n : ℕ) → list_answer s ≡ Err n → codes "list," ++ decimal n ++ codes "\n" ≡ list_text s
   unfolding list_text
   list-refused n e =
       let t = refusal-told n e in
       ap (λ (m : ℕ). codes "list," ++ decimal m ++ codes "\n") t.0
       ∙ sym (ap (λ (b : Bool). cond b record_lines refused_line) (ne_eqb (read_refusal s) 0 t.1))
 
-  pub list_read : (i n : ℕ) → list_answer s ≡ reading.Issue i n
-      → codes "issue," ++ decimal i ++ codes "\n" ++ list_header ++ fix_lines n 0 (λ k. fix_of (fix_at s k)) ≡ list_text s
+  pub list_read : (h : Heading) → list_answer s ≡ Ok h
+      → codes "issue," ++ decimal h.issue ++ codes "\n" ++ list_header ++ fix_lines h.count 0 (λ k. fix_of (fix_at s k)) ≡ list_text s
   unfolding list_text
-  list_read i n e =
-      let t = issue-told i n e in
-      ap₂ (λ (j m : ℕ). codes "issue," ++ decimal j ++ codes "\n" ++ list_header ++ fix_lines m 0 (λ k. fix_of (fix_at s k))) t.1 t.2
+  list_read h e =
+      let t = heading-told h e in
+      ap (λ (x : Heading). codes "issue," ++ decimal x.issue ++ codes "\n" ++ list_header ++ fix_lines x.count 0 (λ k. fix_of (fix_at s k))) t.1
       ∙ sym (ap (λ (b : Bool). cond b record_lines refused_line) (eq-eqb (read_refusal s) 0 t.0))
 
 -- of a stretch: what the run left, from what code has in hand

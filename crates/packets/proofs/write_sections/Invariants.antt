@@ -2,8 +2,8 @@
 use Rattle.std.proofs.Common.{◌≡◌, ◌-◌, ◌≤◌, length}
 use Rattle.packets.proofs.write_sections.Given as goal
 
-abbrev pub invariant-loop-at : goal.invariant-loop-at
-invariant-loop-at g l = (length l.out ≡ length l.initial.out) × (l.at ≤ length l.s) × (l.size ≤ length l.out)
+abbrev pub invariant-loop-n : goal.invariant-loop-n
+invariant-loop-n g l = (length l.out ≡ length l.initial.out) × (l.at ≤ length l.s) × (l.size ≤ length l.out)
 
-abbrev pub decreases-loop-at : goal.decreases-loop-at
-decreases-loop-at g l = length l.s - l.at
+abbrev pub decreases-loop-n : goal.decreases-loop-n
+decreases-loop-n g l = length l.s - l.at

@@ -6,19 +6,17 @@ use mathlib.Core.List.{List}
 use lib.Dec.{eqb}
 use Rattle.wire.specs.Fields.{byte_at}
 use Rattle.section.specs.Header.{application_table}
-use Rattle.section.specs.declared.Checked.{Checked}
-use Rattle.section.specs.declared.Checked.TheVariants as checked
 use Rattle.section.specs.Answer.{refused, on_checked}
-use Rattle.ait_read.specs.declared.ReadAnswer.TheVariants as reading
 use Rattle.ait_read.specs.Acceptance.{table_judged}
 use Rattle.ait_read.specs.Answers.{read_table, read_answer}
 use Rattle.carousel_record.specs.declared.Carousel.{Carousel}
-use Rattle.carousel_step.specs.declared.Answer.{Answer}
-use Rattle.carousel_step.specs.declared.Answer.TheVariants as answer
 use Rattle.carousel_step.specs.Step.{stepped_of}
-use Rattle.receiver.specs.declared.Fate.{Fate}
-use Rattle.receiver.specs.declared.Fate.TheVariants as fate
 use Rattle.receiver.specs.Run.{read_fate, table_fate, judged_fate, carousel_fate, given_of}
+use Rattle.std.proofs.Common.{Ok, Err}
+use Rattle.section.specs.Answer.{Checked}
+use Rattle.carousel_step.specs.Step.{Answered as Answer}
+use Rattle.receiver.specs.Run.{Fate}
+use Rattle.receiver.specs.declared.Kind.TheVariants as kind
 
 -- a table's is the reading's, every other's the step's
 module _ (c : Carousel) (s image : List ℕ) where
@@ -35,26 +33,20 @@ pub fate-judged : (s : List ℕ) → judged_fate (table_judged s) ≡ table_fate
 unfolding judged_fate read_fate read_answer
 fate-judged s = go (table_judged s)
   where
-    go : (x : Checked) → judged_fate x ≡ read_fate (on_checked x (λ r. reading.Refused r) (λ h. reading.Accepted (read_table h s)))
-    go (checked.Refused r) = refl
-    go (checked.Accepted h) = refl
+    go : (x : Checked) → judged_fate x ≡ read_fate (on_checked x (λ r. Err r) (λ h. Ok (read_table h s)))
+    go (Err r) = refl
+    go (Ok h) = refl
 
 -- no two answers of the carousel have one fate
 abbrev answer_in : Fate → Answer
-answer_in fate.New = answer.New
-answer_in fate.Same = answer.Same
-answer_in fate.Stored = answer.Stored
-answer_in fate.Repeated = answer.Repeated
-answer_in fate.Table = answer.Refused (refused 0)
-answer_in (fate.Refused r) = answer.Refused r
+answer_in (Ok (kind.Carousel a)) = Ok a
+answer_in (Ok kind.Table) = Err (refused 0)
+answer_in (Err r) = Err r
 
 answer-told : (a : Answer) → answer_in (carousel_fate a) ≡ a
 unfolding carousel_fate
-answer-told answer.New = refl
-answer-told answer.Same = refl
-answer-told answer.Stored = refl
-answer-told answer.Repeated = refl
-answer-told (answer.Refused r) = refl
+answer-told (Ok a) = refl
+answer-told (Err r) = refl
 
 pub fate_tells : (a b : Answer) → carousel_fate a ≡ carousel_fate b → a ≡ b
 fate_tells a b e = sym (answer-told a) ∙ ap answer_in e ∙ answer-told b

@@ -14,9 +14,8 @@ use Rattle.wire.specs.Copies.{same_numbers}
 use Rattle.crc_tables.proofs.Laws.Right.{Bytes}
 use Rattle.section.specs.declared.Rules.TheVariants.{Carousel as Carousels}
 use Rattle.section.specs.declared.Refusal.{Refusal}
-use Rattle.section.specs.Header.{table_of, application_table, is_table}
+use Rattle.section.specs.Header.{application_table, is_table}
 use Rattle.carousel_messages.specs.declared.Block.{Block}
-use Rattle.carousel_messages.specs.declared.Judged.TheVariants as judged
 use Rattle.carousel_messages.specs.Limits.{most_modules}
 use Rattle.carousel_messages.specs.Judged.{judged_of, number_of_judged}
 use Rattle.carousel_messages.specs.Heard.{arrived_in, span_of, sizes_of}
@@ -31,6 +30,8 @@ use Rattle.carousel_step.specs.Step.{StepOutcome, refusing, on_arrived, carousel
 use Rattle.carousel_step.specs.declared.Stepped.{Stepped}
 use Rattle.carousel_step.proofs.Laws.Outcomes.{stepped-is, comes-refused, comes-carried}
 use Rattle.receiver.specs.Run.{given_of, image_given}
+use Rattle.std.proofs.Common.{Ok, Err}
+use Rattle.carousel_messages.specs.declared.Message.TheVariants as judged
 
 -- a record held in its parts: whole, and keeping its rule
 abbrev pub Whole : Head → List Module → (numbers marks : List ℕ) → Type 0
@@ -45,7 +46,7 @@ module _ (c : Carousel) (s image : List ℕ) (ruled : ruled_of c ≡ true) where
   by-step e o p = rw e (ap (λ (x : Stepped). x.state) p.0, p.1)
 
   -- what the carousel refuses changes nothing; a table is refused by it, too
-  pub given-refused : (r : Refusal) → judged_of s ≡ judged.Refused r → ((given_of c s image).state ≡ c) × (image_given c s image ≡ image)
+  pub given-refused : (r : Refusal) → judged_of s ≡ Err r → ((given_of c s image).state ≡ c) × (image_given c s image ≡ image)
   unfolding given_of image_given
   given-refused r e = go (eqb (byte_at s 0) application_table) refl
     where
@@ -54,7 +55,7 @@ module _ (c : Carousel) (s image : List ℕ) (ruled : ruled_of c ≡ true) where
       go false f = by-step f (refusing r) (stepped-is c s image (refusing r) (comes-refused c s image ruled r e))
 
   -- a section of a block is no table
-  no_table : (b : Block) → judged_of s ≡ judged.Carried b → eqb (byte_at s 0) application_table ≡ false
+  no_table : (b : Block) → judged_of s ≡ Ok (judged.Carried b) → eqb (byte_at s 0) application_table ≡ false
   no_table b e = go (eqb (byte_at s 0) application_table) refl
     where
       go : (t : Bool) → eqb (byte_at s 0) application_table ≡ t → t ≡ false
@@ -64,10 +65,10 @@ module _ (c : Carousel) (s image : List ℕ) (ruled : ruled_of c ≡ true) where
           absurd (clash (is_table Carousels application_table) z refl)
       go false f = refl
 
-  pub given-carried : (b : Block) → judged_of s ≡ judged.Carried b → let o = on_arrived (record_of c) image (arrived_in b (span_of s b.start b.size)) in
+  pub given-carried : (b : Block) → judged_of s ≡ Ok (judged.Carried b) → let o = on_arrived (record_of c) image (arrived_in b (span_of s b.part.start b.part.size)) in
       ((given_of c s image).state ≡ carousel_after c o) × (image_given c s image ≡ image_after image o)
   given-carried b e =
-      let o = on_arrived (record_of c) image (arrived_in b (span_of s b.start b.size)) in
+      let o = on_arrived (record_of c) image (arrived_in b (span_of s b.part.start b.part.size)) in
       by-step (no_table b e) o (stepped-is c s image o (comes-carried c s image ruled b e))
 
 -- a record that keeps its rule has all its marks

@@ -16,9 +16,8 @@ use Rattle.section.specs.Header.{application_table, header_of, body_of}
 use Rattle.section.specs.Refusals.{section_tests}
 use Rattle.section.specs.Answer.{Told}
 use Rattle.ait_body.specs.Body.{body_tests}
-use Rattle.ait_read.specs.declared.ReadAnswer.{ReadAnswer}
-use Rattle.ait_read.specs.declared.ReadAnswer.TheVariants as reading
 use Rattle.ait_read.specs.Acceptance.{application_tests}
+use Rattle.ait_read.specs.declared.Table.{Table as Read}
 use Rattle.ait_read.specs.Answers.{read_answer, read_number, number_of_read}
 use Rattle.ait_read.proofs.Laws.Numbers.{read_number_lem}
 use Rattle.ait_read.proofs.Laws.Told.{read_told}
@@ -28,14 +27,11 @@ use Rattle.carousel_messages.specs.Refusals.{message_tests}
 use Rattle.carousel_messages.specs.Judged.{carousel_table_in, carousel_tests}
 use Rattle.carousel_messages.specs.Heard.{Heard, refusal, announced, arrived, heard_of}
 use Rattle.carousel_record.specs.declared.Carousel.{Carousel}
-use Rattle.carousel_step.specs.declared.Answer.{Answer}
-use Rattle.carousel_step.specs.declared.Answer.TheVariants as answer
 use Rattle.carousel_record.specs.Record.{Record, record_of, ruled_of}
 use Rattle.carousel_step.specs.Step.{heard_tests, step_tests, number_of_answer, stepped_of, image_of}
 use Rattle.carousel_step.proofs.Exact.{step-number}
 use Rattle.carousel_step.proofs.Told.{step-told}
 use Rattle.carousel_step.proofs.Steps.{refusal_changes-nothing}
-use Rattle.receiver.specs.declared.Fate.TheVariants as fate
 use Rattle.receiver.specs.declared.Given.{Given}
 use Rattle.receiver.specs.declared.Stop.TheVariants as stop
 use Rattle.receiver.specs.Run.{read_fate, table_fate, carousel_fate, given_of, image_given, run_of, halted}
@@ -43,6 +39,8 @@ use Rattle.receiver.specs.Run.{number_of_fate, rules_of}
 use Rattle.receiver.proofs.Laws.Runs.{run-state}
 use Rattle.receiver.proofs.Laws.Takes.{given-number}
 use Rattle.receiver.proofs.Laws.Fates.{fate-table, fate-other, fate_tells}
+use Rattle.std.proofs.Common.{Result, Ok, Err}
+use Rattle.carousel_step.specs.Step.{Answered as Answer}
 
 -- the tables have no other numbers
 abbrev Most : ℕ → Tests → Type 0
@@ -95,17 +93,17 @@ take-known c s image = rw (given-number c s image) (go (eqb (byte_at s 0) applic
     go true = rw (← read_number_lem s) (table-known s)
     go false = let k : first_met (step_tests c s image) ≤ 17 = rw (← step-number c s image) (step-known c s image) in omega arith
 
-refused-by : (a : Answer) (r : Refusal) → carousel_fate a ≡ fate.Refused r → a ≡ answer.Refused r
+refused-by : (a : Answer) (r : Refusal) → carousel_fate a ≡ Err r → a ≡ Err r
 unfolding carousel_fate
-refused-by a r e = fate_tells a (answer.Refused r) e
+refused-by a r e = fate_tells a (Err r) e
 
-read-refused : (a : ReadAnswer) (r : Refusal) → read_fate a ≡ fate.Refused r → a ≡ reading.Refused r
+read-refused : (a : Result Read Refusal) (r : Refusal) → read_fate a ≡ Err r → a ≡ Err r
 unfolding read_fate
-read-refused (reading.Refused n) r e = let q : n ≡ r = cc in ap reading.Refused q
-read-refused (reading.Accepted t) r e = let w : ◌≡◌ {A = ℕ} 0 1 = cc in absurd (omega arith)
+read-refused (Err n) r e = let q : n ≡ r = cc in ap Err q
+read-refused (Ok t) r e = let w : ◌≡◌ {A = ℕ} 0 1 = cc in absurd (omega arith)
 
 -- AND A REFUSAL IS ITS NUMBER, NOT 0, AND ITS PLACE: of whatever section is taken as of a table and of the step
-pub take-told : (c : Carousel) (s image : List ℕ) (r : Refusal) → (given_of c s image).fate ≡ fate.Refused r → Told (rules_of s) s r
+pub take-told : (c : Carousel) (s image : List ℕ) (r : Refusal) → (given_of c s image).fate ≡ Err r → Told (rules_of s) s r
 take-told c s image r e = go (eqb (byte_at s 0) application_table) refl
   where
     go : (t : Bool) → eqb (byte_at s 0) application_table ≡ t → Told (cond t Application Carousels) s r
@@ -114,15 +112,15 @@ take-told c s image r e = go (eqb (byte_at s 0) application_table) refl
 
 module _ (c : Carousel) (s image : List ℕ) where
   -- a refusal changes neither record nor image, of any record and image: the step's, and the receiver's
-  pub step-refused : (r : Refusal) → (stepped_of c s image).answer ≡ answer.Refused r → ((stepped_of c s image).state ≡ c) × (image_of c s image ≡ image)
+  pub step-refused : (r : Refusal) → (stepped_of c s image).answer ≡ Err r → ((stepped_of c s image).state ≡ c) × (image_of c s image ≡ image)
   step-refused r e = refusal_changes-nothing c s image r e
 
-  pub take-refused : (r : Refusal) → (given_of c s image).fate ≡ fate.Refused r → ((given_of c s image).state ≡ c) × (image_given c s image ≡ image)
+  pub take-refused : (r : Refusal) → (given_of c s image).fate ≡ Err r → ((given_of c s image).state ≡ c) × (image_given c s image ≡ image)
   unfolding given_of image_given
   take-refused r = go (eqb (byte_at s 0) application_table)
     where
       go : (t : Bool) → (cond {A = Given} t (record { fate = table_fate s; state = c })
-          (record { fate = carousel_fate (stepped_of c s image).answer; state = (stepped_of c s image).state })).fate ≡ fate.Refused r
+          (record { fate = carousel_fate (stepped_of c s image).answer; state = (stepped_of c s image).state })).fate ≡ Err r
           → ((cond {A = Given} t (record { fate = table_fate s; state = c }) (record { fate = carousel_fate (stepped_of c s image).answer; state = (stepped_of c s image).state })).state ≡ c)
           × (cond t image (image_of c s image) ≡ image)
       go true e = (refl, refl)

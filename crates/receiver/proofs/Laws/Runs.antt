@@ -4,18 +4,18 @@ use mathlib.Core.Path.{◌≡◌, refl, sym, ap, ap₂, ◌∙◌}
 use mathlib.Core.Bool.{true, false}
 use mathlib.Core.List.{List}
 use native.Mathlib.Omega.{arith}
-use lib.ListN.{length, take, drop}
+use lib.ListN.{take, drop}
 use lib.Seq.{drop-drop}
 use borrow.Author.Tests.{eq-eqb, ne_eqb}
 use Rattle.carousel_record.specs.declared.Carousel.{Carousel}
 use Rattle.carousel_record.specs.Record.{ruled_of}
 use Rattle.receiver.specs.declared.Stop.{Stop}
 use Rattle.receiver.specs.declared.Stop.TheVariants as stop
-use Rattle.receiver.specs.declared.What.TheVariants as what
 use Rattle.receiver.specs.declared.Given.{Given}
 use Rattle.receiver.specs.declared.Took.{Took}
 use Rattle.section.specs.Whole.{whole_at}
 use Rattle.receiver.specs.Run.{stop_at, given_of, image_given, stopped_by, took_of, image_took, RunOutcome, halted, run_after, runs, run_of, ran_of, image_ran}
+use Rattle.std.proofs.Common.{Ok}
 
 module _ (c : Carousel) (s image : List ℕ) (budget : ℕ) where
   pub took-state : ruled_of c ≡ false → (took_of c s image budget ≡ stopped_by c stop.State) × (image_took c s image budget ≡ image)
@@ -34,7 +34,7 @@ module _ (c : Carousel) (s image : List ℕ) (budget : ℕ) where
 
       pub took_one_lem : (budget ≡ 0 → ⊥)
           → (took_of c s image budget ≡ record {
-            what = what.Taken (record { length = whole_at s; fate = (given_of c (take (whole_at s) s) image).fate });
+            what = Ok (record { length = whole_at s; fate = (given_of c (take (whole_at s) s) image).fate });
             state = (given_of c (take (whole_at s) s) image).state;
           })
           × (image_took c s image budget ≡ image_given c (take (whole_at s) s) image)
@@ -96,8 +96,8 @@ turn stretch image d t p b n e z l =
 
 -- what was taken, from what code has in hand
 pub taken_is : (c : Carousel) (s image : List ℕ) (n w : ℕ) (g : Given) (x : Took) → n ≡ w → g ≡ given_of c (take n s) image
-    → x ≡ record { what = what.Taken (record { length = w; fate = (given_of c (take w s) image).fate }); state = (given_of c (take w s) image).state }
-    → record { what = what.Taken (record { length = n; fate = g.fate }); state = g.state } ≡ x
+    → x ≡ record { what = Ok (record { length = w; fate = (given_of c (take w s) image).fate }); state = (given_of c (take w s) image).state }
+    → record { what = Ok (record { length = n; fate = g.fate }); state = g.state } ≡ x
 taken_is c s image n w g x e f h = rw (f, e) (sym h)
 
 -- what a run answers, from what it comes to

@@ -11,13 +11,11 @@ use Rattle.wire.specs.Fields.{byte_at}
 use Rattle.wire.specs.Tests.{first_met}
 use Rattle.wire.proofs.Laws.Tests.{clash}
 use Rattle.section.specs.Header.{application_table}
-use Rattle.ait_read.specs.declared.ReadAnswer.{ReadAnswer}
-use Rattle.ait_read.specs.declared.ReadAnswer.TheVariants as reading
+use Rattle.section.specs.declared.Refusal.{Refusal}
+use Rattle.ait_read.specs.declared.Table.{Table as Read}
 use Rattle.ait_read.specs.Answers.{read_answer, number_of_read, read_number}
 use Rattle.ait_read.proofs.Laws.Numbers.{read_number_lem}
 use Rattle.carousel_record.specs.declared.Carousel.{Carousel}
-use Rattle.carousel_step.specs.declared.Answer.{Answer}
-use Rattle.carousel_step.specs.declared.Answer.TheVariants as answer
 use Rattle.carousel_record.specs.Record.{ruled_of}
 use Rattle.carousel_step.specs.Step.{stepped_of, step_tests}
 use Rattle.carousel_step.specs.Step.{number_of_answer}
@@ -25,8 +23,6 @@ use Rattle.carousel_step.proofs.Exact.{step-number}
 use Rattle.receiver.specs.declared.Stop.{Stop}
 use Rattle.receiver.specs.declared.Stop.TheVariants as stop
 use Rattle.receiver.specs.declared.Section.{Section}
-use Rattle.receiver.specs.declared.What.{What}
-use Rattle.receiver.specs.declared.What.TheVariants as what
 use Rattle.receiver.specs.declared.Given.{Given}
 use Rattle.receiver.specs.declared.Took.{Took}
 use Rattle.section.proofs.Laws.Whole.{whole-fits}
@@ -35,20 +31,24 @@ use Rattle.receiver.proofs.Runs.{given_rule}
 use Rattle.section.specs.Whole.{whole_at}
 use Rattle.receiver.specs.Run.{stop_at, read_fate, table_fate, carousel_fate, given_of, image_given, number_of_fate, given_number, stopped_by}
 use Rattle.receiver.specs.Run.{took_of, image_took, number_took, took_number, halted, run_after, runs, fates_of}
+use Rattle.std.proofs.Common.{Result, Ok, Err}
+use Rattle.carousel_step.specs.Step.{Answered as Answer}
+use Rattle.receiver.specs.Run.{What}
+use Rattle.carousel_step.specs.declared.Answer.TheVariants as answer
 
 -- THE NUMBER OF ONE SECTION is that of the paper's table, whichever rules it goes by
-read_fate_lem : (a : ReadAnswer) → number_of_fate (read_fate a) ≡ number_of_read a
+read_fate_lem : (a : Result Read Refusal) → number_of_fate (read_fate a) ≡ number_of_read a
 unfolding read_fate
-read_fate_lem (reading.Refused r) = refl
-read_fate_lem (reading.Accepted t) = refl
+read_fate_lem (Err r) = refl
+read_fate_lem (Ok t) = refl
 
 pub carousel_fate_lem : (a : Answer) → number_of_fate (carousel_fate a) ≡ number_of_answer a
 unfolding carousel_fate
-carousel_fate_lem answer.New = refl
-carousel_fate_lem answer.Same = refl
-carousel_fate_lem answer.Stored = refl
-carousel_fate_lem answer.Repeated = refl
-carousel_fate_lem (answer.Refused r) = refl
+carousel_fate_lem (Ok answer.New) = refl
+carousel_fate_lem (Ok answer.Same) = refl
+carousel_fate_lem (Ok answer.Stored) = refl
+carousel_fate_lem (Ok answer.Repeated) = refl
+carousel_fate_lem (Err r) = refl
 
 pub given-number : (c : Carousel) (s image : List ℕ) → number_of_fate (given_of c s image).fate ≡ given_number c s image
 unfolding given_of
@@ -66,7 +66,7 @@ took_number_lem c s image budget = go (ruled_of c) (eqb (whole_at s) 0 || eqb bu
   where
     go : (r t : Bool) → number_took (cond {A = Took} r
         (cond t (stopped_by c (stop_at s)) (record {
-          what = what.Taken (record { length = whole_at s; fate = (given_of c (take (whole_at s) s) image).fate });
+          what = Ok (record { length = whole_at s; fate = (given_of c (take (whole_at s) s) image).fate });
           state = (given_of c (take (whole_at s) s) image).state;
         }))
         (stopped_by c stop.State)).what ≡ cond r (cond t 0 (given_number c (take (whole_at s) s) image)) 0
@@ -105,16 +105,16 @@ took-none c s image r = go (eqb (whole_at s) 0) refl
 
 -- a stop is no section; and what is in each
 abbrev stop_in : What → Stop
-stop_in (what.Stopped x) = x
-stop_in (what.Taken x) = stop.End
+stop_in (Err x) = x
+stop_in (Ok x) = stop.End
 
 abbrev section_in : Section → What → Section
-section_in d (what.Taken x) = x
-section_in d (what.Stopped x) = d
+section_in d (Ok x) = x
+section_in d (Err x) = d
 
 abbrev is_taken : What → Bool
-is_taken (what.Taken x) = true
-is_taken (what.Stopped x) = false
+is_taken (Ok x) = true
+is_taken (Err x) = false
 
 -- THE RUN FROM THE ANSWERS OF `take`, for a record that keeps its rule
 module _ (c : Carousel) (s image : List ℕ) (r : ruled_of c ≡ true) where
@@ -123,10 +123,10 @@ module _ (c : Carousel) (s image : List ℕ) (r : ruled_of c ≡ true) where
   Ends budget x = (fates_of budget c s image ≡ []) × (runs budget c s image ≡ halted c image x) × (image_took c s image budget ≡ image)
 
   halts : (budget : ℕ) (x : Stop) → (took_of c s image budget ≡ stopped_by c (stop_at s)) × (image_took c s image budget ≡ image) → fates_of budget c s image ≡ []
-      → runs budget c s image ≡ halted c image (stop_at s) → (took_of c s image budget).what ≡ what.Stopped x → Ends budget x
+      → runs budget c s image ≡ halted c image (stop_at s) → (took_of c s image budget).what ≡ Err x → Ends budget x
   halts budget x p f g e = (f, g ∙ ap (halted c image) (ap (λ (y : Took). stop_in y.what) (sym p.0) ∙ ap stop_in e), p.1)
 
-  pub ends : (budget : ℕ) (x : Stop) → (took_of c s image budget).what ≡ what.Stopped x → Ends budget x
+  pub ends : (budget : ℕ) (x : Stop) → (took_of c s image budget).what ≡ Err x → Ends budget x
   ends zero x e = halts zero x (took-none c s image r) (fates-none c s image) (runs_done zero c s image refl) e
   ends (suc k) x e = go (eqb (whole_at s) 0) refl
     where
@@ -143,7 +143,7 @@ module _ (c : Carousel) (s image : List ℕ) (r : ruled_of c ≡ true) where
       × (fates_of budget c s image ≡ x.fate ∷ fates_of (budget - 1) d (drop x.length s) l)
       × (runs budget c s image ≡ run_after x.length (runs (budget - 1) d (drop x.length s) l))
 
-  pub goes_on : (budget : ℕ) (x : Section) → (took_of c s image budget).what ≡ what.Taken x → GoesOn budget x (took_of c s image budget).state (image_took c s image budget)
+  pub goes_on : (budget : ℕ) (x : Section) → (took_of c s image budget).what ≡ Ok x → GoesOn budget x (took_of c s image budget).state (image_took c s image budget)
   goes_on zero x e = let p = took-none c s image r in absurd (clash (is_taken (took_of c s image 0).what) (ap is_taken e) (ap (λ (y : Took). is_taken y.what) p.0))
   goes_on (suc k) x e = go (eqb (whole_at s) 0) refl
     where

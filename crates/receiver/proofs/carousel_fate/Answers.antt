@@ -1,24 +1,15 @@
--- `receiver::carousel_fate` meets its contract, case by case.
+-- `receiver::carousel_fate` meets its contract.
+use Rattle.std.proofs.Common.{rules, Err}
+use mathlib.Core.Path.{◌≡◌, sym, ap, ◌∙◌}
 use Rattle.receiver.specs.Run.{carousel_fate}
-use borrow.Author.Rules.{rules}
 use Rattle.receiver.proofs.carousel_fate.Goals as goal
 
-pub returns-in-New : goal.returns-in-New
+pub returns-in_err-a : goal.returns-in_err-a
 unfolding carousel_fate
-returns-in-New c = rw c.in-New.is
+returns-in_err-a c =
+    let r : c.from_residual.result ≡ Err c.in_err-a.field-0.0 = search rules in
+    r ∙ sym (ap carousel_fate c.in_err-a.was)
 
-pub returns-in-Same : goal.returns-in-Same
+pub returns : goal.returns
 unfolding carousel_fate
-returns-in-Same c = rw c.in-Same.is
-
-pub returns-in-Stored : goal.returns-in-Stored
-unfolding carousel_fate
-returns-in-Stored c = rw c.in-Stored.is
-
-pub returns-in-Repeated : goal.returns-in-Repeated
-unfolding carousel_fate
-returns-in-Repeated c = rw c.in-Repeated.is
-
-pub returns-in-Refused : goal.returns-in-Refused
-unfolding carousel_fate
-returns-in-Refused c = rw c.in-Refused.is
+returns c = sym (ap carousel_fate c.in_ok-a.was)

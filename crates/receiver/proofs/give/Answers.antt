@@ -3,13 +3,12 @@ use Prim.Native.Nat.{ℕ}
 use mathlib.Core.Path.{◌≡◌, refl, sym, ap, ◌∙◌}
 use borrow.Author.Tests.{eq-eqb, ne_eqb}
 use Rattle.carousel_step.specs.declared.Stepped.{Stepped}
-use Rattle.receiver.specs.declared.Fate.{Fate}
 use Rattle.receiver.specs.declared.Given.{Given}
 use Rattle.receiver.specs.Run.{judged_fate, carousel_fate, given_of, image_given}
 use Rattle.ait_read.specs.Acceptance.{table_judged_by}
 use Rattle.receiver.proofs.Laws.Fates.{fate-judged}
-use borrow.Author.Rules.{rules}
 use Rattle.receiver.proofs.give.Goals as goal
+use Rattle.receiver.specs.Run.{Fate}
 
 stepped : (f : Fate) (r t : Stepped) → f ≡ carousel_fate r.answer → r ≡ t
     → ◌≡◌ {A = Given} (record { fate = f; state = r.state }) (record { fate = carousel_fate t.answer; state = t.state })
@@ -27,4 +26,4 @@ unfolding given_of image_given
 returns c =
     let e = ne_eqb _ 0x74 (λ f. c.if-table-eq-APPLICATION_TABLE.false (c.byte_at-table.ensures.0 ∙ f)) in
     let p = c.step-st.ensures in
-    rw e (stepped _ _ _ c.carousel_fate-fate.ensures p.0, p.1)
+    rw e (stepped _ _ _ c.carousel_fate.ensures p.0, p.1)

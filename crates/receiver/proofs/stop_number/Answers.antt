@@ -1,6 +1,5 @@
 -- `stop_number` meets its contract, case by case.
 use Rattle.receiver.specs.Kinds.{stop_number}
-use borrow.Author.Rules.{rules}
 use Rattle.receiver.proofs.stop_number.Goals as goal
 
 pub returns-in-End : goal.returns-in-End

@@ -1,13 +1,15 @@
--- `receiver::table_fate` meets its contract, case by case.
-use mathlib.Core.Path.{sym, ◌∙◌}
+-- `receiver::table_fate` meets its contract.
+use Rattle.std.proofs.Common.{rules, Err}
+use mathlib.Core.Path.{◌≡◌, sym, ap, ◌∙◌}
 use Rattle.receiver.specs.Run.{judged_fate}
-use borrow.Author.Rules.{rules}
 use Rattle.receiver.proofs.table_fate.Goals as goal
 
-pub returns-in-Refused : goal.returns-in-Refused
+pub returns-in_err-judge_by : goal.returns-in_err-judge_by
 unfolding judged_fate
-returns-in-Refused c = rw (sym c.judge_by-judged.ensures ∙ c.in-Refused.is)
+returns-in_err-judge_by c =
+    let r : c.from_residual.result ≡ Err c.in_err-judge_by.field-0.0 = search rules in
+    r ∙ sym (ap judged_fate (sym c.judge_by.ensures ∙ c.in_err-judge_by.was))
 
-pub returns-in-Accepted : goal.returns-in-Accepted
+pub returns : goal.returns
 unfolding judged_fate
-returns-in-Accepted c = rw (sym c.judge_by-judged.ensures ∙ c.in-Accepted.is)
+returns c = sym (ap judged_fate (sym c.judge_by.ensures ∙ c.in_ok-judge_by.was))

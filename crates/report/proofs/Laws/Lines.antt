@@ -11,14 +11,14 @@ use Rattle.carousel_record.specs.Record.{ruled_of}
 use Rattle.carousel_record.specs.Changes.{empty_record}
 use Rattle.carousel_step.proofs.Simulation.{empty-ruled}
 use Rattle.receiver.specs.declared.Stop.{Stop}
-use Rattle.receiver.specs.declared.Fate.{Fate}
 use Rattle.receiver.specs.declared.Section.{Section}
 use Rattle.receiver.specs.declared.Took.{Took}
-use Rattle.receiver.specs.declared.What.TheVariants as what
 use Rattle.receiver.specs.Run.{took_of, image_took, image_ran, runs, fates_of, RunOutcome}
 use Rattle.receiver.proofs.Laws.Runs.{run-ruled}
 use Rattle.receiver.proofs.Laws.Takes.{ends, goes_on}
 use Rattle.report.specs.Report.{header, line_of, lines_from, last_line, budget, printed}
+use Rattle.std.proofs.Common.{Ok, Err}
+use Rattle.receiver.specs.Run.{Fate}
 
 -- the lines of what is taken from here on, the first of them with this index, and the stop's
 abbrev pub text_from : (budget index : ℕ) → Carousel → (s image : List ℕ) → List ℕ
@@ -34,7 +34,7 @@ more-lines index f fs = refl
 
 module _ (c : Carousel) (s image : List ℕ) (r : ruled_of c ≡ true) (budget index : ℕ) where
   -- where `take` stops, the stop's line is left
-  pub text-ends : (x : Stop) → (took_of c s image budget).what ≡ what.Stopped x
+  pub text-ends : (x : Stop) → (took_of c s image budget).what ≡ Err x
       → (text_from budget index c s image ≡ last_line x) × ((runs budget c s image).image ≡ image) × (image_took c s image budget ≡ image)
   text-ends x e =
       let p = ends c s image r budget x e in (
@@ -44,7 +44,7 @@ module _ (c : Carousel) (s image : List ℕ) (r : ruled_of c ≡ true) (budget i
       )
 
   -- where it takes a section, that section's line and then the text behind it
-  pub text-goes-on : (x : Section) → (took_of c s image budget).what ≡ what.Taken x → let d = (took_of c s image budget).state in let l = image_took c s image budget in
+  pub text-goes-on : (x : Section) → (took_of c s image budget).what ≡ Ok x → let d = (took_of c s image budget).state in let l = image_took c s image budget in
       (text_from budget index c s image ≡ line_of index x.fate ++ text_from (budget - 1) (suc index) d (drop x.length s) l)
       × ((runs budget c s image).image ≡ (runs (budget - 1) d (drop x.length s) l).image)
   text-goes-on x e =
@@ -67,7 +67,7 @@ Turned stretch image c i p x d l =
     × ((runs (budget - i) c (drop p stretch) image).image ≡ (runs (budget - (i + 1)) d (drop (p + x.length) stretch) l).image)
 
 pub turned : (stretch image : List ℕ) (c : Carousel) (i p : ℕ) (x : Section) (t : Took) (l : List ℕ) → ruled_of c ≡ true → p ≤ length stretch
-    → t ≡ took_of c (drop p stretch) image (budget - i) → l ≡ image_took c (drop p stretch) image (budget - i) → t.what ≡ what.Taken x → Turned stretch image c i p x t.state l
+    → t ≡ took_of c (drop p stretch) image (budget - i) → l ≡ image_took c (drop p stretch) image (budget - i) → t.what ≡ Ok x → Turned stretch image c i p x t.state l
 turned stretch image c i p x t l r h e f w =
     let s = drop p stretch in
     let b = budget - i in

@@ -6,7 +6,6 @@ use Rattle.receiver.specs.Run.{number_of_fate, place_of_fate}
 use Rattle.report.specs.Report.{kind_name, place_field}
 use Rattle.text.proofs.Laws.Written.{first, then, then_as}
 use Rattle.report.proofs.Laws.Names.{kind-word}
-use borrow.Author.Rules.{rules}
 use Rattle.report.proofs.put_line.Goals as goal
 
 pub returns : goal.returns

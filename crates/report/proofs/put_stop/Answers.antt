@@ -6,7 +6,6 @@ use Rattle.text.specs.Text.{codes, word_at}
 use Rattle.text.proofs.Laws.Puts.{puts_then, puts-same}
 use Rattle.report.specs.Report.{stop_name}
 use Rattle.report.proofs.Laws.Names.{stop-word}
-use borrow.Author.Rules.{rules}
 use Rattle.report.proofs.put_stop.Goals as goal
 
 pub returns : goal.returns

@@ -1,20 +1,13 @@
 -- `write_report` meets its contract. The invariant: what is still to be put, put from here on, leaves what the whole text leaves.
-use Prim.Native.Nat.{ℕ, ◌+◌, ◌-◌, ◌≤◌}
-use mathlib.Core.Path.{◌≡◌, refl, sym, ap, ◌∙◌}
+use Prim.Native.Nat.{◌-◌, ◌≤◌}
+use mathlib.Core.Path.{◌≡◌}
 use mathlib.Core.Bool.{true}
-use mathlib.Core.List.{List, ◌++◌}
-use native.Mathlib.Omega.{arith}
-use native.Mathlib.Nat.{lt_of_le_of_lt}
-use lib.ListN.{length, take, drop}
-use Rattle.wire.proofs.Laws.Loops.{tail}
+use lib.ListN.{length, drop}
 use Rattle.carousel_record.specs.Record.{ruled_of}
-use Rattle.carousel_step.proofs.Simulation.{empty-ruled}
-use Rattle.receiver.specs.declared.Took.{Took}
-use Rattle.receiver.specs.declared.What.TheVariants as what
-use Rattle.receiver.specs.Run.{took_of, image_took, runs}
-use Rattle.text.proofs.Laws.Puts.{puts_then, puts-same, Writing, writing-on, writing-ends}
-use Rattle.report.specs.Report.{budget, header, line_of, printed}
-use Rattle.report.proofs.Laws.Lines.{text_from, printed-is, image-is, text-ends, Turned, turned}
+use Rattle.receiver.specs.Run.{runs}
+use Rattle.text.proofs.Laws.Puts.{Writing}
+use Rattle.report.specs.Report.{budget}
+use Rattle.report.proofs.Laws.Lines.{text_from}
 use Rattle.report.proofs.write_report.Given as goal
 
 abbrev pub invariant-loop-stop : goal.invariant-loop-stop

@@ -5,6 +5,7 @@ use mathlib.Core.Logic.{◌↔◌}
 use mathlib.Core.Bool.{Bool, true, false, cond, or-false}
 use mathlib.Core.List.{List}
 use native.Mathlib.Omega.{arith}
+use Rattle.std.proofs.Common.{Ok, Err}
 use lib.Dec.{ltb, eqb, lit<, lit≤}
 use lib.ListN.{length, take, drop}
 use borrow.Author.Tests.{ltb-false, eqb-true, eqb-false, eq-eqb, ne_eqb, not-false}
@@ -13,13 +14,11 @@ use Rattle.wire.proofs.Laws.Tests.{neither, lowest_met, none_met, met-within}
 use Rattle.wire.proofs.Laws.Fields.{bits_lt}
 use Rattle.section.specs.Crc.{crc_of}
 use Rattle.section.specs.Header.{syntax_of, current_of, section_of, last_of, header_of, body_of}
-use Rattle.section.specs.Refusals.{meets2, meets3, misframed, meets4, meets5, meets6, tests_by, refusal_by, section_tests, refusal_of, spot_of, GoodSection}
+use Rattle.section.specs.Refusals.{meets2, meets3, misframed, meets4, meets5, meets6, tests_by, refusal_by, section_tests, refusal_of, spot_of, GoodSection, Spot}
 use Rattle.section.specs.Answer.{number_of_checked, refused_by, checked_by, checked_of}
 use Rattle.section.specs.declared.Rules.{Rules}
-use Rattle.section.specs.declared.Spot.{Spot}
 use Rattle.section.specs.declared.Refusal.{Refusal}
 use Rattle.section.specs.declared.Header.{Header}
-use Rattle.section.specs.declared.Checked.TheVariants.{Refused, Accepted}
 use Rattle.section.proofs.Laws.Refusals.{past2, sized_has, past3, frame_right, framed_has, past4, past5, past6, is0}
 
 -- Whatever register g is handed in.
@@ -38,24 +37,24 @@ module _ (g : ℕ) (rules : Rules) (s : List ℕ) where
   unfolding checked_by
   number_by = go (eqb (refusal_by g rules s) 0) refl
     where
-      go : (b : Bool) → eqb (refusal_by g rules s) 0 ≡ b → number_of_checked (cond b (Accepted (header_of s)) (Refused (refused_by rules s (refusal_by g rules s)))) ≡ refusal_by g rules s
+      go : (b : Bool) → eqb (refusal_by g rules s) 0 ≡ b → number_of_checked (cond b (Ok (header_of s)) (Err (refused_by rules s (refusal_by g rules s)))) ≡ refusal_by g rules s
       go true e = sym (eqb-true _ _ e)
       go false e = refl
 
   -- what the code answers from the number
-  pub refused-by : (refusal_by g rules s ≡ 0 → ⊥) → checked_by g rules s ≡ Refused (refused_by rules s (refusal_by g rules s))
+  pub refused-by : (refusal_by g rules s ≡ 0 → ⊥) → checked_by g rules s ≡ Err (refused_by rules s (refusal_by g rules s))
   unfolding checked_by
   refused-by n = rw (ne_eqb _ _ n)
 
-  pub refused_as : (n : ℕ) (p : Spot) → n ≡ refusal_by g rules s → p ≡ spot_of rules s n → (n ≡ 0 → ⊥) → Refused (record { number = n; place = p }) ≡ checked_by g rules s
+  pub refused_as : (n : ℕ) (p : Spot) → n ≡ refusal_by g rules s → p ≡ spot_of rules s n → (n ≡ 0 → ⊥) → Err (record { number = n; place = p }) ≡ checked_by g rules s
   refused_as n p e f z = rw (f, e) (sym (refused-by (λ y. z (e ∙ y))))
 
-  pub accepted-by : refusal_by g rules s ≡ 0 → checked_by g rules s ≡ Accepted (header_of s)
+  pub accepted-by : refusal_by g rules s ≡ 0 → checked_by g rules s ≡ Ok (header_of s)
   unfolding checked_by
   accepted-by e = rw (eq-eqb _ _ e)
 
   -- an accepted section has its header and its CRC: 12 bytes at least
-  pub accepted-long : (h : Header) → checked_by g rules s ≡ Accepted h → 12 ≤ length s
+  pub accepted-long : (h : Header) → checked_by g rules s ≡ Ok h → 12 ≤ length s
   unfolding refusal_by meets4
   accepted-long h e =
       let z : refusal_by g rules s ≡ 0 = sym number_by ∙ ap number_of_checked e in
@@ -120,14 +119,14 @@ module _ (rules : Rules) (s : List ℕ) where
           (past6 s (λ e. omega (arith, g.current))))
 
   -- what a caller reads off the answer
-  pub refused-with : (refusal_of rules s ≡ 0 → ⊥) → checked_of rules s ≡ Refused (refused_by rules s (refusal_of rules s))
+  pub refused-with : (refusal_of rules s ≡ 0 → ⊥) → checked_of rules s ≡ Err (refused_by rules s (refusal_of rules s))
   refused-with = refused-by (crc_of s) rules s
 
-  pub accepted-with : refusal_of rules s ≡ 0 → checked_of rules s ≡ Accepted (header_of s)
+  pub accepted-with : refusal_of rules s ≡ 0 → checked_of rules s ≡ Ok (header_of s)
   accepted-with = accepted-by (crc_of s) rules s
 
   -- an accepted section is a good one, its header is the section's, and it has its header and its CRC: 12 bytes at least
-  pub accepted_has : (h : Header) → checked_of rules s ≡ Accepted h → (h ≡ header_of s) × (refusal_of rules s ≡ 0) × GoodSection rules s × (12 ≤ length s)
+  pub accepted_has : (h : Header) → checked_of rules s ≡ Ok h → (h ≡ header_of s) × (refusal_of rules s ≡ 0) × GoodSection rules s × (12 ≤ length s)
   accepted_has h e =
       let z : refusal_of rules s ≡ 0 = sym number_is ∙ ap number_of_checked e in
       let a = accepted-with z in
@@ -135,7 +134,7 @@ module _ (rules : Rules) (s : List ℕ) where
       (cc, z, g, omega (arith, g.exact, g.least))
 
   -- a refusal is the table's, one of 2 to 6
-  pub refused_has : (r : Refusal) → checked_of rules s ≡ Refused r → (r ≡ refused_by rules s (refusal_of rules s)) × (2 ≤ refusal_of rules s) × (refusal_of rules s ≤ 6)
+  pub refused_has : (r : Refusal) → checked_of rules s ≡ Err r → (r ≡ refused_by rules s (refusal_of rules s)) × (2 ≤ refusal_of rules s) × (refusal_of rules s ≤ 6)
   unfolding refusal_by
   refused_has r e =
       let n : refusal_of rules s ≡ 0 → ⊥ = λ z. (let a = accepted-with z in let f : ◌≡◌ {A = ℕ} 0 1 = cc in omega arith) in
@@ -143,7 +142,7 @@ module _ (rules : Rules) (s : List ℕ) where
       let w = met-within 2 6 (section_tests rules s) ((lit≤ tt, lit≤ tt, (lit≤ tt, lit≤ tt, (lit≤ tt, lit≤ tt, (lit≤ tt, lit≤ tt, (lit≤ tt, lit≤ tt, tt)))))) n in
       (cc, w.0, w.1)
 
-  pub accepted-exactly : (checked_of rules s ≡ Accepted (header_of s)) ↔ GoodSection rules s
+  pub accepted-exactly : (checked_of rules s ≡ Ok (header_of s)) ↔ GoodSection rules s
   accepted-exactly = (λ e. (accepted_has (header_of s) e).2, λ g. accepted-with (good-exactly.1 g))
 
 -- the body as code cuts it out of the section

@@ -5,6 +5,7 @@ use mathlib.Core.Logic.{◌↔◌}
 use mathlib.Core.Bool.{Bool, true, false, cond, ◌||◌}
 use mathlib.Core.List.{List}
 use native.Mathlib.Omega.{arith}
+use Rattle.std.proofs.Common.{Some, None, Err}
 use lib.ListN.{length, drop, length-drop}
 use lib.Seq.{length-take-le}
 use borrow.Author.Tests.{ltb-true, ltb-false, eqb-true, ne_eqb}
@@ -15,19 +16,16 @@ use Rattle.wire.proofs.Laws.Tests.{neither, clash, lowest_met}
 use Rattle.wire.proofs.Laws.Fields.{bits_lt}
 use Rattle.section.specs.Crc.{crc_of}
 use Rattle.section.specs.Header.{syntax_of, length_of, limit_of, body_of}
-use Rattle.section.specs.Refusals.{misframed, meets4, tests_by, refusal_by, refusal_of, spot_of, Placed}
+use Rattle.section.specs.Refusals.{misframed, meets4, tests_by, refusal_by, refusal_of, spot_of, Placed, Spot}
 use Rattle.section.specs.Answer.{refused, Told, checked_of}
 use Rattle.section.specs.declared.Rules.{Rules}
-use Rattle.section.specs.declared.Spot.{Spot}
-use Rattle.section.specs.declared.Spot.TheVariants.{Nowhere, Byte}
 use Rattle.section.specs.declared.Refusal.{Refusal}
-use Rattle.section.specs.declared.Checked.TheVariants.{Refused}
 use Rattle.section.proofs.Laws.Refusals.{frame-short, frame-long, sized_has, frame-syntax, frame_right, framed_has}
 use Rattle.section.proofs.Laws.Exact.{rising-by, tests_by_lem, refused_has}
 
 abbrev pub byte_in : Spot → ℕ
-byte_in (Byte p) = p
-byte_in Nowhere = 0
+byte_in (Some p) = p
+byte_in None = 0
 
 -- by cases of a number: 2 to 6, and any other
 by_number : (P : ℕ → Type 0) → ((n : ℕ) → n < 2 → P n) → P 2 → P 3 → P 4 → P 5 → P 6 → ((n : ℕ) → 6 < n → P n) → (n : ℕ) → P n
@@ -42,41 +40,41 @@ by_number P low p2 p3 p4 p5 p6 high (suc (suc (suc (suc (suc (suc (suc n))))))) 
 
 module _ (rules : Rules) (s : List ℕ) where
   -- each number's place, and that the others have none
-  pub spot2 : (n : ℕ) → n ≡ 2 → spot_of rules s n ≡ Byte (length s)
+  pub spot2 : (n : ℕ) → n ≡ 2 → spot_of rules s n ≡ Some (length s)
   unfolding spot_of
   spot2 n e = rw e
 
-  pub spot3 : (n : ℕ) → n ≡ 3 → spot_of rules s n ≡ Byte 0
+  pub spot3 : (n : ℕ) → n ≡ 3 → spot_of rules s n ≡ Some 0
   unfolding spot_of
   spot3 n e = rw e
 
-  pub spot4 : (n : ℕ) → n ≡ 4 → spot_of rules s n ≡ Byte (cond (misframed rules s) 1 6)
+  pub spot4 : (n : ℕ) → n ≡ 4 → spot_of rules s n ≡ Some (cond (misframed rules s) 1 6)
   unfolding spot_of
   spot4 n e = rw e
 
-  pub spot5 : (n : ℕ) → n ≡ 5 → spot_of rules s n ≡ Byte (length s - 4)
+  pub spot5 : (n : ℕ) → n ≡ 5 → spot_of rules s n ≡ Some (length s - 4)
   unfolding spot_of
   spot5 n e = rw e
 
-  pub spot6 : (n : ℕ) → n ≡ 6 → spot_of rules s n ≡ Byte 5
+  pub spot6 : (n : ℕ) → n ≡ 6 → spot_of rules s n ≡ Some 5
   unfolding spot_of
   spot6 n e = rw e
 
-  pub spot-none : (n : ℕ) → (n ≡ 2 → ⊥) → (n ≡ 3 → ⊥) → (n ≡ 4 → ⊥) → (n ≡ 5 → ⊥) → (n ≡ 6 → ⊥) → spot_of rules s n ≡ Nowhere
+  pub spot-none : (n : ℕ) → (n ≡ 2 → ⊥) → (n ≡ 3 → ⊥) → (n ≡ 4 → ⊥) → (n ≡ 5 → ⊥) → (n ≡ 6 → ⊥) → spot_of rules s n ≡ None
   unfolding spot_of
   spot-none n a b c d e = rw (ne_eqb n 2 a, ne_eqb n 3 b, ne_eqb n 4 c, ne_eqb n 5 d, ne_eqb n 6 e)
 
-  pub spot-above : (n : ℕ) → 6 < n → spot_of rules s n ≡ Nowhere
+  pub spot-above : (n : ℕ) → 6 < n → spot_of rules s n ≡ None
   spot-above n h = spot-none n (λ e. omega arith) (λ e. omega arith) (λ e. omega arith) (λ e. omega arith) (λ e. omega arith)
 
-  pub spot-below : (n : ℕ) → n < 2 → spot_of rules s n ≡ Nowhere
+  pub spot-below : (n : ℕ) → n < 2 → spot_of rules s n ≡ None
   spot-below n h = spot-none n (λ e. omega arith) (λ e. omega arith) (λ e. omega arith) (λ e. omega arith) (λ e. omega arith)
 
   -- each of 2 to 6 has one, and it is not far past the end
   abbrev There : ℕ → Type 0
-  There n = (spot_of rules s n ≡ Byte (byte_in (spot_of rules s n))) × (byte_in (spot_of rules s n) ≤ length s + 6)
+  There n = (spot_of rules s n ≡ Some (byte_in (spot_of rules s n))) × (byte_in (spot_of rules s n) ≤ length s + 6)
 
-  there_as : (n p : ℕ) → spot_of rules s n ≡ Byte p → p ≤ length s + 6 → There n
+  there_as : (n p : ℕ) → spot_of rules s n ≡ Some p → p ≤ length s + 6 → There n
   there_as n p e h = rw e (refl, h)
 
   pub spot-there : (n : ℕ) → 1 < n → n < 7 → There n
@@ -99,29 +97,29 @@ module _ (rules : Rules) (s : List ℕ) where
       record {
         two = spot2 n;
         three = spot3 n;
-        four-short = λ e h. spot4 n e ∙ ap (λ (b : Bool). Byte (cond b 1 6)) (frame-short rules s h);
-        four-long = λ e h. spot4 n e ∙ ap (λ (b : Bool). Byte (cond b 1 6)) (frame-long rules s h);
-        four-syntax = λ e h. spot4 n e ∙ ap (λ (b : Bool). Byte (cond b 1 6)) (frame-syntax rules s h);
-        four-numbers = λ e h k i. spot4 n e ∙ ap (λ (b : Bool). Byte (cond b 1 6)) (frame_right rules s h k (λ z. omega arith));
+        four-short = λ e h. spot4 n e ∙ ap (λ (b : Bool). Some (cond b 1 6)) (frame-short rules s h);
+        four-long = λ e h. spot4 n e ∙ ap (λ (b : Bool). Some (cond b 1 6)) (frame-long rules s h);
+        four-syntax = λ e h. spot4 n e ∙ ap (λ (b : Bool). Some (cond b 1 6)) (frame-syntax rules s h);
+        four-numbers = λ e h k i. spot4 n e ∙ ap (λ (b : Bool). Some (cond b 1 6)) (frame_right rules s h k (λ z. omega arith));
         five = spot5 n;
         six = spot6 n;
         below = spot-below n;
         above = spot-above n;
       }
 
-  four_bad : (p : Spot) → Placed rules s 4 p → misframed rules s ≡ true → p ≡ Byte 1
+  four_bad : (p : Spot) → Placed rules s 4 p → misframed rules s ≡ true → p ≡ Some 1
   four_bad p w e = go (ltb (length_of s) 9) refl (ltb (limit_of rules) (length_of s)) refl (eqb (syntax_of s) 0) refl e
     where
-      go : (a : Bool) → ltb (length_of s) 9 ≡ a → (b : Bool) → ltb (limit_of rules) (length_of s) ≡ b → (c : Bool) → eqb (syntax_of s) 0 ≡ c → (a || b || c) ≡ true → p ≡ Byte 1
+      go : (a : Bool) → ltb (length_of s) 9 ≡ a → (b : Bool) → ltb (limit_of rules) (length_of s) ≡ b → (c : Bool) → eqb (syntax_of s) 0 ≡ c → (a || b || c) ≡ true → p ≡ Some 1
       go true x b y c z f = w.four-short refl (ltb-true _ _ x)
       go false x true y c z f = w.four-long refl (ltb-true _ _ y)
       go false x false y true z f = w.four-syntax refl (eqb-true _ _ z)
       go false x false y false z f = absurd (clash _ f refl)
 
-  four-only : (p : Spot) → Placed rules s 4 p → p ≡ Byte (cond (misframed rules s) 1 6)
+  four-only : (p : Spot) → Placed rules s 4 p → p ≡ Some (cond (misframed rules s) 1 6)
   four-only p w = go (misframed rules s) refl
     where
-      go : (b : Bool) → misframed rules s ≡ b → p ≡ Byte (cond b 1 6)
+      go : (b : Bool) → misframed rules s ≡ b → p ≡ Some (cond b 1 6)
       go true e = four_bad p w e
       go false e =
           let f = framed_has rules s e in
@@ -171,7 +169,7 @@ module _ (rules : Rules) (s : List ℕ) where
       go true e w = omega (arith, w.0)
       go false e w = omega (arith, w.1, (framed_has rules s e).0)
 
-  within_as : (n p : ℕ) → spot_of rules s n ≡ Byte p → p < length s → byte_in (spot_of rules s n) < length s
+  within_as : (n p : ℕ) → spot_of rules s n ≡ Some p → p < length s → byte_in (spot_of rules s n) < length s
   within_as n p e h = rw e h
 
   byte-within : (n : ℕ) → refusal_of rules s ≡ n → 2 < n → byte_in (spot_of rules s n) < length s
@@ -185,7 +183,7 @@ module _ (rules : Rules) (s : List ℕ) where
       (λ n l e h. rw (spot-above n l) (let w = whole3 (omega arith) in omega (arith, w.0)))
 
   -- IT LIES WITHIN THE SECTION FOR 3 TO 6
-  pub spot-within : (p : ℕ) → 2 < refusal_of rules s → spot_of rules s (refusal_of rules s) ≡ Byte p → p < length s
+  pub spot-within : (p : ℕ) → 2 < refusal_of rules s → spot_of rules s (refusal_of rules s) ≡ Some p → p < length s
   spot-within p h e = let w = byte-within (refusal_of rules s) refl h in let f = ap byte_in e in omega arith
 
   -- "the first CRC byte": four bytes are left from there on, and the body ends there
@@ -198,7 +196,7 @@ module _ (rules : Rules) (s : List ℕ) where
 
 -- A SECTION'S REFUSAL IS ITS NUMBER AND ITS PLACE: the check's own, and every other by its number
 module _ (rules : Rules) (s : List ℕ) where
-  pub checked-told : (r : Refusal) → checked_of rules s ≡ Refused r → Told rules s r
+  pub checked-told : (r : Refusal) → checked_of rules s ≡ Err r → Told rules s r
   checked-told r e =
       let h = refused_has rules s r e in
       let n = ap (λ (x : Refusal). x.number) h.0 in
@@ -211,10 +209,10 @@ module _ (rules : Rules) (s : List ℕ) where
   broken-told = record { some = λ z. omega (arith, z); own = λ k l. absurd (omega (arith, k)); placed = sym (spot-below rules s 1 (omega arith)) }
 
   -- what that says of any caller's refusal: where it has a place, it is one of 2 to 6,
-  pub told-byte : (r : Refusal) → Told rules s r → (p : ℕ) → r.place ≡ Byte p → (1 < r.number) × (r.number < 7) × (p ≤ length s + 6)
+  pub told-byte : (r : Refusal) → Told rules s r → (p : ℕ) → r.place ≡ Some p → (1 < r.number) × (r.number < 7) × (p ≤ length s + 6)
   told-byte r t p e = go (ltb r.number 2) refl (ltb 6 r.number) refl
     where
-      somewhere : spot_of rules s r.number ≡ Nowhere → ⊥
+      somewhere : spot_of rules s r.number ≡ None → ⊥
       somewhere f = let m = t.placed in let z : ◌≡◌ {A = ℕ} 0 1 = cc in omega arith
 
       go : (a : Bool) → ltb r.number 2 ≡ a → (b : Bool) → ltb 6 r.number ≡ b → (1 < r.number) × (r.number < 7) × (p ≤ length s + 6)
@@ -228,7 +226,7 @@ module _ (rules : Rules) (s : List ℕ) where
           (omega arith, omega arith, omega (arith, w.1))
 
   -- and lies within the section, but for 2
-  pub told-within : (r : Refusal) → Told rules s r → (p : ℕ) → 2 < r.number → r.place ≡ Byte p → p < length s
+  pub told-within : (r : Refusal) → Told rules s r → (p : ℕ) → 2 < r.number → r.place ≡ Some p → p < length s
   told-within r t p h e =
       let b = told-byte r t p e in
       let o = t.own b.0 b.1 in

@@ -1,7 +1,7 @@
 -- `section::spot_of` meets its contract.
 use native.Mathlib.Omega.{arith}
 use mathlib.Core.Path.{sym, ap, ◌∙◌}
-use Rattle.section.specs.declared.Spot.TheVariants.{Byte}
+use Rattle.std.proofs.Common.{Some}
 use Rattle.section.proofs.Laws.Places.{spot2, spot3, spot4, spot5, spot6, spot-none}
 use Rattle.section.proofs.spot_of.Goals as goal
 
@@ -15,7 +15,7 @@ pub returns-in-3 : goal.returns-in-3
 returns-in-3 c = sym (spot3 _ _ _ c.in-3.is)
 
 pub returns-in-4 : goal.returns-in-4
-returns-in-4 c = ap Byte c.header_spot.ensures ∙ sym (spot4 _ _ _ c.in-4.is)
+returns-in-4 c = ap Some c.header_spot.ensures ∙ sym (spot4 _ _ _ c.in-4.is)
 
 pub returns-in-5 : goal.returns-in-5
 returns-in-5 c = sym (spot5 _ _ _ c.in-5.is)

@@ -2,8 +2,5 @@
 use Rattle.std.proofs.Common.{◌≡◌, length}
 use Rattle.sections.proofs.take_apart.Given as goal
 
-abbrev pub invariant-loop-turns : goal.invariant-loop-turns
-invariant-loop-turns g l = (65612 ≡ length l.stretch) × (4287 ≡ length l.state) × (131072 ≡ length l.out) × (7 ≡ length l.counts)
-
-abbrev pub decreases-loop-turns : goal.decreases-loop-turns
-decreases-loop-turns g l = l.turns
+abbrev pub invariant-loop : goal.invariant-loop
+invariant-loop g l = (65612 ≡ length l.stretch) × (4287 ≡ length l.state) × (131072 ≡ length l.out) × (7 ≡ length l.counts)

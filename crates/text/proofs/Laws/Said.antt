@@ -2,6 +2,7 @@
 use Prim.Native.Nat.{ℕ, suc, ◌+◌, ◌-◌, ◌*◌, ◌<◌, ◌≤◌}
 use mathlib.Core.Path.{◌≡◌, refl, sym, ap, ◌∙◌}
 use mathlib.Core.Bool.{Bool, true, false, cond, not, ◌&&◌, true≢false}
+use mathlib.Core.Logic.{◌⊎◌, inl, inr}
 use mathlib.Core.List.{List, [], ◌∷◌}
 use native.Mathlib.Numerals.{add-one}
 use native.Mathlib.Omega.{arith}
@@ -9,8 +10,7 @@ use lib.Dec.{eqb, leb}
 use lib.ListN.{length, drop, get_or, drop_of_length-le}
 use lib.Seq.{drop-cons}
 use borrow.Author.Tests.{eq-eqb, ne_eqb, lt-leb, le-leb, leb-true}
-use Rattle.text.specs.declared.Said.{Said}
-use Rattle.text.specs.declared.Said.TheVariants as said
+use Rattle.std.proofs.Common.{Option, None, Some}
 use Rattle.text.specs.Digits.{all_digits, value_from, said_by}
 
 -- more digits say no smaller number
@@ -26,13 +26,10 @@ left-none n s i h = rw (drop_of_length-le s h) (refl, refl)
 
 -- the byte at place i
 module _ (s : List ℕ) (i : ℕ) (h : i < length s) where
-  pub low-ends : get_or s i 0 < 48 → all_digits (drop i s) ≡ false
+  pub other-ends : (get_or s i 0 < 48) ⊎ (57 < get_or s i 0) → all_digits (drop i s) ≡ false
   unfolding all_digits
-  low-ends l = rw (drop-cons s i 0 h, lt-leb 48 (get_or s i 0) l)
-
-  pub high-ends : 57 < get_or s i 0 → all_digits (drop i s) ≡ false
-  unfolding all_digits
-  high-ends l = rw (drop-cons s i 0 h) (fails (leb 48 (get_or s i 0)) (leb (get_or s i 0) 57) (all_digits (drop (suc i) s)) (lt-leb (get_or s i 0) 57 l))
+  other-ends (inl l) = rw (drop-cons s i 0 h, lt-leb 48 (get_or s i 0) l)
+  other-ends (inr l) = rw (drop-cons s i 0 h) (fails (leb 48 (get_or s i 0)) (leb (get_or s i 0) 57) (all_digits (drop (suc i) s)) (lt-leb (get_or s i 0) 57 l))
     where
       fails : (a b c : Bool) → b ≡ false → ((a && b) && c) ≡ false
       fails true b c e = rw e
@@ -49,46 +46,46 @@ module _ (s : List ℕ) (i : ℕ) (h : i < length s) where
 -- WHAT THEY SAY, one law for each way
 module _ (most : ℕ) (xs : List ℕ) where
   says : (a b c : Bool) → not (eqb (length xs) 0) ≡ a → all_digits xs ≡ b → leb (value_from 0 xs) most ≡ c
-      → said_by most xs ≡ cond (a && b && c) (said.Number (value_from 0 xs)) said.Nothing
+      → said_by most xs ≡ cond (a && b && c) (Some (value_from 0 xs)) None
   unfolding said_by
   says a b c e f g = rw (e, f, g)
 
-  none : (a b c : Bool) → c ≡ false → cond (a && b && c) (said.Number (value_from 0 xs)) said.Nothing ≡ said.Nothing
+  none : (a b c : Bool) → c ≡ false → cond (a && b && c) (Some (value_from 0 xs)) None ≡ None
   none true true c e = rw e
   none true false c e = refl
   none false b c e = refl
 
-  pub says-empty : length xs ≡ 0 → said.Nothing ≡ said_by most xs
+  pub says-empty : length xs ≡ 0 → None ≡ said_by most xs
   says-empty e = sym (says false _ _ (ap not (eq-eqb (length xs) 0 e)) refl refl)
 
-  pub says_other : all_digits xs ≡ false → said.Nothing ≡ said_by most xs
+  pub says_other : all_digits xs ≡ false → None ≡ said_by most xs
   says_other e = sym (says _ false _ refl e refl ∙ go (not (eqb (length xs) 0)))
     where
-      go : (a : Bool) → cond (a && false && leb (value_from 0 xs) most) (said.Number (value_from 0 xs)) said.Nothing ≡ said.Nothing
+      go : (a : Bool) → cond (a && false && leb (value_from 0 xs) most) (Some (value_from 0 xs)) None ≡ None
       go true = refl
       go false = refl
 
-  pub says-beyond : most < value_from 0 xs → said.Nothing ≡ said_by most xs
+  pub says-beyond : most < value_from 0 xs → None ≡ said_by most xs
   says-beyond h = sym (says _ _ _ refl refl refl ∙ none (not (eqb (length xs) 0)) (all_digits xs) _ (lt-leb (value_from 0 xs) most h))
 
-  pub says-number : (n : ℕ) → (length xs ≡ 0 → ⊥) → all_digits xs ≡ true → value_from 0 xs ≡ n → n ≤ most → said.Number n ≡ said_by most xs
+  pub says-number : (n : ℕ) → (length xs ≡ 0 → ⊥) → all_digits xs ≡ true → value_from 0 xs ≡ n → n ≤ most → Some n ≡ said_by most xs
   says-number n z d v l =
-      sym (says true true true (ap not (ne_eqb (length xs) 0 z)) d (ap (λ (m : ℕ). leb m most) v ∙ le-leb n most l) ∙ ap said.Number v)
+      sym (says true true true (ap not (ne_eqb (length xs) 0 z)) d (ap (λ (m : ℕ). leb m most) v ∙ le-leb n most l) ∙ ap Some v)
 
   -- AND BACK: a number that is said is no more than the most
-  pub said-most : (n : ℕ) → said.Number n ≡ said_by most xs → n ≤ most
+  pub said-most : (n : ℕ) → Some n ≡ said_by most xs → n ≤ most
   unfolding said_by
   said-most n e = go (not (eqb (length xs) 0)) (all_digits xs) (leb (value_from 0 xs) most) refl e
     where
-      number_of : Said → ℕ
-      number_of (said.Number m) = m
-      number_of said.Nothing = 0
+      number_of : Option ℕ → ℕ
+      number_of (Some m) = m
+      number_of None = 0
 
-      is_number : Said → Bool
-      is_number (said.Number m) = true
-      is_number said.Nothing = false
+      is_number : Option ℕ → Bool
+      is_number (Some m) = true
+      is_number None = false
 
-      go : (a b c : Bool) → leb (value_from 0 xs) most ≡ c → said.Number n ≡ cond (a && b && c) (said.Number (value_from 0 xs)) said.Nothing → n ≤ most
+      go : (a b c : Bool) → leb (value_from 0 xs) most ≡ c → Some n ≡ cond (a && b && c) (Some (value_from 0 xs)) None → n ≤ most
       go true true true f g = let l = leb-true (value_from 0 xs) most f in let v : n ≡ value_from 0 xs = ap number_of g in omega arith
       go true true false f g = absurd (true≢false (ap is_number g))
       go true false c f g = absurd (true≢false (ap is_number g))

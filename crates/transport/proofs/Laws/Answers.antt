@@ -2,14 +2,13 @@
 use Prim.Native.Nat.{ℕ}
 use mathlib.Core.Path.{◌≡◌, refl, sym, ap, ◌∙◌}
 use mathlib.Core.List.{List}
+use Rattle.std.proofs.Common.{Err}
 use lib.ListN.{length}
 use Rattle.wire.specs.Items.{joined}
 use Rattle.wire.specs.Pieces.{laid_first}
-use Rattle.transport.specs.declared.Answer.{Answer}
-use Rattle.transport.specs.declared.Answer.TheVariants as answer
 use Rattle.transport.specs.declared.Handed.{Handed}
 use Rattle.transport.specs.Packet.{packet_refusal}
-use Rattle.transport.specs.Feed.{Fed, passed_over, fed}
+use Rattle.transport.specs.Feed.{Outcome, Fed, passed_over, fed}
 use Rattle.transport.specs.State.{last_in, state_in}
 use Rattle.transport.specs.Calls.{next_state}
 use Rattle.transport.proofs.Laws.Feeding.{fed-refused}
@@ -26,17 +25,17 @@ Told pid s p out r after buffer =
 
 module _ (pid : ℕ) (s p out : List ℕ) where
   -- nothing happened
-  stayed : (a : Answer) → fed pid (state_in s) p ≡ passed_over (state_in s) a → next_state pid s p ≡ s → Told pid s p out (record { answer = a; size = 0 }) s out
+  stayed : (a : Outcome) → fed pid (state_in s) p ≡ passed_over (state_in s) a → next_state pid s p ≡ s → Told pid s p out (record { answer = a; size = 0 }) s out
   stayed a e f = (
     ap (λ (n : ℕ). record { answer = a; size = n }) (sym none-long) ∙ ap handed_by (sym e),
     sym f,
     sym (none_laid out) ∙ ap (λ (w : Fed). laid_first (joined w.sections) out) (sym e),
   )
 
-  pub told-refused : (n : ℕ) → n ≡ packet_refusal pid p → (n ≡ 0 → ⊥) → Told pid s p out (record { answer = answer.Refused n; size = 0 }) s out
+  pub told-refused : (n : ℕ) → n ≡ packet_refusal pid p → (n ≡ 0 → ⊥) → Told pid s p out (record { answer = Err n; size = 0 }) s out
   told-refused n e z =
       let q : packet_refusal pid p ≡ 0 → ⊥ = λ w. z (e ∙ w) in
-      stayed (answer.Refused n) (fed-refused pid (state_in s) p q ∙ ap (λ (m : ℕ). passed_over (state_in s) (answer.Refused m)) (sym e)) (refused-stays pid s p q)
+      stayed (Err n) (fed-refused pid (state_in s) p q ∙ ap (λ (m : ℕ). passed_over (state_in s) (Err m)) (sym e)) (refused-stays pid s p q)
 
 pub last-said : (s : List ℕ) → (state_in s).last ≡ last_in s
 unfolding state_in

@@ -3,26 +3,27 @@ use Prim.Native.Nat.{ℕ, suc, ◌+◌, ◌-◌, ◌≤◌, ◌<◌, min}
 use mathlib.Core.Path.{◌≡◌, refl, sym, ap, ap₂, subst, ◌∙◌}
 use mathlib.Core.Bool.{Bool, true, false, not, cond}
 use mathlib.Core.List.{List, [], ◌∷◌, ◌++◌, append_assoc}
+use Rattle.std.proofs.Common.{Ok, Err}
 use native.Mathlib.Omega.{arith}
 use lib.Dec.{eqb, ltb}
 use lib.ListN.{length, take, drop, length-append, length-drop, length-take, drop_of_length-le}
-use lib.Seq.{take_at, take-length}
+use lib.Seq.{take_at, drop_at, drop-drop, take-length}
 use borrow.Author.Tests.{eq-eqb, ne_eqb, eqb-true, lt-ltb, le-ltb, ltb-false}
 use Rattle.wire.specs.Items.{joined}
+use Rattle.wire.specs.Outcomes.{answered}
 use Rattle.wire.specs.Pieces.{laid_first}
 use Rattle.wire.specs.Tests.{first_met}
+use Rattle.wire.proofs.Laws.Outcomes.{is_refused}
 use Rattle.wire.proofs.Laws.Meaning.{append-nil, joined-both}
-use Rattle.wire.proofs.Laws.Pieces.{cut-none, cut_step, next-rest}
-use Rattle.transport.specs.declared.Answer.{Answer}
-use Rattle.transport.specs.declared.Answer.TheVariants as answer
+use Rattle.wire.proofs.Laws.Pieces.{cut-none, cut_step, next_piece, next-rest}
 use Rattle.transport.specs.declared.Handed.{Handed}
 use Rattle.transport.specs.declared.Counts.{Counts}
 use Rattle.transport.specs.Packet.{packet_length}
-use Rattle.transport.specs.Feed.{State, Fed, fed, state_after, handed_on, answers_of, packets_in, state_ruled}
+use Rattle.transport.specs.Feed.{Outcome, State, Fed, fed, state_after, handed_on, answers_of, packets_in, state_ruled}
 use Rattle.transport.specs.State.{state_in, state_good}
 use Rattle.transport.specs.Calls.{most_handed, lent_refusal, next_state, feed_outcome, feed_answer, feed_state, feed_out, fitting, states_over}
 use Rattle.transport.specs.Calls.{gathered_packets, how_many, is_taken, is_repeated, is_broken, is_refused_with, tally}
-use Rattle.transport.specs.Calls.{gather_answer, gather_state, gather_out}
+use Rattle.transport.specs.Calls.{gathered_of, gather_answer, gather_state, gather_out}
 use Rattle.transport.specs.Pieces.{counted_with, counted_as, Countable, most}
 use Rattle.transport.proofs.Laws.Feeding.{state-both, sections-both, answers-both}
 use Rattle.transport.proofs.Laws.Hands.{none-long, none_laid}
@@ -58,16 +59,16 @@ module _ (pid : ℕ) (s : List ℕ) (n : ℕ) where
 -- ONE PACKET
 module _ (pid : ℕ) (s p out : List ℕ) (n : ℕ) (e : n ≡ lent_refusal pid s (length out)) where
   module _ (z : n ≡ 0 → ⊥) where
-    refused : feed_outcome pid s (length out) p ≡ record { state = state_in s; answer = answer.Refused n; sections = [] }
+    refused : feed_outcome pid s (length out) p ≡ record { state = state_in s; answer = Err n; sections = [] }
     unfolding feed_outcome
     refused =
         rw (ne_eqb (lent_refusal pid s (length out)) 0 (λ w. z (e ∙ w)))
-        (ap (λ (m : ℕ). record { state = state_in s; answer = answer.Refused m; sections = [] }) (sym e))
+        (ap (λ (m : ℕ). record { state = state_in s; answer = Err m; sections = [] }) (sym e))
 
-    pub feed-refused : (record { answer = answer.Refused n; size = 0 } ≡ feed_answer pid s (length out) p) × (s ≡ feed_state pid s (length out) p) × (out ≡ feed_out pid s p out)
+    pub feed-refused : (record { answer = Err n; size = 0 } ≡ feed_answer pid s (length out) p) × (s ≡ feed_state pid s (length out) p) × (out ≡ feed_out pid s p out)
     unfolding feed_answer feed_state feed_out
     feed-refused = (
-      ap (λ (m : ℕ). record { answer = answer.Refused n; size = m }) (sym none-long) ∙ ap handed_by (sym refused),
+      ap (λ (m : ℕ). record { answer = Err n; size = m }) (sym none-long) ∙ ap handed_by (sym refused),
       sym (ap (λ (t : Bool). cond t (next_state pid s p) s) (ne_eqb (lent_refusal pid s (length out)) 0 (λ w. z (e ∙ w)))),
       sym (none_laid out) ∙ ap (λ (w : Fed). laid_first (joined w.sections) out) (sym refused),
     )
@@ -88,19 +89,19 @@ module _ (pid : ℕ) (s p out : List ℕ) (n : ℕ) (e : n ≡ lent_refusal pid 
     )
 
 -- COUNTS
-count-both : (t : Answer → Bool) (rs bs : List Answer) → how_many t (rs ++ bs) ≡ how_many t rs + how_many t bs
+count-both : (t : Outcome → Bool) (rs bs : List Outcome) → how_many t (rs ++ bs) ≡ how_many t rs + how_many t bs
 unfolding how_many
 count-both t [] bs = omega arith
 count-both t (a ∷ rs) bs = let i = count-both t rs bs in omega (arith, i)
 
-one_more_lem : (t : Answer → Bool) (rs : List Answer) (a : Answer) → how_many t (rs ++ a ∷ []) ≡ how_many t rs + cond (t a) 1 0
+one_more_lem : (t : Outcome → Bool) (rs : List Outcome) (a : Outcome) → how_many t (rs ++ a ∷ []) ≡ how_many t rs + cond (t a) 1 0
 unfolding how_many
 one_more_lem t rs a = count-both t rs (a ∷ []) ∙ ap (λ (n : ℕ). how_many t rs + n) (plus_none (cond (t a) 1 0))
   where
     plus_none : (n : ℕ) → n + 0 ≡ n
     plus_none n = omega arith
 
-pub tally-more : (rs : List Answer) (a : Answer) → counted_with (tally rs) a ≡ tally (rs ++ a ∷ [])
+pub tally-more : (rs : List Outcome) (a : Outcome) → counted_with (tally rs) a ≡ tally (rs ++ a ∷ [])
 unfolding tally counted_with
 tally-more rs a =
     sym
@@ -119,7 +120,7 @@ counter : (t : Bool) (n : ℕ) → cond t (n + 1) n ≡ n + cond t 1 0
 counter true n = refl
 counter false n = omega arith
 
-pub counters : (c : Counts) (a b : Answer) → b ≡ a
+pub counters : (c : Counts) (a b : Outcome) → b ≡ a
     → record {
       taken = cond (is_taken a) (c.taken + 1) c.taken;
       repeated = cond (is_repeated a) (c.repeated + 1) c.repeated;
@@ -141,11 +142,26 @@ counters c a b e =
       refused43 = counter (is_refused_with 43 a) c.refused43 i;
     }) ∙ ap (counted_with c) (sym e)
 
--- another refusal leaves them all
-pub uncounted : (c : Counts) (n : ℕ) → (n ≡ 40 → ⊥) → (n ≡ 41 → ⊥) → (n ≡ 42 → ⊥) → (n ≡ 43 → ⊥) → c ≡ counted_with c (answer.Refused n)
-uncounted c n w x y z = rw (← counters c (answer.Refused n) _ refl, ne_eqb n 40 w, ne_eqb n 41 x, ne_eqb n 42 y, ne_eqb n 43 z) refl
+-- no answer, all zeros
+pub none-counted : (c : Counts)
+    → (c.taken ≡ 0) × ((c.repeated ≡ 0) × ((c.broken ≡ 0) × ((c.refused40 ≡ 0) × ((c.refused41 ≡ 0) × ((c.refused42 ≡ 0) × (c.refused43 ≡ 0)))))) → tally [] ≡ c
+unfolding tally how_many
+none-counted c (a, (b, (d, (e, (f, (g, h)))))) =
+    λ i. record {
+      taken = sym a i;
+      repeated = sym b i;
+      broken = sym d i;
+      refused40 = sym e i;
+      refused41 = sym f i;
+      refused42 = sym g i;
+      refused43 = sym h i;
+    }
 
-count_most : (t : Answer → Bool) (rs : List Answer) → how_many t rs ≤ length rs
+-- another refusal leaves them all
+pub uncounted : (c : Counts) (n : ℕ) → (n ≡ 40 → ⊥) → (n ≡ 41 → ⊥) → (n ≡ 42 → ⊥) → (n ≡ 43 → ⊥) → c ≡ counted_with c (Err n)
+uncounted c n w x y z = rw (← counters c (Err n) _ refl, ne_eqb n 40 w, ne_eqb n 41 x, ne_eqb n 42 y, ne_eqb n 43 z) refl
+
+count_most : (t : Outcome → Bool) (rs : List Outcome) → how_many t rs ≤ length rs
 unfolding how_many
 count_most t [] = omega arith
 count_most t (a ∷ rs) = let i = count_most t rs in let b = small (t a) in omega (arith, i, b)
@@ -154,11 +170,11 @@ count_most t (a ∷ rs) = let i = count_most t rs in let b = small (t a) in omeg
     small true = omega arith
     small false = omega arith
 
-pub countable : (rs : List Answer) → length rs < most → Countable (tally rs)
+pub countable : (rs : List Outcome) → length rs < most → Countable (tally rs)
 unfolding tally
 countable rs l = (under is_taken, under is_repeated, under is_broken, under (is_refused_with 40), under (is_refused_with 41), under (is_refused_with 42), under (is_refused_with 43))
   where
-    under : (t : Answer → Bool) → how_many t rs < most
+    under : (t : Outcome → Bool) → how_many t rs < most
     under t = let c = count_most t rs in omega (arith, c, l)
 
 answers-long : (pid : ℕ) (x : State) (ps : List (List ℕ)) → length (answers_of pid x ps) ≡ length ps
@@ -292,7 +308,7 @@ module _ (pid : ℕ) (s₀ out₀ xs s out : List ℕ) (counts : Counts) (passed
         tallied = c
             ∙ ap₂ counted_with g.tallied (ap (λ (x : State). (fed pid x p).answer) g.says)
             ∙ tally-more (answers_of pid (state_in s₀) g.done) _
-            ∙ ap tally (sym (answers-both pid (state_in s₀) g.done (p ∷ []) ∙ ap (λ (l : List Answer). answers_of pid (state_in s₀) g.done ++ l) (one_answer pid _ p)));
+            ∙ ap tally (sym (answers-both pid (state_in s₀) g.done (p ∷ []) ∙ ap (λ (l : List Outcome). answers_of pid (state_in s₀) g.done ++ l) (one_answer pid _ p)));
         fits = omega (arith, g.fits, fits_one, length-append g.done (p ∷ []));
       }
     where
@@ -332,6 +348,23 @@ module _ (pid : ℕ) (s₀ out₀ xs s out : List ℕ) (counts : Counts) (passed
           ∙ one-fits pid (length out₀ - size) (state_in s) p (packets_in (drop end xs)) fit
           ∙ ap₂ (λ (k : ℕ) (x : State). suc (fitting pid k x (packets_in (drop end xs)))) q (sym (ap state_in a ∙ next-says pid s p g.good))
 
+-- a piece that was cut off the front of what is left
+module _ (xs p rest : List ℕ) (at : ℕ) (e : drop at xs ≡ p ++ rest) (l : length p ≡ min packet_length (length (drop at xs))) (z : 0 < length (drop at xs)) where
+  pub piece-more : at < length xs
+  piece-more = let d = length-drop at xs in omega (arith, d, z)
+
+  pub piece-end : at + length p ≡ at + min packet_length (length xs - at)
+  piece-end = ap (λ (n : ℕ). at + n) (l ∙ ap (min packet_length) (length-drop at xs))
+
+  pub piece-is : p ≡ take packet_length (drop at xs)
+  piece-is =
+      sym (ap (take (length p)) e ∙ take_at p rest (length p) refl)
+      ∙ ap (λ (n : ℕ). take n (drop at xs)) (l ∙ ap (min packet_length) (length-drop at xs))
+      ∙ next_piece packet_length xs at piece-more
+
+  pub piece-rest : rest ≡ drop (at + length p) xs
+  piece-rest = sym (sym (drop-drop (length p) at xs) ∙ ap (drop (length p)) e ∙ drop_at p rest (length p) refl)
+
 -- ALL THAT WAS PASSED: where no packet more fits, or there is none
 module _ (pid : ℕ) (s₀ out₀ xs s out : List ℕ) (counts : Counts) (passed size : ℕ) (g : Going pid s₀ out₀ xs s out counts passed size) where
   pub stops_full : length out₀ - size < most_handed → fitting pid (length out₀ - size) (state_in s) (packets_in (drop passed xs)) ≡ 0
@@ -350,13 +383,12 @@ module _ (pid : ℕ) (s₀ out₀ xs s out : List ℕ) (counts : Counts) (passed
         let n : fitting pid (length out₀) (state_in s₀) (packets_in xs) ≡ length g.done = omega (arith, g.fits, z) in
         rw (eq-eqb (lent_refusal pid s₀ (length out₀)) 0 k) (ap₂ take n g.split ∙ take_at g.done (packets_in (drop passed xs)) (length g.done) refl)
 
-    pub gather-done : (record { refusal = 0; passed = passed; size = size; counts = counts } ≡ gather_answer pid s₀ (length out₀) xs)
+    pub gather-done : (record { passed = passed; size = size; counts = counts } ≡ gathered_of pid s₀ (length out₀) xs)
         × (s ≡ gather_state pid s₀ (length out₀) xs) × (out ≡ gather_out pid s₀ xs out₀)
-    unfolding gather_answer gather_state gather_out
+    unfolding gathered_of gather_state gather_out
     gather-done = (
-      (λ i. record { refusal = sym k i; passed = g.far i; size = g.sized i; counts = g.tallied i })
+      (λ i. record { passed = g.far i; size = g.sized i; counts = g.tallied i })
           ∙ ap (λ (ps : List (List ℕ)). record {
-            refusal = lent_refusal pid s₀ (length out₀);
             passed = length (joined ps);
             size = length (joined (handed_on pid (state_in s₀) ps));
             counts = tally (answers_of pid (state_in s₀) ps);
@@ -371,20 +403,18 @@ module _ (pid : ℕ) (s out xs : List ℕ) (n : ℕ) (e : n ≡ lent_refusal pid
   unfolding gathered_packets
   none_passed = rw (ne_eqb (lent_refusal pid s (length out)) 0 (λ w. z (e ∙ w)))
 
-  pub gather-refused : (record { refusal = n; passed = 0; size = 0; counts = tally [] } ≡ gather_answer pid s (length out) xs)
-      × (s ≡ gather_state pid s (length out) xs) × (out ≡ gather_out pid s xs out)
-  unfolding gather_answer gather_state gather_out joined handed_on answers_of states_over
+  pub gather-refused : (Err n ≡ gather_answer pid s (length out) xs) × (s ≡ gather_state pid s (length out) xs) × (out ≡ gather_out pid s xs out)
+  unfolding gather_answer gather_state gather_out joined handed_on states_over
   gather-refused = (
-    (λ i. record { refusal = e i; passed = 0; size = 0; counts = tally [] })
-        ∙ ap (λ (ps : List (List ℕ)). record {
-          refusal = lent_refusal pid s (length out);
-          passed = length (joined ps);
-          size = length (joined (handed_on pid (state_in s) ps));
-          counts = tally (answers_of pid (state_in s) ps);
-        }) (sym none_passed),
+    ap Err e ∙ sym (is_refused _ (gathered_of pid s (length out) xs) (λ w. z (e ∙ w))),
     ap (states_over pid s) (sym none_passed),
     ap (λ (ps : List (List ℕ)). laid_first (joined (handed_on pid (state_in s) ps)) out) (sym none_passed),
   )
+
+-- AND WHERE IT IS NOT
+pub gather-passed : (pid : ℕ) (s : List ℕ) (room : ℕ) (xs : List ℕ) → lent_refusal pid s room ≡ 0 → Ok (gathered_of pid s room xs) ≡ gather_answer pid s room xs
+unfolding gather_answer
+gather-passed pid s room xs k = ap (λ (n : ℕ). answered n (gathered_of pid s room xs)) (sym k)
 
 -- ONE PACKET OF 188 BYTES as a stretch
 module _ (pid : ℕ) (s p out : List ℕ) (k : lent_refusal pid s (length out) ≡ 0) (e : length p ≡ packet_length) where
@@ -400,13 +430,13 @@ module _ (pid : ℕ) (s p out : List ℕ) (k : lent_refusal pid s (length out) �
       let l = (lent_back pid s (length out) k).1 in
       rw (eq-eqb (lent_refusal pid s (length out)) 0 k, one_piece, one-fits pid (length out) (state_in s) p [] l) refl
 
-  pub one_told : (record { answer = counted_as (gather_answer pid s (length out) p).counts; size = (gather_answer pid s (length out) p).size } ≡ handed_by (fed pid (state_in s) p))
+  pub one_told : (record { answer = counted_as (gathered_of pid s (length out) p).counts; size = (gathered_of pid s (length out) p).size } ≡ handed_by (fed pid (state_in s) p))
       × (gather_state pid s (length out) p ≡ next_state pid s p) × (gather_out pid s p out ≡ laid_first (joined (fed pid (state_in s) p).sections) out)
-  unfolding gather_answer gather_state gather_out
+  unfolding gathered_of gather_state gather_out
   one_told = (
     ap (λ (ps : List (List ℕ)). record { answer = counted_as (tally (answers_of pid (state_in s) ps)); size = length (joined (handed_on pid (state_in s) ps)) }) one_gathered
-        ∙ ap₂ (λ (as' : List Answer) (ss : List (List ℕ)). record { answer = counted_as (tally as'); size = length (joined ss) }) (one_answer pid (state_in s) p) (one-section pid (state_in s) p)
-        ∙ ap (λ (a : Answer). record { answer = a; size = length (joined (fed pid (state_in s) p).sections) }) (one-counted pid (state_in s) p e),
+        ∙ ap₂ (λ (as' : List Outcome) (ss : List (List ℕ)). record { answer = counted_as (tally as'); size = length (joined ss) }) (one_answer pid (state_in s) p) (one-section pid (state_in s) p)
+        ∙ ap (λ (a : Outcome). record { answer = a; size = length (joined (fed pid (state_in s) p).sections) }) (one-counted pid (state_in s) p e),
     ap (states_over pid s) one_gathered ∙ one_left pid s p,
     ap (λ (ps : List (List ℕ)). laid_first (joined (handed_on pid (state_in s) ps)) out) one_gathered ∙ ap (λ (ss : List (List ℕ)). laid_first (joined ss) out) (one-section pid (state_in s) p),
   )
@@ -436,8 +466,8 @@ none_fit : (pid : ℕ) (x : State) (n : ℕ) → length (joined (handed_on pid x
 unfolding handed_on joined
 none_fit pid x n = omega arith
 
-pub gather-room : (pid : ℕ) (s : List ℕ) (n : ℕ) (xs : List ℕ) → (gather_answer pid s n xs).size ≤ n
-unfolding gather_answer gathered_packets
+pub gather-room : (pid : ℕ) (s : List ℕ) (n : ℕ) (xs : List ℕ) → (gathered_of pid s n xs).size ≤ n
+unfolding gathered_of gathered_packets
 gather-room pid s n xs = go (eqb (lent_refusal pid s n) 0) refl
   where
     go : (t : Bool) → eqb (lent_refusal pid s n) 0 ≡ t → length (joined (handed_on pid (state_in s) (cond t (take (fitting pid n (state_in s) (packets_in xs)) (packets_in xs)) []))) ≤ n
@@ -445,14 +475,14 @@ gather-room pid s n xs = go (eqb (lent_refusal pid s n) 0) refl
     go false e = none_fit pid (state_in s) n
 
 -- the first bytes of the buffer are what was handed on
-pub gather-front : (pid : ℕ) (s xs out : List ℕ) → take (gather_answer pid s (length out) xs).size (gather_out pid s xs out) ≡ joined (handed_on pid (state_in s)
+pub gather-front : (pid : ℕ) (s xs out : List ℕ) → take (gathered_of pid s (length out) xs).size (gather_out pid s xs out) ≡ joined (handed_on pid (state_in s)
     (gathered_packets pid s (length out) xs))
-unfolding gather_answer gather_out
+unfolding gathered_of gather_out
 gather-front pid s xs out = take_at (joined (handed_on pid (state_in s) (gathered_packets pid s (length out) xs))) _ _ refl
 
 -- the same of any room
 pub gather-size : (pid : ℕ) (s : List ℕ) (n : ℕ) (xs : List ℕ) → length (joined (handed_on pid (state_in s) (gathered_packets pid s n xs))) ≤ n
-unfolding gather_answer
+unfolding gathered_of
 gather-size pid s n xs = gather-room pid s n xs
 
 sized-room : (pid : ℕ) (s xs out : List ℕ) → length (joined (handed_on pid (state_in s) (gathered_packets pid s (length out) xs))) ≤ length out

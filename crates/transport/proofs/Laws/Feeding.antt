@@ -4,6 +4,7 @@ use Prim.Native.Nat.{ℕ}
 use mathlib.Core.Path.{◌≡◌, refl, sym, ap, ap₂, ◌∙◌}
 use mathlib.Core.Bool.{Bool, true, false, not, cond, ◌&&◌}
 use mathlib.Core.List.{List, [], ◌∷◌, ◌++◌, append_assoc}
+use Rattle.std.proofs.Common.{Ok, Err}
 use native.Mathlib.Omega.{arith}
 use lib.Dec.{eqb}
 use borrow.Author.Tests.{eq-eqb, ne_eqb, eqb-true, eqb-false}
@@ -14,10 +15,9 @@ use Rattle.wire.specs.Pieces.{is_none}
 use Rattle.wire.proofs.Laws.Copies.{same-is, same_refl}
 use Rattle.wire.proofs.Laws.Tests.{both}
 use Rattle.section.specs.Whole.{whole_at}
-use Rattle.transport.specs.declared.Answer.{Answer}
 use Rattle.transport.specs.declared.Answer.TheVariants as answer
 use Rattle.transport.specs.Packet.{View, view_of, packet_refusal}
-use Rattle.transport.specs.Feed.{State, Fed, head_in, ended, grown, hands_on, leaves, in_step, kept_hand, accepted, is_repeat, fed, taken_by, passed_over, state_after, handed_on, answers_of}
+use Rattle.transport.specs.Feed.{Outcome, State, Fed, head_in, ended, grown, hands_on, leaves, in_step, kept_hand, accepted, is_repeat, fed, taken_by, passed_over, state_after, handed_on, answers_of}
 
 -- GROUPING
 module _ (pid : ℕ) where
@@ -34,16 +34,16 @@ module _ (pid : ℕ) where
   pub answers-both : (x : State) (ps qs : List (List ℕ)) → answers_of pid x (ps ++ qs) ≡ answers_of pid x ps ++ answers_of pid (state_after pid x ps) qs
   unfolding state_after answers_of
   answers-both x [] qs = refl
-  answers-both x (p ∷ ps) qs = ap (λ (l : List Answer). (fed pid x p).answer ∷ l) (answers-both (fed pid x p).state ps qs)
+  answers-both x (p ∷ ps) qs = ap (λ (l : List Outcome). (fed pid x p).answer ∷ l) (answers-both (fed pid x p).state ps qs)
 
 -- ONE PACKET, by whether it is refused or a repeat
 module _ (pid : ℕ) (x : State) (p : List ℕ) where
-  pub fed-refused : (packet_refusal pid p ≡ 0 → ⊥) → fed pid x p ≡ passed_over x (answer.Refused (packet_refusal pid p))
+  pub fed-refused : (packet_refusal pid p ≡ 0 → ⊥) → fed pid x p ≡ passed_over x (Err (packet_refusal pid p))
   unfolding fed
   fed-refused n = rw (ne_eqb (packet_refusal pid p) 0 n) refl
 
   module _ (z : packet_refusal pid p ≡ 0) where
-    pub fed-repeat : is_repeat x p ≡ true → fed pid x p ≡ passed_over x answer.Repeated
+    pub fed-repeat : is_repeat x p ≡ true → fed pid x p ≡ passed_over x (Ok answer.Repeated)
     unfolding fed
     fed-repeat e = rw (eq-eqb (packet_refusal pid p) 0 z, e) refl
 
@@ -73,14 +73,14 @@ only-accepted pid (p ∷ ps) x = go (eqb (packet_refusal pid p) 0) refl (λ y. o
 
 -- "ANY OTHER BREAK OF THE COUNTER DROPS THE SECTION IN HAND AND WAITS FOR THE NEXT UNIT START, THE BREAKING PACKET'S OWN INCLUDED"
 abbrev pub anew : List ℕ → Fed
-anew p = record { state = record { last = p; hand = leaves [] (view_of p) }; answer = answer.Broken; sections = hands_on [] (view_of p) }
+anew p = record { state = record { last = p; hand = leaves [] (view_of p) }; answer = Ok answer.Broken; sections = hands_on [] (view_of p) }
 
 pub broken : (pid : ℕ) (x : State) (p : List ℕ) → packet_refusal pid p ≡ 0 → is_repeat x p ≡ false → in_step x.last p ≡ false → fed pid x p ≡ anew p
 unfolding kept_hand
 broken pid x p z r b =
     let k : kept_hand x p ≡ [] = ap (λ (t : Bool). cond t x.hand []) b in
     fed-taken pid x p z r
-    ∙ ap₂ (λ (h : List ℕ) (t : Bool). record { state = record { last = p; hand = leaves h (view_of p) }; answer = cond t answer.Taken answer.Broken; sections = hands_on h (view_of p) }) k b
+    ∙ ap₂ (λ (h : List ℕ) (t : Bool). record { state = record { last = p; hand = leaves h (view_of p) }; answer = Ok (cond t answer.Taken answer.Broken); sections = hands_on h (view_of p) }) k b
 
 -- what a packet brings where nothing is in hand: with no unit start nothing is handed on and nothing held; with one, what is_start in it
 pub from_nothing : (v : View) → (v.start ≡ false → (hands_on [] v ≡ []) × (leaves [] v ≡ []))
@@ -111,7 +111,7 @@ unfolding packet_refusal first_met
 not_none pid [] z = absurd (omega arith)
 not_none pid (x ∷ p) z = refl
 
-again-same : (pid : ℕ) (x : State) (p : List ℕ) → packet_refusal pid p ≡ 0 → x.last ≡ p → fed pid x p ≡ passed_over x answer.Repeated
+again-same : (pid : ℕ) (x : State) (p : List ℕ) → packet_refusal pid p ≡ 0 → x.last ≡ p → fed pid x p ≡ passed_over x (Ok answer.Repeated)
 again-same pid x p z e =
     fed-repeat pid x p z (ap (λ (l : List ℕ). not (is_none l) && same_numbers l p) e ∙ ap (λ (t : Bool). not t && same_numbers p p) (not_none pid p z) ∙ same_refl p)
 

@@ -6,7 +6,7 @@ use mathlib.Core.List.{List, [], ◌∷◌, ◌++◌, append_assoc}
 use native.Mathlib.Omega.{arith}
 use lib.Dec.{eqb}
 use lib.ListN.{length, take, drop, length-append, length-drop}
-use lib.Seq.{length-take-le, take_at, drop-drop, take-append-le, take-append-add, drop-append-add, get_or-append-add}
+use lib.Seq.{length-take-le, take_at, drop-drop, take-append-le, take-append-add, drop-append-add}
 use borrow.Author.Tests.{eq-eqb, ne_eqb}
 use Rattle.wire.specs.Copies.{overwrite, laid_at}
 use Rattle.wire.specs.Fields.{byte_at, field_at}
@@ -16,15 +16,9 @@ use Rattle.wire.proofs.Laws.Copies.{laid-fits}
 use Rattle.wire.proofs.Laws.Meaning.{append-nil}
 use Rattle.wire.proofs.Laws.Steps.{items-stop, items-step}
 use Rattle.section.specs.Whole.{said_length, whole_at}
-use Rattle.section.proofs.Laws.Whole.{section_kind, whole-few}
+use Rattle.section.proofs.Laws.Whole.{section_kind}
 use Rattle.transport.specs.Feed.{is_head, ended}
 use Rattle.transport.proofs.Laws.Rule.{is-head}
-
--- a byte of two parts
-pub byte-second : (a b : List ℕ) (i : ℕ) → length a ≤ i → byte_at (a ++ b) i ≡ byte_at b (i - length a)
-byte-second a b i h =
-    let e : i ≡ length a + (i - length a) = omega arith in
-    ap (λ (k : ℕ). byte_at (a ++ b) k) e ∙ get_or-append-add a b (i - length a) 0
 
 -- L by its two bytes
 pub said-by : (s : List ℕ) (x y : ℕ) → x ≡ byte_at s 1 → y ≡ byte_at s 2 → y < 256 → 3 + x % 16 * 256 + y ≡ said_length s
@@ -131,9 +125,6 @@ module _ (xs : List ℕ) (at : ℕ) (w : Walked xs at) where
       let h = w.1 in
       let i = w.0 in
       (omega (arith, d, f, e, i), omega (arith, s, l, k, g, h, e))
-
-  pub walked_end : length xs ≤ at → at ≡ length (joined (items whole_at xs))
-  walked_end l = let d = length-drop at xs in walked_stop (whole-few (drop at xs) (let i = w.0 in omega arith))
 
 -- what the buffer holds then: nothing new; or the section, in its two parts
 pub none-given : (h m out : List ℕ) → ended h m ≡ [] → (0 ≡ length (joined (ended h m))) × (out ≡ laid_first (joined (ended h m)) out)

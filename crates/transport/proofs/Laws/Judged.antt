@@ -1,21 +1,21 @@
 -- WHAT BECOMES OF A PACKET, by the last one.
-use Prim.Native.Nat.{ℕ, ◌+◌, ◌-◌, ◌%◌, ◌≤◌, ◌<◌}
+use Prim.Native.Nat.{ℕ, ◌+◌, ◌-◌, ◌%◌}
 use mathlib.Core.Path.{◌≡◌, refl, sym, ap, subst, ◌∙◌}
 use mathlib.Core.Bool.{Bool, true, false, not, cond}
 use mathlib.Core.List.{List, [], ◌∷◌}
+use Rattle.std.proofs.Common.{Ok, Err, Option}
 use native.Mathlib.Omega.{arith}
 use lib.Dec.{eqb}
-use lib.ListN.{length, take, drop, length-drop, length-take}
-use borrow.Author.Tests.{eq-eqb, ne_eqb, eqb-true, eqb-false, lt-ltb, le-ltb}
+use lib.ListN.{length, take, drop}
+use borrow.Author.Tests.{eq-eqb, ne_eqb, eqb-true, eqb-false}
 use Rattle.wire.specs.Copies.{same_numbers}
 use Rattle.wire.specs.Fields.{byte_at}
 use Rattle.wire.specs.Tests.{first_met}
 use Rattle.wire.proofs.Laws.Copies.{same-is}
 use Rattle.wire.proofs.Laws.Tests.{clash}
-use Rattle.transport.specs.declared.Answer.{Answer}
 use Rattle.transport.specs.declared.Answer.TheVariants as answer
 use Rattle.transport.specs.Packet.{packet_length, counter_of, pid_of, is_faulty, packet_refusal, view_of}
-use Rattle.transport.specs.Feed.{State, Fed, is_repeat, weight, in_step, taken_by, passed_over, fed}
+use Rattle.transport.specs.Feed.{Outcome, State, Fed, is_repeat, weight, in_step, taken_by, passed_over, fed}
 use Rattle.transport.specs.State.{last_in}
 use Rattle.transport.specs.Calls.{is_taken, how_many, tally}
 use Rattle.transport.specs.Pieces.{judged_after, judged, last_seen, counted_as}
@@ -42,28 +42,19 @@ module _ (p : List ℕ) where
   after-some (x ∷ last) e = refl
 
 module _ (pid : ℕ) (last p : List ℕ) where
-  pub judged-refused : (n : ℕ) → n ≡ packet_refusal pid p → (n ≡ 0 → ⊥) → answer.Refused n ≡ judged pid last p
+  pub judged-refused : (n : ℕ) → n ≡ packet_refusal pid p → (n ≡ 0 → ⊥) → Err n ≡ judged pid last p
   unfolding judged
-  judged-refused n e z = rw (ne_eqb (packet_refusal pid p) 0 (λ w. z (e ∙ w))) (ap (λ (m : ℕ). answer.Refused m) e)
+  judged-refused n e z = rw (ne_eqb (packet_refusal pid p) 0 (λ w. z (e ∙ w))) (ap (λ (m : ℕ). Err m) e)
 
-  pub judged-on : packet_refusal pid p ≡ 0 → judged pid last p ≡ judged_after last p
+  pub judged-on : packet_refusal pid p ≡ 0 → judged pid last p ≡ Ok (judged_after last p)
   unfolding judged
   judged-on z = rw (eq-eqb (packet_refusal pid p) 0 z)
-
--- THE LAST PACKET: in the stretch, where all of it lies; or in the state, if there was one
-pub inside : (xs : List ℕ) (at : ℕ) → at < length xs → length (take packet_length (drop at xs)) ≡ packet_length → at + packet_length ≤ length xs
-inside xs at l e = let t = length-take packet_length (drop at xs) in let d = length-drop at xs in omega (arith, e, t, d, l)
 
 -- a part, as it is cut out
 pub same_part : (xs : List ℕ) (at n : ℕ) → take (at + n - at) (drop at xs) ≡ take n (drop at xs)
 same_part xs at n = let e : at + n - at ≡ n = omega arith in ap (λ (k : ℕ). take k (drop at xs)) e
 
-pub last_in_lem : (xs : List ℕ) (at : ℕ) (s : List ℕ) → at < length xs → last_seen xs at s ≡ take packet_length (drop at xs)
-last_in_lem xs at s l = ap (λ (t : Bool). cond t (take packet_length (drop at xs)) (last_in s)) (lt-ltb at (length xs) l)
-
-pub last-past : (xs : List ℕ) (at : ℕ) (s : List ℕ) → length xs ≤ at → last_seen xs at s ≡ last_in s
-last-past xs at s l = ap (λ (t : Bool). cond t (take packet_length (drop at xs)) (last_in s)) (le-ltb at (length xs) l)
-
+-- THE LAST PACKET: one that is known, or the one in the state, if there was one
 module _ (s : List ℕ) where
   last_none : byte_at s 0 ≡ 0 → last_in s ≡ []
   last_none e = ap (λ (t : Bool). cond t [] (take packet_length s)) (eq-eqb (byte_at s 0) 0 e)
@@ -71,18 +62,16 @@ module _ (s : List ℕ) where
   pub last_some : (byte_at s 0 ≡ 0 → ⊥) → last_in s ≡ take packet_length s
   last_some n = ap (λ (t : Bool). cond t [] (take packet_length s)) (ne_eqb (byte_at s 0) 0 n)
 
-module _ (pid : ℕ) (xs : List ℕ) (at : ℕ) (s p : List ℕ) (z : packet_refusal pid p ≡ 0) where
-  by_last : (l : List ℕ) → last_seen xs at s ≡ l → judged_after l p ≡ judged pid (last_seen xs at s) p
-  by_last l e = ap (λ (k : List ℕ). judged_after k p) (sym e) ∙ sym (judged-on pid (last_seen xs at s) p z)
+module _ (pid : ℕ) (s p : List ℕ) (z : packet_refusal pid p ≡ 0) where
+  pub judged-by : (last : Option (List ℕ)) (l : List ℕ) → last_seen last s ≡ l → Ok (judged_after l p) ≡ judged pid (last_seen last s) p
+  judged-by last l e = ap (λ (k : List ℕ). Ok (judged_after k p)) (sym e) ∙ sym (judged-on pid (last_seen last s) p z)
 
-  pub judged_in : at < length xs → judged_after (take packet_length (drop at xs)) p ≡ judged pid (last_seen xs at s) p
-  judged_in l = by_last _ (last_in_lem xs at s l)
+  pub judged-first : (last : Option (List ℕ)) → last_seen last s ≡ last_in s → byte_at s 0 ≡ 0 → Ok answer.Taken ≡ judged pid (last_seen last s) p
+  judged-first last h e = ap Ok (sym (after_none p)) ∙ judged-by last [] (h ∙ last_none s e)
 
-  pub judged-first : length xs ≤ at → byte_at s 0 ≡ 0 → answer.Taken ≡ judged pid (last_seen xs at s) p
-  judged-first l e = sym (after_none p) ∙ by_last _ (last-past xs at s l ∙ last_none s e)
-
-  pub judged-past : length xs ≤ at → (byte_at s 0 ≡ 0 → ⊥) → judged_after (take packet_length s) p ≡ judged pid (last_seen xs at s) p
-  judged-past l n = by_last _ (last-past xs at s l ∙ last_some s n)
+  pub judged-past : (last : Option (List ℕ)) → last_seen last s ≡ last_in s → (byte_at s 0 ≡ 0 → ⊥)
+      → Ok (judged_after (take packet_length s) p) ≡ judged pid (last_seen last s) p
+  judged-past last h n = judged-by last _ (h ∙ last_some s n)
 
 -- it is the answer, whatever is in hand
 module _ (pid : ℕ) (x : State) (p : List ℕ) where
@@ -90,19 +79,19 @@ module _ (pid : ℕ) (x : State) (p : List ℕ) where
   unfolding judged judged_after fed
   judged-answer = go (eqb (packet_refusal pid p) 0) (is_repeat x p)
     where
-      go : (t u : Bool) → cond t (cond u answer.Repeated (cond (in_step x.last p) answer.Taken answer.Broken)) (answer.Refused (packet_refusal pid p))
-          ≡ (cond t (cond u (passed_over x answer.Repeated) (taken_by x p)) (passed_over x (answer.Refused (packet_refusal pid p)))).answer
+      go : (t u : Bool) → cond t (Ok (cond u answer.Repeated (cond (in_step x.last p) answer.Taken answer.Broken))) (Err (packet_refusal pid p))
+          ≡ (cond t (cond u (passed_over x (Ok answer.Repeated)) (taken_by x p)) (passed_over x (Err (packet_refusal pid p)))).answer
       go true true = refl
       go true false = refl
       go false u = refl
 
 -- WHO IS TAKEN: one that is not refused and no repeat
-pub record Taken (pid : ℕ) (x : State) (p : List ℕ) (a : Answer) : Type 0 where
+pub record Taken (pid : ℕ) (x : State) (p : List ℕ) (a : Outcome) : Type 0 where
   pub clear : packet_refusal pid p ≡ 0
   pub new : is_repeat x p ≡ false
-  pub told : a ≡ cond (in_step x.last p) answer.Taken answer.Broken
+  pub told : a ≡ Ok (cond (in_step x.last p) answer.Taken answer.Broken)
 
-pub record NotTaken (pid : ℕ) (x : State) (p : List ℕ) (a : Answer) : Type 0 where
+pub record NotTaken (pid : ℕ) (x : State) (p : List ℕ) (a : Outcome) : Type 0 where
   pub over : fed pid x p ≡ passed_over x a
   pub known : packet_refusal pid p ≡ 0 → is_repeat x p ≡ true
 
@@ -116,12 +105,12 @@ ways pid x p P refused repeat new = go (eqb (packet_refusal pid p) 0) (is_repeat
     go true true f g = repeat (eqb-true (packet_refusal pid p) 0 f) g
     go true false f g = new (eqb-true (packet_refusal pid p) 0 f) g
 
-module _ (pid : ℕ) (x : State) (p : List ℕ) (a : Answer) (e : a ≡ (fed pid x p).answer) where
+module _ (pid : ℕ) (x : State) (p : List ℕ) (a : Outcome) (e : a ≡ (fed pid x p).answer) where
   -- what the outcome says of the answer
   by : (f : Fed) → fed pid x p ≡ f → a ≡ f.answer
   by f w = e ∙ ap (λ (r : Fed). r.answer) w
 
-  always : (t : Bool) → is_taken (cond t answer.Taken answer.Broken) ≡ true
+  always : (t : Bool) → is_taken (Ok (cond t answer.Taken answer.Broken)) ≡ true
   always true = refl
   always false = refl
 
@@ -140,26 +129,26 @@ module _ (pid : ℕ) (x : State) (p : List ℕ) (a : Answer) (e : a ≡ (fed pid
       (λ z r. absurd (clash _ (ap is_taken (by _ (fed-taken pid x p z r)) ∙ always (in_step x.last p)) k))
 
 -- ONE PACKET OF 188 BYTES, told by what was counted
-abbrev Single : Answer → Type 0
+abbrev Single : Outcome → Type 0
 Single a = counted_as (tally (a ∷ [])) ≡ a
 
-forty-one : Single (answer.Refused 41)
+forty-one : Single (Err 41)
 unfolding counted_as tally how_many
 forty-one = refl
 
-forty-two : Single (answer.Refused 42)
+forty-two : Single (Err 42)
 unfolding counted_as tally how_many
 forty-two = refl
 
-forty-three : Single (answer.Refused 43)
+forty-three : Single (Err 43)
 unfolding counted_as tally how_many
 forty-three = refl
 
-repeated : Single answer.Repeated
+repeated : Single (Ok answer.Repeated)
 unfolding counted_as tally how_many
 repeated = refl
 
-taken : (t : Bool) → Single (cond t answer.Taken answer.Broken)
+taken : (t : Bool) → Single (Ok (cond t answer.Taken answer.Broken))
 unfolding counted_as tally how_many
 taken true = refl
 taken false = refl
@@ -177,7 +166,7 @@ numbers pid p e P none sync other fault = rw (eq-eqb (length p) packet_length e)
 pub one-counted : (pid : ℕ) (x : State) (p : List ℕ) → length p ≡ packet_length → Single (fed pid x p).answer
 one-counted pid x p e =
     ways pid x p _
-    (λ n. from _ (fed-refused pid x p n) (numbers pid p e (λ k. (k ≡ 0 → ⊥) → Single (answer.Refused k)) (λ z. absurd (z refl)) (λ z. forty-one) (λ z. forty-two) (λ z. forty-three) n))
+    (λ n. from _ (fed-refused pid x p n) (numbers pid p e (λ k. (k ≡ 0 → ⊥) → Single (Err k)) (λ z. absurd (z refl)) (λ z. forty-one) (λ z. forty-two) (λ z. forty-three) n))
     (λ z r. from _ (fed-repeat pid x p z r) repeated)
     (λ z r. from _ (fed-taken pid x p z r) (taken (in_step x.last p)))
   where

@@ -1,24 +1,24 @@
 -- IN THE MIDDLE OF A STRETCH: what the state's bytes are to be, and one packet more.
-use Prim.Native.Nat.{ℕ, ◌+◌, ◌-◌, ◌≤◌, ◌<◌}
+use Prim.Native.Nat.{ℕ, ◌+◌, ◌-◌, ◌≤◌}
 use mathlib.Core.Path.{◌≡◌, refl, sym, ap, ap₂, ◌∙◌}
 use mathlib.Core.Bool.{Bool, true, false, cond}
 use mathlib.Core.List.{List, [], ◌∷◌, ◌++◌, append_assoc}
+use Rattle.std.proofs.Common.{Ok, Option, Some, None, IfSome}
 use native.Mathlib.Omega.{arith}
-use lib.Dec.{eqb, ltb}
+use lib.Dec.{eqb}
 use lib.ListN.{length, take, drop, length-drop}
 use lib.Seq.{length-take-le, take_at, drop_at, drop-drop}
-use borrow.Author.Tests.{eqb-true, eqb-false, lt-ltb, le-ltb, ltb-true, ltb-false}
+use borrow.Author.Tests.{eqb-true, eqb-false}
 use Rattle.wire.specs.Copies.{laid_at}
 use Rattle.wire.specs.Fields.{byte_at, spelled}
 use Rattle.wire.specs.Items.{joined}
 use Rattle.wire.specs.Pieces.{laid_first}
 use Rattle.wire.proofs.Laws.Fields.{spelled_length}
 use Rattle.wire.proofs.Laws.Tests.{clash}
-use Rattle.transport.specs.declared.Answer.{Answer}
 use Rattle.transport.specs.declared.Answer.TheVariants as answer
 use Rattle.transport.specs.Packet.{packet_length, packet_refusal, view_of}
-use Rattle.transport.specs.Feed.{State, Fed, is_head, in_step, kept_hand, hands_on, leaves, taken_by, fed}
-use Rattle.transport.specs.State.{hand_at, state_length, last_in, held_in, hand_in, state_in, state_bytes, state_good}
+use Rattle.transport.specs.Feed.{Outcome, State, Fed, is_head, in_step, kept_hand, hands_on, leaves, taken_by, fed}
+use Rattle.transport.specs.State.{hand_at, state_length, held_in, hand_in, state_in, state_bytes, state_good}
 use Rattle.transport.specs.Calls.{is_taken, is_broken, next_state}
 use Rattle.transport.specs.Pieces.{judged, last_seen, with_last, midway, Midway, Stepped, Plain}
 use Rattle.transport.proofs.Laws.Feeding.{fed-taken}
@@ -28,7 +28,7 @@ use Rattle.transport.proofs.Laws.States.{Good, good-says, hand-said, laid-parts,
 use Rattle.transport.proofs.Laws.Answers.{last-said}
 use Rattle.transport.proofs.Laws.Taking.{left_grown}
 use Rattle.transport.proofs.Laws.Plain.{plain-judged, plain_hands, plain-leaves, plain-long}
-use Rattle.transport.proofs.Laws.Judged.{last_in_lem, last-past, last_some, judged-answer, is-taken, not_taken}
+use Rattle.transport.proofs.Laws.Judged.{last_some, judged-answer, is-taken, not_taken}
 
 -- a packet before the rest, in its parts
 module _ (p s : List ℕ) (n : ℕ) (e : length p ≡ packet_length) where
@@ -51,64 +51,47 @@ module _ (p s : List ℕ) (n : ℕ) (e : length p ≡ packet_length) where
       first_of [] = refl
       first_of (x ∷ xs) = refl
 
--- in the stretch, or past it
-module _ (xs : List ℕ) (at held : ℕ) (s : List ℕ) where
-  pub midway_in : at < length xs → midway xs at held s ≡ with_last (take packet_length (drop at xs)) held s
-  unfolding midway
-  midway_in l = rw (lt-ltb at (length xs) l)
+-- what lies behind the last packet and the number is as it is, and the last packet is the one that is known
+pub midway-after : (last : Option (List ℕ)) (held : ℕ) (s : List ℕ) (pid : ℕ) → Midway pid last held s → drop hand_at (midway last held s) ≡ drop hand_at s
+midway-after None held s pid m = refl
+midway-after (Some l) held s pid m = with-after l s held (full pid l m.2)
 
-  pub midway-past : length xs ≤ at → midway xs at held s ≡ s
-  unfolding midway
-  midway-past l = rw (le-ltb at (length xs) l)
+pub midway_full : (last : Option (List ℕ)) (held : ℕ) (s : List ℕ) (pid : ℕ) → Midway pid last held s → IfSome last (λ l. length l ≡ packet_length)
+midway_full None held s pid m = tt
+midway_full (Some l) held s pid m = full pid l m.2
 
-  -- by cases
-  in_or-past : (P : Type 0) → (at < length xs → P) → (length xs ≤ at → P) → P
-  in_or-past P f g = go (ltb at (length xs)) refl
-    where
-      go : (t : Bool) → ltb at (length xs) ≡ t → P
-      go true e = f (ltb-true at (length xs) e)
-      go false e = g (ltb-false at (length xs) e)
+pub midway-last : (last : Option (List ℕ)) (held : ℕ) (s : List ℕ) (pid : ℕ) → Midway pid last held s → (state_in (midway last held s)).last ≡ last_seen last s
+midway-last None held s pid m = last-said s
+midway-last (Some l) held s pid m =
+    let e = full pid l m.2 in
+    let z = with_first l s held e ∙ synced pid l m.2 in
+    last-said (with_last l held s) ∙ last_some (with_last l held s) (λ n. absurd (omega (arith, n, z))) ∙ with_packet l s held e
 
-  module _ (pid : ℕ) (m : Midway pid xs at held s) where
-    abbrev v : List ℕ
-    v = midway xs at held s
+module _ (last : Option (List ℕ)) (held : ℕ) (s : List ℕ) (pid : ℕ) (m : Midway pid last held s) where
+  abbrev v : List ℕ
+  v = midway last held s
 
-    pub midway-good : Good pid v
-    midway-good = good-says pid v m.0
+  pub midway-good : Good pid v
+  midway-good = good-says pid v m.0
 
-    pub midway_full : at < length xs → length (take packet_length (drop at xs)) ≡ packet_length
-    midway_full l = full pid _ (m.2 l)
+  pub midway-long : state_length ≤ length s
+  midway-long =
+      let a = length-drop hand_at v in
+      let b = length-drop hand_at s in
+      let c = ap (λ (l : List ℕ). length l) (midway-after last held s pid m) in
+      let g = midway-good.long in
+      omega (arith, a, b, c, g)
 
-    pub midway-after : drop hand_at v ≡ drop hand_at s
-    midway-after = in_or-past _
-        (λ l. ap (drop hand_at) (midway_in l) ∙ with-after (take packet_length (drop at xs)) s held (midway_full l))
-        (λ l. ap (drop hand_at) (midway-past l))
+  pub midway-few : held ≤ 4097
+  midway-few = let e = m.1 in let g = midway-good.few in omega (arith, e, g)
 
-    pub midway-long : state_length ≤ length s
-    midway-long = let a = length-drop hand_at v in let b = length-drop hand_at s in let c = ap (λ (l : List ℕ). length l) midway-after in let g = midway-good.long in omega (arith, a, b, c, g)
+  -- all that is in hand is there
+  pub midway-there : length (take held (drop hand_at s)) ≡ held
+  midway-there = let d = length-drop hand_at s in length-take-le held (drop hand_at s) (omega (arith, d, midway-long, midway-few))
 
-    pub midway-few : held ≤ 4097
-    midway-few = let e = m.1 in let g = midway-good.few in omega (arith, e, g)
-
-    -- all that is in hand is there
-    pub midway-there : length (take held (drop hand_at s)) ≡ held
-    midway-there = let d = length-drop hand_at s in length-take-le held (drop hand_at s) (omega (arith, d, midway-long, midway-few))
-
-    -- what it says
-    pub midway-hand : hand_in v ≡ take held (drop hand_at s)
-    midway-hand = ap₂ take (sym m.1) midway-after
-
-    pub midway-last : (state_in v).last ≡ last_seen xs at s
-    midway-last = last-said v ∙ in_or-past _
-        (λ l.
-        let q = take packet_length (drop at xs) in
-        let e = midway_full l in
-        let z = with_first q s held e ∙ synced pid q (m.2 l) in
-        ap last_in (midway_in l)
-        ∙ last_some (with_last q held s) (λ n. absurd (omega (arith, n, z)))
-        ∙ with_packet q s held e
-        ∙ sym (last_in_lem xs at s l))
-        (λ l. ap last_in (midway-past l) ∙ sym (last-past xs at s l))
+  -- what it says
+  pub midway-hand : hand_in v ≡ take held (drop hand_at s)
+  midway-hand = ap₂ take (sym m.1) (midway-after last held s pid m)
 
 -- bytes laid over what a state's bytes are to be, or over what they are: the packet and the hand cover the difference
 laid_same : (p h s v : List ℕ) → length p ≡ packet_length → drop hand_at v ≡ drop hand_at s
@@ -119,7 +102,7 @@ laid_same p h s v e d =
     ∙ sym (laid-parts p h v e)
 
 -- one that is not taken leaves the state
-pub next-stays : (pid : ℕ) (v p : List ℕ) (a : Answer) → a ≡ (fed pid (state_in v) p).answer → is_taken a ≡ false → next_state pid v p ≡ v
+pub next-stays : (pid : ℕ) (v p : List ℕ) (a : Outcome) → a ≡ (fed pid (state_in v) p).answer → is_taken a ≡ false → next_state pid v p ≡ v
 next-stays pid v p a e k = go (eqb (packet_refusal pid p) 0) refl
   where
     go : (t : Bool) → eqb (packet_refusal pid p) 0 ≡ t → next_state pid v p ≡ v
@@ -127,15 +110,15 @@ next-stays pid v p a e k = go (eqb (packet_refusal pid p) 0) refl
     go true f = let z = eqb-true (packet_refusal pid p) 0 f in repeat-stays pid v p z ((not_taken pid (state_in v) p a e k).known z)
 
 -- ONE PACKET MORE
-module _ (pid : ℕ) (xs : List ℕ) (at held : ℕ) (s : List ℕ) (m : Midway pid xs at held s) (p out : List ℕ) (a : Answer) (j : a ≡ judged pid (last_seen xs at s) p) where
+module _ (pid : ℕ) (last : Option (List ℕ)) (held : ℕ) (s : List ℕ) (m : Midway pid last held s) (p out : List ℕ) (a : Outcome) (j : a ≡ judged pid (last_seen last s) p) where
   abbrev v₀ : List ℕ
-  v₀ = midway xs at held s
+  v₀ = midway last held s
 
   abbrev x₀ : State
   x₀ = state_in v₀
 
   answered : a ≡ (fed pid x₀ p).answer
-  answered = j ∙ ap (λ (l : List ℕ). judged pid l p) (sym (midway-last xs at held s pid m)) ∙ judged-answer pid x₀ p
+  answered = j ∙ ap (λ (l : List ℕ). judged pid l p) (sym (midway-last last held s pid m)) ∙ judged-answer pid x₀ p
 
   pub stepped-over : is_taken a ≡ false → Stepped pid v₀ s held p out a 0 held s out
   stepped-over k =
@@ -153,19 +136,19 @@ module _ (pid : ℕ) (xs : List ℕ) (at held : ℕ) (s : List ℕ) (m : Midway 
   unfolding kept_hand
   hand-kept k = let t = is-taken pid x₀ p a answered k in go (in_step x₀.last p) t.told
     where
-      go : (u : Bool) → a ≡ cond u answer.Taken answer.Broken → cond u x₀.hand [] ≡ take (cond (is_broken a) 0 held) (drop hand_at s)
-      go true e = hand-said v₀ ∙ midway-hand xs at held s pid m ∙ ap (λ (b : Answer). take (cond (is_broken b) 0 held) (drop hand_at s)) (sym e)
-      go false e = ap (λ (b : Answer). take (cond (is_broken b) 0 held) (drop hand_at s)) (sym e)
+      go : (u : Bool) → a ≡ Ok (cond u answer.Taken answer.Broken) → cond u x₀.hand [] ≡ take (cond (is_broken a) 0 held) (drop hand_at s)
+      go true e = hand-said v₀ ∙ midway-hand last held s pid m ∙ ap (λ (b : Outcome). take (cond (is_broken b) 0 held) (drop hand_at s)) (sym e)
+      go false e = ap (λ (b : Outcome). take (cond (is_broken b) 0 held) (drop hand_at s)) (sym e)
 
   pub kept-good : is_taken a ≡ true → is_head (take (cond (is_broken a) 0 held) (drop hand_at s)) ≡ true
-  kept-good k = sym (ap is_head (hand-kept k)) ∙ kept-head x₀ p (ruled-head pid x₀ (midway-good xs at held s pid m).rule-kept)
+  kept-good k = sym (ap is_head (hand-kept k)) ∙ kept-head x₀ p (ruled-head pid x₀ (midway-good last held s pid m).rule-kept)
 
   pub kept-few : cond (is_broken a) 0 held ≤ 4097
   kept-few = go (is_broken a)
     where
       go : (t : Bool) → cond t 0 held ≤ 4097
       go true = omega arith
-      go false = midway-few xs at held s pid m
+      go false = midway-few last held s pid m
 
   pub clear_of : is_taken a ≡ true → packet_refusal pid p ≡ 0
   clear_of k = (is-taken pid x₀ p a answered k).clear
@@ -197,56 +180,44 @@ module _ (pid : ℕ) (xs : List ℕ) (at held : ℕ) (s : List ℕ) (m : Midway 
       answered,
       f ∙ ap (λ (ss : List (List ℕ)). length (joined ss)) (sym hands),
       g ∙ sym next-held,
-      λ t. b ∙ laid_same p (leaves h (view_of p)) s v₀ (full pid p (clear_of k)) (midway-after xs at held s pid m) ∙ sym next-is,
+      λ t. b ∙ laid_same p (leaves h (view_of p)) s v₀ (full pid p (clear_of k)) (midway-after last held s pid m) ∙ sym next-is,
       λ t. absurd (clash _ k t),
       c ∙ ap (λ (ss : List (List ℕ)). laid_first (joined ss) out) (sym hands),
     )
 
--- and after it: its place is the last one's, if it was taken
-module _ (pid : ℕ) (xs : List ℕ) (at held : ℕ) (s : List ℕ) (m : Midway pid xs at held s) (passed : ℕ) (out : List ℕ) (a : Answer) (n i : ℕ) (s' out' : List ℕ) where
-  abbrev p₁ : List ℕ
-  p₁ = take packet_length (drop passed xs)
+-- and after it: it is the last one, if it was taken
+abbrev pub Next : (pid : ℕ) → (v p : List ℕ) → (held : ℕ) → (state : List ℕ) → Option (List ℕ) → Type 0
+Next pid v p i s l = (midway l i s ≡ next_state pid v p) × Midway pid l i s
 
+module _ (pid : ℕ) (last : Option (List ℕ)) (held : ℕ) (s : List ℕ) (m : Midway pid last held s) (p out : List ℕ) (a : Outcome) (n i : ℕ) (s' out' : List ℕ) where
   abbrev v₁ : List ℕ
-  v₁ = midway xs at held s
+  v₁ = midway last held s
 
-  abbrev Next : ℕ → Type 0
-  Next at' = (midway xs at' i s' ≡ next_state pid v₁ p₁) × Midway pid xs at' i s'
-
-  pub midway-next : passed < length xs → Stepped pid v₁ s held p₁ out a n i s' out' → Next (cond (is_taken a) passed at)
-  midway-next l w = go (is_taken a) refl
-    where
-      from : (at' : ℕ) → midway xs at' i s' ≡ next_state pid v₁ p₁ → (at' < length xs → packet_refusal pid (take packet_length (drop at' xs)) ≡ 0) → Next at'
-      from at' e c = (e, (ap (state_good pid) e ∙ next-good pid v₁ p₁ m.0, w.2 ∙ ap held_in (sym e), c))
-
-      go : (t : Bool) → is_taken a ≡ t → Next (cond t passed at)
-      go true k = from passed (midway_in xs passed i s' l ∙ w.3 k) (λ q. (is-taken pid (state_in v₁) p₁ a w.0 k).clear)
-      go false k = from at (ap₂ (λ (b : List ℕ) (d : ℕ). midway xs at d b) (w.4 k).0 (w.4 k).1 ∙ sym (next-stays pid v₁ p₁ a w.0 k)) m.2
-
--- THE FIRST: nothing of the stretch is taken yet
-pub midway-first : (pid : ℕ) (xs s : List ℕ) (n : ℕ) → n ≡ held_in s → state_good pid s ≡ true → (midway xs (length xs) n s ≡ s) × Midway pid xs (length xs) n s
-midway-first pid xs s n e g =
-    let q = midway-past xs (length xs) n s (omega arith) in
-    (q, (ap (state_good pid) q ∙ g, e ∙ ap held_in (sym q), λ l. absurd (omega (arith, l))))
+  pub midway-next : Stepped pid v₁ s held p out a n i s' out' → (t : Bool) → is_taken a ≡ t → Next pid v₁ p i s' (cond t (Some p) last)
+  midway-next w true k =
+      let e = w.3 k in
+      (e, (ap (state_good pid) e ∙ next-good pid v₁ p m.0, w.2 ∙ ap held_in (sym e), (is-taken pid (state_in v₁) p a w.0 k).clear))
+  midway-next w false k =
+      let e = ap₂ (λ (b : List ℕ) (d : ℕ). midway last d b) (w.4 k).0 (w.4 k).1 ∙ sym (next-stays pid v₁ p a w.0 k) in
+      (e, (ap (state_good pid) e ∙ next-good pid v₁ p m.0, w.2 ∙ ap held_in (sym e), m.2))
 
 -- A PLAIN ONE goes behind what is in hand, and nothing is handed on
-pub stepped-plain : (pid : ℕ) (xs : List ℕ) (at held : ℕ) (s : List ℕ) → Midway pid xs at held s → (p out : List ℕ) → at < length xs
-    → Plain pid (take packet_length (drop at xs)) (take held (drop hand_at s)) p
-    → Stepped pid (midway xs at held s) s held p out answer.Taken 0 (held + 184) (laid_at s (hand_at + held) (drop 4 p)) out
-stepped-plain pid xs at held s m p out l f =
-    let i = midway-there xs at held s pid m in
-    let q = take packet_length (drop at xs) in
+pub stepped-plain : (pid : ℕ) (q : List ℕ) (held : ℕ) (s : List ℕ) → Midway pid (Some q) held s → (p out : List ℕ)
+    → Plain pid q (take held (drop hand_at s)) p
+    → Stepped pid (midway (Some q) held s) s held p out (Ok answer.Taken) 0 (held + 184) (laid_at s (hand_at + held) (drop 4 p)) out
+stepped-plain pid q held s m p out f =
+    let i = midway-there (Some q) held s pid m in
     let h = take held (drop hand_at s) in
-    let j = plain-judged pid q h p f (midway_full xs at held s pid m l) ∙ ap (λ (y : List ℕ). judged pid y p) (sym (last_in_lem xs at s l)) in
+    let j = plain-judged pid q h p f (full pid q m.2) in
     let n = plain_hands pid q h p f in
     let k = plain-long pid q h p f in
     let b = length-drop 4 p in
-    let g = hand-most (leaves h (view_of p)) (leaves-head h (view_of p) (kept-good pid xs at held s m p out answer.Taken j refl)) in
-    stepped-on pid xs at held s m p out answer.Taken j refl h (hand-kept pid xs at held s m p out answer.Taken j refl) 0 (held + 184) _ out
+    let g = hand-most (leaves h (view_of p)) (leaves-head h (view_of p) (kept-good pid (Some q) held s m p out (Ok answer.Taken) j refl)) in
+    stepped-on pid (Some q) held s m p out (Ok answer.Taken) j refl h (hand-kept pid (Some q) held s m p out (Ok answer.Taken) j refl) 0 (held + 184) _ out
     (sym none-long ∙ ap (λ (ss : List (List ℕ)). length (joined ss)) (sym n))
     (omega (arith, k, i))
     (ap (λ (c : ℕ). with_last p c (laid_at s (hand_at + held) (drop 4 p))) (omega_of held (length (drop 4 p)) b f.long)
-    ∙ left_grown p s f.long held (drop 4 p) _ (omega (arith, midway-long xs at held s pid m, g, k, i, b, f.long)) (plain-leaves pid q h p f))
+    ∙ left_grown p s f.long held (drop 4 p) _ (omega (arith, midway-long (Some q) held s pid m, g, k, i, b, f.long)) (plain-leaves pid q h p f))
     (sym (none_laid out) ∙ ap (λ (ss : List (List ℕ)). laid_first (joined ss) out) (sym n))
   where
     omega_of : (a d : ℕ) → d ≡ length p - 4 → length p ≡ packet_length → a + 184 ≡ a + d

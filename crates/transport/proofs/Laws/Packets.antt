@@ -1,13 +1,13 @@
 -- A PACKET'S REFUSAL AND ITS PARTS, from the facts that code learns on its ways.
 use Prim.Native.Nat.{ℕ, zero, suc, ◌+◌, ◌-◌, ◌≤◌, ◌<◌}
 use mathlib.Core.Path.{◌≡◌, refl, sym, ap, ap₂, ◌∙◌}
-use mathlib.Core.Bool.{Bool, true, false, not, cond, ◌&&◌, ◌||◌, or-true}
+use mathlib.Core.Bool.{Bool, true, false, not, cond, ◌&&◌, ◌||◌}
 use mathlib.Core.List.{List, [], ◌∷◌}
 use native.Mathlib.Omega.{arith}
 use lib.Dec.{eqb, leb, ltb}
 use lib.ListN.{length, take, drop, length-drop}
 use lib.Seq.{drop-drop, drop-length, take_all}
-use borrow.Author.Tests.{eq-eqb, ne_eqb, lt-ltb, le-ltb, ltb-false, leb-false}
+use borrow.Author.Tests.{eq-eqb, ne_eqb, le-ltb, ltb-false, leb-false}
 use Rattle.wire.specs.Fields.{byte_at}
 use Rattle.wire.specs.Tests.{first_met}
 use Rattle.wire.proofs.Laws.Tests.{neither}
@@ -28,27 +28,8 @@ module _ (p : List ℕ) where
   abbrev empty : Bool
   empty = not (has_field p) && not (has_payload p)
 
-  pub faulty_error : error_of p ≡ 1 → is_faulty p ≡ true
-  faulty_error e = rw (eq-eqb (error_of p) 1 e)
-
-  pub faulty_scrambled : (scrambling_of p ≡ 0 → ⊥) → is_faulty p ≡ true
-  faulty_scrambled n = rw (ne_eqb (scrambling_of p) 0 n, or-true error)
-
-  pub faulty-empty : empty ≡ true → is_faulty p ≡ true
-  faulty-empty e = rw (e, or-true (error || scrambled))
-
   -- past the first three
   module _ (a : error_of p ≡ 1 → ⊥) (b : scrambling_of p ≡ 0) (c : empty ≡ false) where
-    pub faulty-field : length p ≡ 188 → length p < payload_at p → is_faulty p ≡ true
-    faulty-field l f = ap (λ (t : Bool). error || scrambled || empty || t || pointer_past p) past ∙ ap (λ (t : Bool). t || pointer_past p) (or-true (error || scrambled || empty))
-      where
-        past : field_past p ≡ true
-        past = go (has_field p) f
-          where
-            go : (t : Bool) → length p < cond t (5 + byte_at p 4) 4 → (t && ltb 188 (5 + byte_at p 4)) ≡ true
-            go true g = lt-ltb 188 (5 + byte_at p 4) (omega arith)
-            go false g = absurd (omega arith)
-
     pub faulty-pointer : length p ≡ 188 → payload_at p ≤ length p → is_faulty p ≡ pointer_past p
     faulty-pointer l f =
         last_of error scrambled empty (field_past p) (pointer_past p) (ne_eqb (error_of p) 1 a) (ap not (eq-eqb (scrambling_of p) 0 b)) c (go (has_field p) f)

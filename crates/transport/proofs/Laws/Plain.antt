@@ -3,6 +3,7 @@ use Prim.Native.Nat.{ℕ, ◌+◌, ◌/◌, ◌%◌, ◌<◌}
 use mathlib.Core.Path.{◌≡◌, sym, ap, ap₂, ◌∙◌}
 use mathlib.Core.Bool.{Bool, true, false, not, cond, ◌&&◌}
 use mathlib.Core.List.{List, [], ◌++◌}
+use Rattle.std.proofs.Common.{Ok}
 use native.Mathlib.Omega.{arith}
 use lib.Dec.{leb}
 use lib.ListN.{length, take, drop, length-append, length-drop, get_or-append}
@@ -60,13 +61,13 @@ module _ (pid : ℕ) (last hand p : List ℕ) (f : Plain pid last hand p) where
   counted : counter_of p ≡ (counter_of last + 1) % 16
   counted = let n = f.next in omega (arith, n)
 
-  pub plain-judged : length last ≡ packet_length → answer.Taken ≡ judged pid last p
+  pub plain-judged : length last ≡ packet_length → Ok answer.Taken ≡ judged pid last p
   unfolding view_of
   plain-judged l =
       sym
       (judged-on pid last p plain-clear
-      ∙ after-some p last l
-      ∙ ap₂ (λ (t u : Bool). cond t answer.Repeated (cond u answer.Taken answer.Broken))
+      ∙ ap Ok (after-some p last l)
+      ∙ ap₂ (λ (t u : Bool). Ok (cond t answer.Repeated (cond u answer.Taken answer.Broken)))
       (differ-at 3 last p (λ e. let c = counted in omega (arith, e, c)))
       (eq-eqb (counter_of p) _ (counted ∙ ap (λ (t : Bool). (counter_of last + cond t 1 0) % 16) (sym payload))))
 

@@ -1,20 +1,21 @@
 -- THE STATE'S BYTES: what a good state says, and that what a taken packet leaves is good and says what it should.
-use Prim.Native.Nat.{ℕ, ◌+◌, ◌≤◌, ◌<◌}
+use Prim.Native.Nat.{ℕ, zero, suc, ◌+◌, ◌≤◌, ◌<◌}
 use mathlib.Core.Path.{◌≡◌, refl, sym, ap, ap₂, ◌∙◌}
 use mathlib.Core.Bool.{Bool, true, false, not, cond, ◌&&◌}
 use mathlib.Core.List.{List, [], ◌∷◌, ◌++◌, append_assoc}
+use Rattle.std.proofs.Common.{is_err}
 use native.Mathlib.Omega.{arith}
 use lib.Dec.{eqb, leb}
 use lib.ListN.{length, take, drop, replicate, length-append, length-drop}
 use lib.Seq.{length-take-le, take_at, drop_at, drop-drop}
 use borrow.Author.Tests.{eq-eqb, ne_eqb, eqb-true, eqb-false, le-leb, lt-leb, leb-true}
 use Rattle.wire.specs.Fields.{byte_at, field_at, sixteen_at, spelled}
+use Rattle.wire.specs.Outcomes.{passed}
 use Rattle.wire.specs.Pieces.{is_none, laid_first}
 use Rattle.wire.specs.Tests.{first_met}
 use Rattle.wire.proofs.Laws.Copies.{same-is}
 use Rattle.wire.proofs.Laws.Fields.{field_drop, field_take, spelled_length, spelled-reads}
-use Rattle.wire.proofs.Laws.Tests.{both}
-use Rattle.section.specs.Whole.{whole_at}
+use Rattle.wire.proofs.Laws.Tests.{both, clash}
 use Rattle.transport.specs.Packet.{packet_length, packet_refusal, pid_of, is_faulty, view_of}
 use Rattle.transport.specs.Feed.{Fed, is_head, is_repeat, kept_hand, taken_by, fed, state_ruled}
 use Rattle.transport.specs.State.{most_in_hand, hand_at, state_length, held_in, hand_in, state_in, state_bytes, is_untouched, is_left, state_good}
@@ -222,22 +223,7 @@ module _ (pid : ℕ) (s p : List ℕ) (g : state_good pid s ≡ true) where
           ∙ left-says pid p _ s z (head-left z) (good-says pid s g).long
           ∙ sym (ap (λ (w : Fed). w.state) (fed-taken pid (state_in s) p z f))
 
--- A HEAD, and a good state, by the tests
-module _ (h : List ℕ) where
-  pub head-none : length h ≡ 0 → is_head h ≡ true
-  head-none z = go h z
-    where
-      go : (l : List ℕ) → length l ≡ 0 → is_head l ≡ true
-      go [] e = refl
-      go (x ∷ l) e = absurd (omega arith)
-
-  pub head-by : (length h ≡ 0 → ⊥) → is_head h ≡ (not (eqb (byte_at h 0) 0xFF) && eqb (whole_at h) 0)
-  head-by s = go h s
-    where
-      go : (l : List ℕ) → (length l ≡ 0 → ⊥) → is_head l ≡ (not (eqb (byte_at l 0) 0xFF) && eqb (whole_at l) 0)
-      go [] n = absurd (n refl)
-      go (x ∷ l) n = refl
-
+-- A GOOD STATE, by the tests
 module _ (pid : ℕ) (s : List ℕ) where
   pub good-short : length s < state_length → state_good pid s ≡ false
   unfolding state_good
@@ -271,3 +257,12 @@ module _ (pid : ℕ) (s : List ℕ) where
 
         pub good-head : held_in s ≤ most_in_hand → state_good pid s ≡ is_head (hand_in s)
         good-head m = good_left ∙ ap₂ (λ (t u : Bool). t && u && is_head (hand_in s)) sound (le-leb (held_in s) most_in_hand m)
+
+-- what is told by a refusal: whether there is one
+pub clear-told : (n : ℕ) → false ≡ is_err (passed n) → n ≡ 0
+clear-told zero e = refl
+clear-told (suc n) e = absurd (clash false e refl)
+
+pub refused-told : (n : ℕ) → true ≡ is_err (passed n) → n ≡ 0 → ⊥
+refused-told zero e z = clash true refl e
+refused-told (suc n) e z = omega (arith, z)

@@ -1,16 +1,19 @@
 -- A packet and its 188 bytes; the packets of pieces, one and the rest; how many a section has; and the loop that writes them.
 use Prim.Native.Nat.{ℕ, zero, suc, ◌+◌, ◌*◌, ◌/◌, ◌%◌, ◌-◌, ◌≤◌, ◌<◌, min}
 use mathlib.Core.Path.{◌≡◌, refl, sym, ap, ap₂, subst, ◌∙◌}
+use mathlib.Core.Bool.{Bool, true, false}
 use mathlib.Core.List.{List, [], ◌∷◌, ◌++◌, append_assoc, append-nil}
 use native.Mathlib.Omega.{arith}
+use lib.Dec.{ltb}
+use borrow.Author.Tests.{ltb-true, ltb-false}
 use lib.ListN.{length, take, drop, set, replicate, length-append, length-take, length-drop, length-replicate, take-append-drop, drop_of_length-le}
-use lib.Seq.{length-take-le, take_at, drop_at, drop-drop, drop-append-add}
+use lib.Seq.{length-take-le, take_at, drop_at, drop-drop, drop-append-add, take_all}
 use Rattle.wire.specs.Copies.{overwrite, laid_at}
 use Rattle.wire.specs.Items.{joined}
 use Rattle.wire.specs.Pieces.{cut, laid_first}
 use Rattle.wire.proofs.Laws.Copies.{laid-fits}
 use Rattle.transport_write.specs.Writer.{payload_length, packet_head, packet_of, packets_over, section_packets}
-use Rattle.wire.proofs.Laws.Pieces.{cut-none, cut_step, cut_length, by_cutting, next_piece, next-rest, Wide}
+use Rattle.wire.proofs.Laws.Pieces.{cut-none, cut_step, cut_length, by_cutting, Wide}
 
 -- ONE PACKET
 module _ (pid u c : ℕ) (b : List ℕ) (l : length b ≤ payload_length) where
@@ -150,57 +153,75 @@ module _ (out : List ℕ) (k : ℕ) (p : List ℕ) (room : k + length p ≤ leng
       let d = length-drop (k + length p) out in
       omega arith
 
--- THE LOOP: n packets are written, and those of the bytes from `at` on are to come
-pub record Going (pid counter : ℕ) (unit old out : List ℕ) (n at u c : ℕ) : Type 0 where
-  pub within : at ≤ length unit
+-- a piece of so many bytes, cut off the front, and what follows it
+nothing : (xs : List ℕ) → length xs ≡ 0 → xs ≡ []
+nothing [] e = refl
+nothing (x ∷ xs) e = absurd (omega arith)
+
+front-piece : (w : ℕ) (xs b r : List ℕ) → xs ≡ b ++ r → length b ≡ min w (length xs) → (b ≡ take w xs) × (r ≡ drop w xs)
+front-piece w xs b r e h = go (ltb (length xs) w) refl
+  where
+    go : (t : Bool) → ltb (length xs) w ≡ t → (b ≡ take w xs) × (r ≡ drop w xs)
+    go false f =
+        let l = ltb-false (length xs) w f in
+        let k : length b ≡ w = omega (arith, h, l) in
+        (sym (ap (take w) e ∙ take_at b r w k), sym (ap (drop w) e ∙ drop_at b r w k))
+    go true f =
+        let l = ltb-true (length xs) w f in
+        let a = ap (λ (t : List ℕ). length t) e in
+        let c = length-append b r in
+        let n = nothing r (omega (arith, a, c, h, l)) in (
+          sym (append-nil b) ∙ ap (λ (t : List ℕ). b ++ t) (sym n) ∙ sym e ∙ sym (take_all w xs (omega (arith, l))),
+          n ∙ sym (drop_of_length-le xs {i = w} (omega (arith, l))),
+        )
+
+-- THE LOOP: n packets are written, and those of the rest are to come
+pub record Going (pid counter : ℕ) (unit old out : List ℕ) (n : ℕ) (rest : List ℕ) (u c : ℕ) : Type 0 where
   pub bit : u < 2
   pub nibble : c < 16
   pub kept : length out ≡ length old
   pub so_far : 188 * n ≤ length old
-  pub counted : n + length (packets_from pid u c (drop at unit)) ≡ length (packets_from pid 1 counter unit)
-  pub done : take (188 * n) out ++ joined (packets_from pid u c (drop at unit)) ≡ joined (packets_from pid 1 counter unit)
+  pub counted : n + length (packets_from pid u c rest) ≡ length (packets_from pid 1 counter unit)
+  pub done : take (188 * n) out ++ joined (packets_from pid u c rest) ≡ joined (packets_from pid 1 counter unit)
   pub unchanged : drop (188 * n) out ≡ drop (188 * n) old
 
 module _ (pid counter : ℕ) (unit old : List ℕ) where
-  pub begins : counter < 16 → Going pid counter unit old old 0 0 1 counter
-  begins l = record { within = omega arith; bit = omega arith; nibble = l; kept = refl; so_far = omega arith; counted = omega arith; done = refl; unchanged = refl }
+  pub begins : counter < 16 → Going pid counter unit old old 0 unit 1 counter
+  begins l = record { bit = omega arith; nibble = l; kept = refl; so_far = omega arith; counted = omega arith; done = refl; unchanged = refl }
 
-  module _ (out : List ℕ) (n at u c : ℕ) (g : Going pid counter unit old out n at u c) (room : length (joined (packets_from pid 1 counter unit)) ≤ length old) where
+  module _ (out : List ℕ) (n : ℕ) (rest : List ℕ) (u c : ℕ) (g : Going pid counter unit old out n rest u c) (room : length (joined (packets_from pid 1 counter unit)) ≤ length old) where
     abbrev piece : List ℕ
-    piece = take payload_length (drop at unit)
+    piece = take payload_length rest
 
     abbrev packet : List ℕ
     packet = packet_of pid u c piece
 
-    lies : 188 * n + length (joined (packets_from pid u c (drop at unit))) ≡ length (joined (packets_from pid 1 counter unit))
+    lies : 188 * n + length (joined (packets_from pid u c rest)) ≡ length (joined (packets_from pid 1 counter unit))
     lies =
         let e = ap (λ (t : List ℕ). length t) g.done in
-        let a = length-append (take (188 * n) out) (joined (packets_from pid u c (drop at unit))) in
+        let a = length-append (take (188 * n) out) (joined (packets_from pid u c rest)) in
         let t = length-take-le (188 * n) out (omega (arith, g.kept, g.so_far)) in
         omega (arith, e, a, t)
 
-    module _ (l : at < length unit) where
-      left : 0 < length (drop at unit)
-      left = let d = length-drop at unit in omega arith
-
+    module _ (l : 0 < length rest) where
       long : length packet ≡ 188
-      long = packet_length_lem pid u c piece (piece-most pid (drop at unit))
+      long = packet_length_lem pid u c piece (piece-most pid rest)
 
-      split : packets_from pid u c (drop at unit) ≡ packet ∷ packets_from pid 0 ((c + 1) % 16) (drop payload_length (drop at unit))
-      split = over-step pid u c (drop at unit) left
+      split : packets_from pid u c rest ≡ packet ∷ packets_from pid 0 ((c + 1) % 16) (drop payload_length rest)
+      split = over-step pid u c rest l
 
       -- there is room for one more
       pub one-fits : 188 * n + 188 ≤ length out
       unfolding joined
       one-fits =
           let e = ap (λ (ps : List (List ℕ)). length (joined ps)) split in
-          let a = length-append packet (joined (packets_from pid 0 ((c + 1) % 16) (drop payload_length (drop at unit)))) in
+          let a = length-append packet (joined (packets_from pid 0 ((c + 1) % 16) (drop payload_length rest))) in
           let b = long in
           let f = lies in
           omega (arith, e, a, b, f, room, g.kept)
 
       -- and once it is written, as before
-      pub one_more_lem : Going pid counter unit old (overwrite out (188 * n) packet) (n + 1) (at + min payload_length (length unit - at)) 0 ((c + 1) % 16)
+      pub one_more_lem : Going pid counter unit old (overwrite out (188 * n) packet) (n + 1) (drop payload_length rest) 0 ((c + 1) % 16)
       unfolding joined
       one_more_lem =
           let f = one-fits in
@@ -208,22 +229,18 @@ module _ (pid counter : ℕ) (unit old : List ℕ) where
           let m : 188 * n + length packet ≤ length out = omega (arith, f, b) in
           let k : 188 * (n + 1) ≡ 188 * n + length packet = omega (arith, b) in
           let k' : 188 * (n + 1) ≡ 188 * n + 188 = omega arith in
-          let r = next-rest payload_length unit at l in
-          let rest = packets_from pid 0 ((c + 1) % 16) (drop payload_length (drop at unit)) in
+          let more = packets_from pid 0 ((c + 1) % 16) (drop payload_length rest) in
           let e = ap (λ (ps : List (List ℕ)). length ps) split in
-          let i = ap (λ (t : List ℕ). length (packets_from pid 0 ((c + 1) % 16) t)) r in
           record {
-            within = omega (arith, l);
             bit = omega arith;
             nibble = omega arith;
             kept = laid_length out (188 * n) packet m ∙ g.kept;
             so_far = omega (arith, f, g.kept);
-            counted = omega (arith, e, i, g.counted);
+            counted = omega (arith, e, g.counted);
             done =
-                ap₂ (λ (s t : List ℕ). s ++ t)
+                ap (λ (s : List ℕ). s ++ joined more)
                 (ap (λ (j : ℕ). take j (overwrite out (188 * n) packet)) k ∙ laid-front out (188 * n) packet m)
-                (ap (λ (t : List ℕ). joined (packets_from pid 0 ((c + 1) % 16) t)) r)
-                ∙ append_assoc (take (188 * n) out) packet (joined rest)
+                ∙ append_assoc (take (188 * n) out) packet (joined more)
                 ∙ ap (λ (ps : List (List ℕ)). take (188 * n) out ++ joined ps) (sym split)
                 ∙ g.done;
             unchanged =
@@ -236,21 +253,19 @@ module _ (pid counter : ℕ) (unit old : List ℕ) where
                 ∙ ap (λ (j : ℕ). drop j old) (sym k');
           }
 
-      -- as code has it: r bytes of the rest, where r is what it found to be the lesser
-      pub one-turn : (r : ℕ) → r ≡ min payload_length (length unit - at)
-          → (new : List ℕ) → new ≡ overwrite out (188 * n) (packet_of pid u c (take (at + r - at) (drop at unit)))
-          → Going pid counter unit old new (n + 1) (at + r) 0 ((c + 1) % 16)
-      one-turn r e new q =
-          let k : at + r - at ≡ min payload_length (length unit - at) = omega (arith, e) in
-          let b = ap (λ (m : ℕ). take m (drop at unit)) k ∙ next_piece payload_length unit at l in
-          let o = q ∙ ap (λ (t : List ℕ). overwrite out (188 * n) (packet_of pid u c t)) b in
-          subst (λ (m : ℕ). Going pid counter unit old new (n + 1) (at + m) 0 ((c + 1) % 16)) (sym e)
-          (subst (λ (t : List ℕ). Going pid counter unit old t (n + 1) (at + min payload_length (length unit - at)) 0 ((c + 1) % 16)) (sym o) one_more_lem)
+      -- as code has it: a piece that was cut off the front of the rest
+      pub one-turn : (b r : List ℕ) → rest ≡ b ++ r → length b ≡ min payload_length (length rest)
+          → (new : List ℕ) → new ≡ overwrite out (188 * n) (packet_of pid u c b) → Going pid counter unit old new (n + 1) r 0 ((c + 1) % 16)
+      one-turn b r e h new q =
+          let f = front-piece payload_length rest b r e h in
+          subst (λ (t : List ℕ). Going pid counter unit old new (n + 1) t 0 ((c + 1) % 16)) (sym f.1)
+          (subst (λ (t : List ℕ). Going pid counter unit old t (n + 1) (drop payload_length rest) 0 ((c + 1) % 16))
+          (sym (q ∙ ap (λ (t : List ℕ). overwrite out (188 * n) (packet_of pid u c t)) f.0)) one_more_lem)
 
-    pub ends : length unit ≤ at → (n ≡ length (packets_from pid 1 counter unit)) × (out ≡ laid_first (joined (packets_from pid 1 counter unit)) old)
+    pub ends : length rest ≡ 0 → (n ≡ length (packets_from pid 1 counter unit)) × (out ≡ laid_first (joined (packets_from pid 1 counter unit)) old)
     unfolding joined
     ends l =
-        let z = ap (packets_from pid u c) (drop_of_length-le unit {i = at} l) ∙ over_none pid u c in
+        let z = ap (packets_from pid u c) (nothing rest l) ∙ over_none pid u c in
         let e = ap (λ (ps : List (List ℕ)). length ps) z in
         let f = ap (λ (ps : List (List ℕ)). length (joined ps)) z in
         let h = lies in

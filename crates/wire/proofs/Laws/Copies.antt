@@ -2,13 +2,12 @@
 use Prim.Native.Nat.{ℕ, suc, ◌+◌, ◌≤◌, ◌<◌}
 use mathlib.Core.Path.{◌≡◌, refl, sym, ap, ◌∙◌}
 use mathlib.Core.Bool.{Bool, true, false, ◌&&◌}
-use mathlib.Core.List.{List, [], ◌∷◌, ◌++◌, append_assoc}
-use native.Mathlib.Nat.{add_assoc}
+use mathlib.Core.List.{List, [], ◌∷◌, append_assoc}
 use native.Mathlib.Numerals.{add-one}
 use native.Mathlib.Omega.{arith}
 use lib.Dec.{eqb}
 use lib.ListN.{length, get_or, take, drop, drop_of_length-le, length-drop}
-use lib.Seq.{drop-cons, take-length, take-add, take_at, drop-drop, length-take-le, paste, take-paste, drop-paste}
+use lib.Seq.{drop-cons, take-length, length-take-le, paste}
 use lib.Bits.{bit_or, bit_xor, or_zero_l, or_add_and, xor_self, xor_add_and, and_le_l, and_le_r}
 use borrow.Author.Tests.{eq-eqb, ne_eqb, eqb-true, eqb-false, le-leb, lt-leb}
 use Rattle.wire.specs.Copies.{same_numbers, overwrite, laid_at}
@@ -92,24 +91,3 @@ module _ (out : List ℕ) (at : ℕ) (bytes : List ℕ) where
   pub pasted-all : (j : ℕ) → j ≡ length bytes → paste out at bytes j ≡ overwrite out at bytes
   unfolding overwrite
   pasted-all j all = rw (all, take-length) (append_assoc (take at out) bytes (drop (at + length bytes) out))
-
-  -- those before j laid, and then the n from j on
-  pub piece_laid : (j n : ℕ) → j + n ≤ length bytes → at + length bytes ≤ length out
-      → overwrite (paste out at bytes j) (at + j) (take n (drop j bytes)) ≡ paste out at bytes (j + n)
-  unfolding overwrite
-  piece_laid j n h fits =
-      rw (take-paste out at bytes j (omega arith) (omega arith), behind, take-add j n bytes)
-      (sym (append_assoc (take at out ++ take j bytes) (take n (drop j bytes)) rest) ∙ ap (λ (r : List ℕ). r ++ rest) (append_assoc (take at out) (take j bytes) (take n (drop j bytes))))
-    where
-      rest : List ℕ
-      rest = drop (at + (j + n)) out
-
-      behind : drop (at + j + length (take n (drop j bytes))) (paste out at bytes j) ≡ rest
-      behind =
-          rw (piece_length bytes j n h, ← drop-drop n (at + j) (paste out at bytes j), drop-paste out at bytes j (omega arith) (omega arith))
-          (drop-drop n (at + j) out ∙ ap (λ (k : ℕ). drop k out) (add_assoc at j n))
-
--- bytes laid over the first ones of others stand there
-pub first_laid : (out bytes : List ℕ) (n : ℕ) → length bytes ≡ n → take n (overwrite out 0 bytes) ≡ bytes
-unfolding overwrite
-first_laid out bytes n = take_at bytes (drop (0 + length bytes) out) n

@@ -3,25 +3,28 @@ use Prim.Native.Nat.{ℕ, zero, suc, ◌+◌, ◌-◌, ◌≤◌, ◌<◌}
 use mathlib.Core.Path.{◌≡◌, refl, sym, ap, ◌∙◌}
 use mathlib.Core.Bool.{Bool, true, false, cond}
 use mathlib.Core.List.{List, [], ◌∷◌, ◌++◌, append_assoc}
+use Rattle.std.proofs.Common.{Some, None}
 use native.Mathlib.Omega.{arith}
 use lib.Dec.{leb}
 use lib.ListN.{length, take, drop, length-append, length-take, length-drop}
 use lib.Seq.{take_at, drop_at, drop-drop, take-take}
 use borrow.Author.Tests.{le-leb, lt-leb, leb-true}
-use Rattle.wire.specs.declared.Place.{Place}
-use Rattle.wire.specs.declared.Place.TheVariants.{At, Nothing}
 use Rattle.wire.specs.Items.{Size, IsKind, Wholes, items, joined}
-use Rattle.wire.specs.Places.{Finder, on_place, item_at, place_from, after, bytes, inner, in_part, within, Inside}
+use Rattle.wire.specs.Places.{Place, At, Finder, on_place, item_at, place_from, after, bytes, inner, in_part, within, Inside}
 use Rattle.wire.proofs.Laws.Steps.{covers}
 use Rattle.wire.proofs.Laws.Frames.{rest_of}
 use Rattle.wire.proofs.Laws.Meaning.{wholes, front, joined-both}
+
+-- a place tells where it lies
+pub at-same : (a n b m : ℕ) → At a n ≡ At b m → (a ≡ b) × (n ≡ m)
+at-same a n b m e = (ap (λ p. on_place p 0 (λ a n. a)) e, ap (λ p. on_place p 0 (λ a n. n)) e)
 
 placed : (k at : ℕ) (is : List (List ℕ)) (a n : ℕ) → place_from k at is ≡ At a n
     → (js : List (List ℕ)) × (x : List ℕ) × (ks : List (List ℕ)) × (js ++ x ∷ ks ≡ is) × (a ≡ at + length (joined js)) × (n ≡ length x) × (length js ≡ k)
 unfolding place_from joined
 placed zero at [] a n e = let z : ◌≡◌ {A = ℕ} 0 1 = cc in absurd (omega arith)
 placed (suc k) at [] a n e = let z : ◌≡◌ {A = ℕ} 0 1 = cc in absurd (omega arith)
-placed zero at (x ∷ is) a n e = let p : at ≡ a = cc in ([], x, is, refl, omega arith, cc, refl)
+placed zero at (x ∷ is) a n e = let p = at-same at (length x) a n e in ([], x, is, refl, omega arith, sym p.1, refl)
 placed (suc k) at (x ∷ is) a n e =
     let q = placed k (at + length x) is a n e in
     (x ∷ q.0, q.1, q.2, ap (λ (l : List (List ℕ)). x ∷ l) q.3, rw length-append (omega arith), q.5, ap suc q.6)
@@ -79,18 +82,18 @@ pub sound_item : (size : Size) → IsKind size → (k : ℕ) → Sound (item_at 
 sound_item size kind k xs a n e = (item-is size kind k xs a n e).0
 
 -- a place that is given where some bytes are there, and what it takes to have been given
-guarded : (k l a n b m : ℕ) → cond (leb k l) (At a n) Nothing ≡ At b m → (k ≤ l) × (a ≡ b) × (n ≡ m)
+guarded : (k l a n b m : ℕ) → cond (leb k l) (At a n) None ≡ At b m → (k ≤ l) × (a ≡ b) × (n ≡ m)
 guarded k l a n b m e = go (leb k l) refl e
   where
-    go : (t : Bool) → leb k l ≡ t → cond t (At a n) Nothing ≡ At b m → (k ≤ l) × (a ≡ b) × (n ≡ m)
-    go true h e = (leb-true k l h, cc, cc)
+    go : (t : Bool) → leb k l ≡ t → cond t (At a n) None ≡ At b m → (k ≤ l) × (a ≡ b) × (n ≡ m)
+    go true h e = let p = at-same a n b m e in (leb-true k l h, p.0, p.1)
     go false h e = let z : ◌≡◌ {A = ℕ} 0 1 = cc in absurd (omega arith)
 
 pub bytes-at : (a n : ℕ) (xs : List ℕ) → a + n ≤ length xs → bytes a n xs ≡ At a n
 unfolding bytes
 bytes-at a n xs h = rw (le-leb (a + n) (length xs) h)
 
-pub bytes-none : (a n : ℕ) (xs : List ℕ) → length xs < a + n → bytes a n xs ≡ Nothing
+pub bytes-none : (a n : ℕ) (xs : List ℕ) → length xs < a + n → bytes a n xs ≡ None
 unfolding bytes
 bytes-none a n xs h = rw (lt-leb (a + n) (length xs) h)
 
@@ -102,7 +105,7 @@ pub inner-at : (a e : ℕ) (xs : List ℕ) → a + e ≤ length xs → inner a e
 unfolding inner
 inner-at a e xs h = rw (le-leb (a + e) (length xs) h)
 
-pub inner-none : (a e : ℕ) (xs : List ℕ) → length xs < a + e → inner a e xs ≡ Nothing
+pub inner-none : (a e : ℕ) (xs : List ℕ) → length xs < a + e → inner a e xs ≡ None
 unfolding inner
 inner-none a e xs h = rw (lt-leb (a + e) (length xs) h)
 
@@ -113,7 +116,7 @@ sound-inner a e xs b m d = let g = guarded (a + e) (length xs) a (length xs - (a
 pub after-at : (a : ℕ) (xs : List ℕ) → a ≤ length xs → after a xs ≡ At a (length xs - a)
 after-at a xs h = inner-at a 0 xs (omega arith) ∙ ap (At a) (omega arith)
 
-pub after_none : (a : ℕ) (xs : List ℕ) → length xs < a → after a xs ≡ Nothing
+pub after_none : (a : ℕ) (xs : List ℕ) → length xs < a → after a xs ≡ None
 after_none a xs h = inner-none a 0 xs (omega arith)
 
 pub sound-after : (a : ℕ) → Sound (after a)
@@ -121,12 +124,12 @@ sound-after a = sound-inner a 0
 
 -- what was found in a part
 module _ (g : Finder) (xs : List ℕ) where
-  pub in_part-none : in_part g Nothing xs ≡ Nothing
+  pub in_part-none : in_part g None xs ≡ None
   unfolding in_part
   in_part-none = refl
 
   module _ (a n : ℕ) where
-    pub in_part-lost : g (take n (drop a xs)) ≡ Nothing → in_part g (At a n) xs ≡ Nothing
+    pub in_part-lost : g (take n (drop a xs)) ≡ None → in_part g (At a n) xs ≡ None
     unfolding in_part
     in_part-lost d = rw d
 
@@ -137,13 +140,15 @@ module _ (g : Finder) (xs : List ℕ) where
   pub in_part_has : (p : Place) (c m : ℕ) → in_part g p xs ≡ At c m
       → (a : ℕ) × (n : ℕ) × (b : ℕ) × (p ≡ At a n) × (g (take n (drop a xs)) ≡ At b m) × (c ≡ a + b)
   unfolding in_part
-  in_part_has Nothing c m e = let z : ◌≡◌ {A = ℕ} 0 1 = cc in absurd (omega arith)
-  in_part_has (At a n) c m e = go (g (take n (drop a xs))) refl e
+  in_part_has None c m e = let z : ◌≡◌ {A = ℕ} 0 1 = cc in absurd (omega arith)
+  in_part_has (Some p) c m e = go (g (take p.size (drop p.start xs))) refl e
     where
-      go : (q : Place) → g (take n (drop a xs)) ≡ q → on_place q Nothing (λ b k. At (a + b) k) ≡ At c m
-          → (a₁ : ℕ) × (n₁ : ℕ) × (b : ℕ) × (At a n ≡ At a₁ n₁) × (g (take n₁ (drop a₁ xs)) ≡ At b m) × (c ≡ a₁ + b)
-      go Nothing h e = let z : ◌≡◌ {A = ℕ} 0 1 = cc in absurd (omega arith)
-      go (At b k) h e = (a, n, b, refl, cc, cc)
+      go : (q : Place) → g (take p.size (drop p.start xs)) ≡ q → on_place q None (λ b k. At (p.start + b) k) ≡ At c m
+          → (a : ℕ) × (n : ℕ) × (b : ℕ) × (Some p ≡ At a n) × (g (take n (drop a xs)) ≡ At b m) × (c ≡ a + b)
+      go None h e = let z : ◌≡◌ {A = ℕ} 0 1 = cc in absurd (omega arith)
+      go (Some q) h e =
+          let f = at-same (p.start + q.start) q.size c m e in
+          (p.start, p.size, q.start, refl, h ∙ ap (At q.start) f.1, sym f.0)
 
 pub in_part-inside : (g : Finder) → Sound g → (p : Place) (xs : List ℕ) → Inside p xs → Inside (in_part g p xs) xs
 in_part-inside g sg p xs i c m e =

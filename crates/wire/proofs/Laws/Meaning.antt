@@ -5,15 +5,14 @@ use mathlib.Core.Path.{◌≡◌, refl, sym, ap, ◌∙◌}
 use mathlib.Core.Logic.{◌↔◌}
 use mathlib.Core.Bool.{Bool, true, false, not, cond, ◌&&◌}
 use mathlib.Core.List.{List, [], ◌∷◌, ◌++◌, append_assoc}
+use Rattle.std.proofs.Common.{Some, None}
 use native.Mathlib.Omega.{arith}
 use lib.Dec.{eqb}
 use lib.ListN.{length, take, drop, length-append}
 use lib.Seq.{length-take-le, take_at, drop_at, take-take, take-length}
 use borrow.Author.Tests.{eq-eqb, eqb-true, eqb-false}
-use Rattle.wire.specs.declared.Place.TheVariants.{At, Nothing}
-use Rattle.wire.specs.declared.Hit.TheVariants.{Item, Missing}
 use Rattle.wire.specs.Items.{Size, IsKind, Whole, Wholes, items, items_in, joined, fills, count, end_of, every}
-use Rattle.wire.specs.Places.{item_at, place_from, first_from}
+use Rattle.wire.specs.Places.{At, item_at, place_from, first_from}
 use Rattle.wire.proofs.Laws.Steps.{items-step, covers}
 
 empty : (l : List ℕ) → length l ≡ 0 → l ≡ []
@@ -36,7 +35,7 @@ place-there (y ∷ is) at x js =
     let e : at + length y + length (joined is) ≡ at + length (y ++ joined is) = rw length-append (omega arith) in
     place-there is (at + length y) x js ∙ ap (λ (n : ℕ). At n (length x)) e
 
-place-past : (k at : ℕ) (is : List (List ℕ)) → length is ≤ k → place_from k at is ≡ Nothing
+place-past : (k at : ℕ) (is : List (List ℕ)) → length is ≤ k → place_from k at is ≡ None
 unfolding place_from
 place-past zero at [] h = refl
 place-past zero at (x ∷ is) h = absurd (omega arith)
@@ -130,7 +129,7 @@ module _ (size : Size) (kind : IsKind size) where
   unfolding item_at
   item_means is x js xs w e = ap (place_from (length is) 0) (unique (is ++ x ∷ js) xs w e) ∙ place-there is 0 x js ∙ ap (λ (n : ℕ). At n (length x)) (omega arith)
 
-  pub past_means : (k : ℕ) (xs : List ℕ) → count size xs ≤ k → item_at size k xs ≡ Nothing
+  pub past_means : (k : ℕ) (xs : List ℕ) → count size xs ≤ k → item_at size k xs ≡ None
   unfolding item_at count
   past_means k xs h = place-past k 0 (items size xs) h
 
@@ -165,27 +164,27 @@ unfolding count items
 count-few size xs = few (length xs) size xs
 
 -- THE FIRST THAT MEETS A TEST is one that meets it, with none before it that does; and there is none only where none does
-pub first_hit : (good : List ℕ → Bool) (k : ℕ) (is : List (List ℕ)) (j : ℕ) → first_from good k is ≡ Item j
+pub first_hit : (good : List ℕ → Bool) (k : ℕ) (is : List (List ℕ)) (j : ℕ) → first_from good k is ≡ Some j
     → (js : List (List ℕ)) × (x : List ℕ) × (ks : List (List ℕ)) × (js ++ x ∷ ks ≡ is) × (j ≡ k + length js) × (good x ≡ true) × (every (λ y. not (good y)) js ≡ true)
 unfolding first_from every
 first_hit good k [] j e = let z : ◌≡◌ {A = ℕ} 0 1 = cc in absurd (omega arith)
 first_hit good k (x ∷ is) j e = go (first_hit good (k + 1) is j) (good x) refl e
   where
-    go : (first_from good (k + 1) is ≡ Item j
+    go : (first_from good (k + 1) is ≡ Some j
         → (js : List (List ℕ)) × (y : List ℕ) × (ks : List (List ℕ)) × (js ++ y ∷ ks ≡ is) × (j ≡ k + 1 + length js) × (good y ≡ true) × (every (λ y. not (good y)) js ≡ true))
-        → (t : Bool) → good x ≡ t → cond t (Item k) (first_from good (k + 1) is) ≡ Item j
+        → (t : Bool) → good x ≡ t → cond t (Some k) (first_from good (k + 1) is) ≡ Some j
         → (js : List (List ℕ)) × (y : List ℕ) × (ks : List (List ℕ)) × (js ++ y ∷ ks ≡ x ∷ is) × (j ≡ k + length js) × (good y ≡ true) × (every (λ y. not (good y)) js ≡ true)
     go f true g e = let p : k ≡ j = cc in ([], x, is, refl, omega arith, g, refl)
     go f false g e =
         let q = f e in
         (x ∷ q.0, q.1, q.2, ap (λ (l : List (List ℕ)). x ∷ l) q.3, omega (arith, q.4), q.5, rw g q.6)
 
-pub first-none : (good : List ℕ → Bool) (k : ℕ) (is : List (List ℕ)) → first_from good k is ≡ Missing → every (λ y. not (good y)) is ≡ true
+pub first-none : (good : List ℕ → Bool) (k : ℕ) (is : List (List ℕ)) → first_from good k is ≡ None → every (λ y. not (good y)) is ≡ true
 unfolding first_from every
 first-none good k [] e = refl
 first-none good k (x ∷ is) e = go (first-none good (k + 1) is) (good x) e
   where
-    go : (first_from good (k + 1) is ≡ Missing → every (λ y. not (good y)) is ≡ true) → (t : Bool) → cond t (Item k) (first_from good (k + 1) is) ≡ Missing
+    go : (first_from good (k + 1) is ≡ None → every (λ y. not (good y)) is ≡ true) → (t : Bool) → cond t (Some k) (first_from good (k + 1) is) ≡ None
         → (not t && every (λ y. not (good y)) is) ≡ true
     go f true e = let z : ◌≡◌ {A = ℕ} 0 1 = cc in absurd (omega arith)
     go f false e = f e

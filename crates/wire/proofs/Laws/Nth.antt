@@ -3,14 +3,12 @@ use Prim.Native.Nat.{ℕ, zero, suc, ◌+◌, ◌<◌}
 use mathlib.Core.Path.{◌≡◌, refl, ap}
 use mathlib.Core.Bool.{Bool, true, false, cond}
 use mathlib.Core.List.{List, [], ◌∷◌, ◌++◌}
+use Rattle.std.proofs.Common.{Some, None}
 use native.Mathlib.Omega.{arith}
 use lib.ListN.{length, get_or, take, drop, length-append}
 use lib.Seq.{get_or-append_seam}
-use Rattle.wire.specs.declared.Place.{Place}
-use Rattle.wire.specs.declared.Place.TheVariants.{At}
-use Rattle.wire.specs.declared.Hit.TheVariants.{Item, Missing}
 use Rattle.wire.specs.Items.{Size, IsKind, items, count, number}
-use Rattle.wire.specs.Places.{item_at, in_part, part_at, first_from, Inside}
+use Rattle.wire.specs.Places.{Place, At, item_at, in_part, part_at, first_from, Inside}
 use Rattle.wire.proofs.Laws.Parts.{found_among}
 use Rattle.wire.proofs.Laws.Tests.{clash}
 
@@ -27,7 +25,7 @@ nth_item size kind k p s i a n e =
 
 -- THE FIRST THAT MEETS A TEST meets it, and none before it does; where there is none, none does
 module _ (good : List ℕ → Bool) where
-  pub first-at : (k : ℕ) (is : List (List ℕ)) (j : ℕ) → first_from good k is ≡ Item j
+  pub first-at : (k : ℕ) (is : List (List ℕ)) (j : ℕ) → first_from good k is ≡ Some j
       → (m : ℕ) × (j ≡ k + m) × (m < length is) × (good (get_or is m []) ≡ true) × ((i : ℕ) → i < m → good (get_or is i []) ≡ false)
   unfolding first_from
   first-at k [] j e = let z : ◌≡◌ {A = ℕ} 0 1 = cc in absurd (omega arith)
@@ -37,22 +35,22 @@ module _ (good : List ℕ → Bool) where
       before g m f zero h = g
       before g m f (suc i) h = f i (omega arith)
 
-      go : (first_from good (k + 1) is ≡ Item j
+      go : (first_from good (k + 1) is ≡ Some j
           → (m : ℕ) × (j ≡ k + 1 + m) × (m < length is) × (good (get_or is m []) ≡ true) × ((i : ℕ) → i < m → good (get_or is i []) ≡ false))
-          → (t : Bool) → good x ≡ t → cond t (Item k) (first_from good (k + 1) is) ≡ Item j
+          → (t : Bool) → good x ≡ t → cond t (Some k) (first_from good (k + 1) is) ≡ Some j
           → (m : ℕ) × (j ≡ k + m) × (m < suc (length is)) × (good (get_or (x ∷ is) m []) ≡ true) × ((i : ℕ) → i < m → good (get_or (x ∷ is) i []) ≡ false)
       go f true g e = let p : k ≡ j = cc in (0, omega arith, omega arith, g, λ i h. absurd (omega (arith, h)))
       go f false g e =
           let q = f e in
           (suc q.0, omega (arith, q.1), omega (arith, q.2), q.3, before g q.0 q.4)
 
-  pub first-nowhere : (k : ℕ) (is : List (List ℕ)) → first_from good k is ≡ Missing → (m : ℕ) → m < length is → good (get_or is m []) ≡ false
+  pub first-nowhere : (k : ℕ) (is : List (List ℕ)) → first_from good k is ≡ None → (m : ℕ) → m < length is → good (get_or is m []) ≡ false
   unfolding first_from
   first-nowhere k [] e m h = absurd (omega arith)
   first-nowhere k (x ∷ is) e m h = go (first-nowhere (k + 1) is) (good x) refl e m h
     where
-      go : (first_from good (k + 1) is ≡ Missing → (m : ℕ) → m < length is → good (get_or is m []) ≡ false)
-          → (t : Bool) → good x ≡ t → cond t (Item k) (first_from good (k + 1) is) ≡ Missing → (m : ℕ) → m < suc (length is) → good (get_or (x ∷ is) m []) ≡ false
+      go : (first_from good (k + 1) is ≡ None → (m : ℕ) → m < length is → good (get_or is m []) ≡ false)
+          → (t : Bool) → good x ≡ t → cond t (Some k) (first_from good (k + 1) is) ≡ None → (m : ℕ) → m < suc (length is) → good (get_or (x ∷ is) m []) ≡ false
       go f true g e m h = let z : ◌≡◌ {A = ℕ} 0 1 = cc in absurd (omega arith)
       go f false g e zero h = g
       go f false g e (suc m) h = f e m (omega arith)
@@ -69,13 +67,13 @@ module _ (good : List ℕ → Bool) where
       go f false g e zero h = g
       go f false g e (suc m) h = f e m (omega arith)
 
-  pub one-there : (is : List (List ℕ)) → number good is ≡ 1 → (k : ℕ) → (j : ℕ) × (first_from good k is ≡ Item j)
+  pub one-there : (is : List (List ℕ)) → number good is ≡ 1 → (k : ℕ) → (j : ℕ) × (first_from good k is ≡ Some j)
   unfolding number first_from
   one-there [] e k = absurd (omega arith)
   one-there (x ∷ is) e k = go (one-there is) (good x) e
     where
-      go : (number good is ≡ 1 → (k : ℕ) → (j : ℕ) × (first_from good k is ≡ Item j))
-          → (t : Bool) → cond t (suc (number good is)) (number good is) ≡ 1 → (j : ℕ) × (cond t (Item k) (first_from good (k + 1) is) ≡ Item j)
+      go : (number good is ≡ 1 → (k : ℕ) → (j : ℕ) × (first_from good k is ≡ Some j))
+          → (t : Bool) → cond t (suc (number good is)) (number good is) ≡ 1 → (j : ℕ) × (cond t (Some k) (first_from good (k + 1) is) ≡ Some j)
       go f true e = (k, refl)
       go f false e = f e (k + 1)
 

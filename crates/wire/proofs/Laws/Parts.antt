@@ -3,13 +3,12 @@ use Prim.Native.Nat.{ℕ, ◌+◌, ◌≤◌, ◌<◌}
 use mathlib.Core.Path.{◌≡◌, refl, sym, ap, ◌∙◌}
 use mathlib.Core.Bool.{Bool, true, false, ◌&&◌}
 use mathlib.Core.List.{List, [], ◌∷◌, ◌++◌}
+use Rattle.std.proofs.Common.{Some, None}
 use native.Mathlib.Omega.{arith}
 use lib.ListN.{length, take, drop, length-take, length-drop}
 use lib.Seq.{take-take}
-use Rattle.wire.specs.declared.Place.{Place}
-use Rattle.wire.specs.declared.Place.TheVariants.{At, Nothing}
 use Rattle.wire.specs.Items.{Size, IsKind, items, items_in, count, every}
-use Rattle.wire.specs.Places.{Finder, item_at, in_part, part_at, Inside}
+use Rattle.wire.specs.Places.{Place, At, Finder, item_at, in_part, part_at, Inside}
 use Rattle.wire.proofs.Laws.Meaning.{item-there, past_means}
 use Rattle.wire.proofs.Laws.Finders.{Sound, in_part-none, in_part-lost, in_part-at, in_part_has, part_part, item-is, item-bytes}
 
@@ -19,21 +18,21 @@ part-at s a n = refl
 
 pub part-few : (p : Place) (s : List ℕ) → length (part_at p s) ≤ length s
 unfolding part_at
-part-few Nothing s = omega arith
-part-few (At a n) s = let l = length-take n (drop a s) in let d = length-drop a s in omega (arith, l, d)
+part-few None s = omega arith
+part-few (Some p) s = let l = length-take p.size (drop p.start s) in let d = length-drop p.start s in omega (arith, l, d)
 
 module _ (size : Size) (kind : IsKind size) (s : List ℕ) (k : ℕ) where
   pub item_in : (p : Place) → k < count size (part_at p s) → (a : ℕ) × (n : ℕ) × (in_part (item_at size k) p s ≡ At a n)
   unfolding part_at count items items_in
-  item_in Nothing h = absurd (omega arith)
-  item_in (At a n) h =
-      let t = item-there size kind k (take n (drop a s)) h in
-      (a + t.0, t.1, in_part-at (item_at size k) s a n t.0 t.1 t.2)
+  item_in None h = absurd (omega arith)
+  item_in (Some p) h =
+      let t = item-there size kind k (take p.size (drop p.start s)) h in
+      (p.start + t.0, t.1, in_part-at (item_at size k) s p.start p.size t.0 t.1 t.2)
 
-  pub item-past : (p : Place) → count size (part_at p s) ≤ k → in_part (item_at size k) p s ≡ Nothing
+  pub item-past : (p : Place) → count size (part_at p s) ≤ k → in_part (item_at size k) p s ≡ None
   unfolding part_at
-  item-past Nothing h = in_part-none (item_at size k) s
-  item-past (At a n) h = in_part-lost (item_at size k) s a n (past_means size kind k (take n (drop a s)) h)
+  item-past None h = in_part-none (item_at size k) s
+  item-past (Some p) h = in_part-lost (item_at size k) s p.start p.size (past_means size kind k (take p.size (drop p.start s)) h)
 
 -- what was found in a part, as a part of the whole
 pub part-within : (g : Finder) → Sound g → (s : List ℕ) (a n : ℕ) → a + n ≤ length s
@@ -42,11 +41,11 @@ unfolding part_at
 part-within g sg s a n h = go (g (take n (drop a s))) refl
   where
     go : (q : Place) → g (take n (drop a s)) ≡ q → part_at (in_part g (At a n) s) s ≡ part_at q (take n (drop a s))
-    go Nothing e = ap (λ (p : Place). part_at p s) (in_part-lost g s a n e)
-    go (At b m) e =
-        let f = sg (take n (drop a s)) b m e in
-        let l : b + m ≤ n = omega (arith, simp (length-take, length-drop) at f) in
-        ap (λ (p : Place). part_at p s) (in_part-at g s a n b m e) ∙ sym (part_part s a n b m h l)
+    go None e = ap (λ (p : Place). part_at p s) (in_part-lost g s a n e)
+    go (Some q) e =
+        let f = sg (take n (drop a s)) q.start q.size e in
+        let l : q.start + q.size ≤ n = omega (arith, simp (length-take, length-drop) at f) in
+        ap (λ (p : Place). part_at p s) (in_part-at g s a n q.start q.size e) ∙ sym (part_part s a n q.start q.size h l)
 
 -- an item that was found in a part is what its list from there on begins with
 pub found_item : (size : Size) → IsKind size → (k : ℕ) (p : Place) (s : List ℕ) → Inside p s → (c m : ℕ) → in_part (item_at size k) p s ≡ At c m

@@ -1,49 +1,40 @@
--- `wire::measured_end` meets its contract. The invariant: what is left to count from i on ends where all ends.
-use mathlib.Core.Path.{◌≡◌, refl, ap, ◌∙◌}
+-- `wire::measured_end` meets its contract.
+use mathlib.Core.Path.{◌≡◌, refl, sym, ap, ◌∙◌}
 use native.Mathlib.Omega.{arith}
 use lib.ListN.{drop}
-use Rattle.wire.specs.Items.{measured}
+use Rattle.wire.specs.Items.{measured, sized}
 use Rattle.wire.proofs.Laws.Frames.{framed_kind}
-use Rattle.wire.proofs.Laws.Loops.{tail, item-fits, end_none, end-stop, end-turn, end-done}
+use Rattle.wire.proofs.Laws.Sizes.{sized-none, sized-has}
+use Rattle.wire.proofs.Laws.Loops.{tail, item-fits, end-left, end_none, end-stop, end-turn, end-done}
 use Rattle.wire.proofs.measured_end.Goals as goal
-use Rattle.wire.proofs.measured_end.Goals.{After-measured_size-n}
+use Rattle.wire.proofs.measured_end.Goals.{After-measured_size}
 
-pub loop-left-init : goal.loop-left-init
-loop-left-init c = refl
+pub loop-k-init : goal.loop-k-init
+loop-k-init c = end-left (measured _ _) c.args.s.now _ _ _ _ _ (omega arith) refl
 
 pub returns-then-s-i : goal.returns-then-s-i
-returns-then-s-i c = end_none (measured c.args.h c.args.at) (framed_kind _ _)
-    c.args.s.now _ c.loop-left.left c.if-s-i.true (omega arith) ∙ c.loop-left.invariant
+returns-then-s-i c = end_none (measured c.args.h c.args.at)
+    c.args.s.now _ _ c.loop-k.i _ c.if-s-i.true c.loop-k.invariant (omega arith)
 
 -- what the call answered for the list from i on
-sized : (c : After-measured_size-n) →
-    c.measured_size-n.result ≡ measured c.args.h c.args.at (drop c.loop-left.i c.args.s.now)
-sized c =
-    c.measured_size-n.ensures ∙ ap (measured c.args.h c.args.at) (tail c.args.s.now c.loop-left.i)
+from-i : (c : After-measured_size) → c.measured_size.result ≡ sized (measured c.args.h c.args.at (drop c.loop-k.i c.args.s.now))
+from-i c = c.measured_size.ensures ∙ ap (λ l. sized (measured c.args.h c.args.at l)) (tail c.args.s.now c.loop-k.i)
 
-pub returns-then-n-eq0 : goal.returns-then-n-eq0
-returns-then-n-eq0 c =
-    let l = c.loop-left in
-    end-stop (measured c.args.h c.args.at) (framed_kind _ _) c.args.s.now l.i _ (sized (goal.at.returns-then-n-eq0 c).After-measured_size-n) _ _ l.left (omega arith, l.invariant) c.if-n-eq0.true
-    (λ z. omega (arith, z))
+pub returns-in_err-i : goal.returns-in_err-i
+returns-in_err-i c =
+    c.from_residual.ensures ∙ end-stop (measured c.args.h c.args.at) (framed_kind _ _) c.args.s.now c.loop-k.i 0
+    (sym (sized-none _ (sym c.in_err-i.was ∙ from-i (goal.at.returns-in_err-i c).After-measured_size))) _ _ _ c.loop-k.invariant refl (omega arith)
 
 pub overflow_add-i : goal.overflow_add-i
 overflow_add-i c =
-    omega (arith, item-fits (measured c.args.h c.args.at) (framed_kind _ _) c.args.s.now c.loop-left.i _ (sized (goal.at.overflow_add-i c).After-measured_size-n) (omega arith))
+    let h = sized-has _ _ (sym c.in_ok-i.was ∙ from-i (goal.at.overflow_add-i c).After-measured_size) in
+    omega (arith, item-fits (measured c.args.h c.args.at) (framed_kind _ _) c.args.s.now c.loop-k.i _ h.0 (omega arith))
 
-pub overflow_sub-left : goal.overflow_sub-left
-overflow_sub-left c = omega arith
-
-pub loop-left-smaller : goal.loop-left-smaller
-loop-left-smaller c = omega arith
-
-pub loop-left-preserved : goal.loop-left-preserved
-loop-left-preserved c =
-    let l = c.loop-left in
-    (end-turn (measured c.args.h c.args.at) (framed_kind _ _) c.args.s.now l.i _ (sized (goal.at.loop-left-preserved c).After-measured_size-n) _ _ l.left (
-      omega arith,
-      l.invariant,
-    ) c.if-n-eq0.false (λ z. omega (arith, z))).1
+pub loop-k-preserved : goal.loop-k-preserved
+loop-k-preserved c =
+    let h = sized-has _ _ (sym c.in_ok-i.was ∙ from-i (goal.at.loop-k-preserved c).After-measured_size) in
+    end-left (measured _ _) c.args.s.now _ _ _ _ _ (omega arith)
+    (end-turn (measured c.args.h c.args.at) (framed_kind _ _) c.args.s.now c.loop-k.i _ h.0 _ _ _ (omega arith) c.loop-k.invariant h.1 (omega arith))
 
 pub returns : goal.returns
-returns c = end-done (measured _ _) c.args.s.now _ _ c.loop-left.i c.loop-left.left c.loop-left.invariant (omega arith)
+returns c = end-done (measured _ _) c.args.s.now _ _ c.loop-k.i _ c.loop-k.invariant (omega arith)

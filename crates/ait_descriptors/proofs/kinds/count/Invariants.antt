@@ -7,8 +7,8 @@ use Rattle.wire.proofs.Laws.Loops.{Counting}
 use Rattle.ait_descriptors.specs.Kinds.{size_of}
 use Rattle.ait_descriptors.proofs.kinds.count.Given as goal
 
-abbrev pub invariant-loop-i : goal.invariant-loop-i
-invariant-loop-i l = Counting (size_of l.kind) (λ (x : List ℕ). true) l.s l.i l.m
+abbrev pub invariant-loop-n : goal.invariant-loop-n
+invariant-loop-n l = Counting (size_of l.kind) (λ (x : List ℕ). true) l.s l.i l.m
 
-abbrev pub decreases-loop-i : goal.decreases-loop-i
-decreases-loop-i l = length l.s - l.i
+abbrev pub decreases-loop-n : goal.decreases-loop-n
+decreases-loop-n l = length l.s - l.i

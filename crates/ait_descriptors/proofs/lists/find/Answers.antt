@@ -5,32 +5,23 @@ use Rattle.ait_descriptors.specs.Kinds.{size_of}
 use Rattle.ait_descriptors.proofs.Laws.Kinds.{kind_of_lem}
 use Rattle.ait_descriptors.specs.Contents.{test_of}
 use Rattle.wire.specs.Places.{first}
-use Rattle.wire.proofs.Laws.Loops.{find-stop, find_hit, find-turn, find-done}
+use Rattle.wire.proofs.Laws.Sizes.{sized-has, sized-none}
+use Rattle.wire.proofs.Laws.Loops.{find-stop, find_hit, find-turn}
 use Rattle.ait_descriptors.proofs.lists.find.Goals as goal
 
-pub loop-i-init : goal.loop-i-init
+pub loop-n-init : goal.loop-n-init
 unfolding first
-loop-i-init c = (omega arith, omega arith, refl)
-
-pub returns-then-n-eq0 : goal.returns-then-n-eq0
-returns-then-n-eq0 c = find-stop (size_of _) (kind_of_lem _) _ _ _ c.size_at-n.ensures.0 (test_of _) _ c.loop-i.invariant c.if-n-eq0.true
+loop-n-init c = (omega arith, omega arith, refl)
 
 pub returns-then-meets_at : goal.returns-then-meets_at
-returns-then-meets_at c = find_hit (size_of _) (kind_of_lem _) _ _ _ c.size_at-n.ensures.0 (test_of _) _ c.loop-i.invariant
-    c.if-n-eq0.false (sym c.meets_at.ensures ∙ c.if-meets_at.true)
+returns-then-meets_at c =
+    let h = sized-has _ _ c.in-Some.ensures.0 in
+    find_hit (size_of _) (kind_of_lem _) _ _ _ h.0 (test_of _) _ c.loop-n.invariant h.1 (sym c.meets_at.ensures ∙ c.if-meets_at.true)
 
-pub overflow_add-i : goal.overflow_add-i
-overflow_add-i c = omega arith
-
-pub overflow_add-k : goal.overflow_add-k
-overflow_add-k c = omega (arith, c.if-n-eq0.false)
-
-pub loop-i-smaller : goal.loop-i-smaller
-loop-i-smaller c = omega (arith, c.if-n-eq0.false)
-
-pub loop-i-preserved : goal.loop-i-preserved
-loop-i-preserved c = find-turn (size_of _) (kind_of_lem _) _ _ _ c.size_at-n.ensures.0 (test_of _) _ c.loop-i.invariant
-    c.if-n-eq0.false (sym c.meets_at.ensures ∙ c.if-meets_at.false)
+pub loop-n-preserved : goal.loop-n-preserved
+loop-n-preserved c =
+    let h = sized-has _ _ c.in-Some.ensures.0 in
+    find-turn (size_of _) (kind_of_lem _) _ _ _ h.0 (test_of _) _ c.loop-n.invariant h.1 (sym c.meets_at.ensures ∙ c.if-meets_at.false)
 
 pub returns : goal.returns
-returns c = find-done (size_of _) (kind_of_lem _) c.args.s.now c.loop-i.i (omega arith) (test_of _) _ c.loop-i.invariant
+returns c = find-stop (size_of _) (kind_of_lem _) _ _ _ (sym (sized-none _ c.in_default.ensures.0)) (test_of _) _ c.loop-n.invariant refl

@@ -2,4 +2,4 @@
 use Rattle.ait_numbers.proofs.tag05.identifier_out.Goals as goal
 
 pub returns : goal.returns
-returns c = rw (c.class_number.ensures, c.class_of-class.ensures)
+returns c = rw (c.class_number.ensures, c.class_of.ensures)

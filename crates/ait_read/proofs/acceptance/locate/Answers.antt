@@ -1,13 +1,13 @@
 -- `ait_read::acceptance::locate` meets its contract.
-use mathlib.Core.Path.{sym, ◌∙◌}
-use Rattle.ait_read.proofs.Laws.Acceptance.{located-refused, located-none, located-at}
+use mathlib.Core.Path.{◌≡◌, sym, ◌∙◌}
+use Rattle.std.proofs.Common.{rules, Err}
+use Rattle.ait_read.proofs.Laws.Acceptance.{located-refused, located-good}
 use Rattle.ait_read.proofs.acceptance.locate.Goals as goal
 
-pub returns-in-Refused : goal.returns-in-Refused
-returns-in-Refused c = located-refused _ _ _ (sym c.judge-judged.ensures ∙ c.in-Refused.is)
+pub returns-in_err-judge : goal.returns-in_err-judge
+returns-in_err-judge c =
+    let r : c.from_residual.result ≡ Err c.in_err-judge.field-0.0 = search rules in
+    r ∙ located-refused _ _ _ (sym c.judge.ensures ∙ c.in_err-judge.was)
 
-pub returns-in-At : goal.returns-in-At
-returns-in-At c = located-at _ _ _ (sym c.judge-judged.ensures ∙ c.in-Accepted.is) _ _ c.in-At.is
-
-pub returns-in-Nothing : goal.returns-in-Nothing
-returns-in-Nothing c = located-none _ _ _ (sym c.judge-judged.ensures ∙ c.in-Accepted.is) c.in-Nothing.is
+pub returns : goal.returns
+returns c = c.ok_or.ensures.value ∙ located-good _ _ _ (sym c.judge.ensures ∙ c.in_ok-judge.was)

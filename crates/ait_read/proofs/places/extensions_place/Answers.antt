@@ -1,14 +1,25 @@
 -- `ait_read::places::extensions_place` meets its contract.
 use mathlib.Core.Path.{◌∙◌}
-use Rattle.ait_read.specs.declared.steps.Step.TheVariants.{Extensions}
-use Rattle.ait_read.specs.Places.{extensions_at, repeated_at, step_in}
-use Rattle.ait_read.proofs.Laws.Places.{step_from, sound_repeated}
-use Rattle.ait_descriptors.proofs.Laws.Lists.{inside_of}
+use native.Mathlib.Omega.{arith}
+use Rattle.ait_descriptors.specs.declared.Repeated.TheVariants.{Bases}
+use Rattle.ait_descriptors.specs.Tag02.{extensions_in}
+use Rattle.ait_read.specs.Places.{repeated_at, extensions_at}
+use Rattle.ait_read.proofs.Laws.Places.{step-none, step-fits, step-is, sound_repeated, sound-extensions_in}
 use Rattle.ait_read.proofs.places.extensions_place.Goals as goal
 
+pub returns-in_err-base : goal.returns-in_err-base
+unfolding extensions_at
+returns-in_err-base c = c.from_residual.ensures ∙ step-none extensions_in sound-extensions_in _ (repeated_at c.args.scope c.args.j Bases c.args.k c.args.s.now) c.args.s.now
+    c.repeated_place.ensures c.in_err-base.was
+
 pub within-requires : goal.within-requires
-within-requires c = inside_of (repeated_at _ _ _ _) (sound_repeated _ _ _ _) _ c.args.s.now c.repeated_place.ensures
+within-requires c = λ u e. omega (
+  arith,
+  step-fits extensions_in sound-extensions_in _ (repeated_at c.args.scope c.args.j Bases c.args.k c.args.s.now) c.args.s.now c.repeated_place.ensures
+      (sound_repeated c.args.scope c.args.j Bases c.args.k c.args.s.now) _ c.in_ok-base.was _ c.part.ensures _ c.extensions_in.ensures u e,
+)
 
 pub returns : goal.returns
-unfolding extensions_at step_in
-returns c = c.within.ensures ∙ step_from Extensions _ _ _ c.repeated_place.ensures
+unfolding extensions_at
+returns c = c.within.ensures ∙ step-is extensions_in sound-extensions_in _ (repeated_at c.args.scope c.args.j Bases c.args.k c.args.s.now) c.args.s.now c.repeated_place.ensures
+    (sound_repeated c.args.scope c.args.j Bases c.args.k c.args.s.now) _ c.in_ok-base.was _ c.part.ensures _ c.extensions_in.ensures

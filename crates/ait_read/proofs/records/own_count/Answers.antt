@@ -1,6 +1,6 @@
 -- `ait_read::records::own_count` meets its contract.
 use mathlib.Core.Path.{ap, ◌∙◌}
-use Rattle.wire.specs.declared.Place.{Place}
+use Rattle.wire.specs.Places.{Place}
 use Rattle.ait_descriptors.specs.declared.Kind.TheVariants.{Descriptor}
 use Rattle.ait_descriptors.specs.Kinds.{count_at}
 use Rattle.ait_read.proofs.records.own_count.Goals as goal

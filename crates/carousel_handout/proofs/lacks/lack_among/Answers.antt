@@ -19,6 +19,9 @@ with_block-lack-requires c =
     let f = ap (λ (k : Lack). k.count) l.invariant.1 in
     omega (arith, e, f, c.requires, l.invariant.0)
 
+pub loop-b-smaller : goal.loop-b-smaller
+loop-b-smaller c = omega arith
+
 pub loop-b-preserved : goal.loop-b-preserved
 loop-b-preserved c =
     let l = c.loop-b in

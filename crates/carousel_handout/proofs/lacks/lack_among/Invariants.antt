@@ -7,6 +7,3 @@ use Rattle.carousel_handout.proofs.lacks.lack_among.Given as goal
 
 abbrev pub invariant-loop-b : goal.invariant-loop-b
 invariant-loop-b l = (l.b ≤ l.n) × (l.lack ≡ lack_of (clear_among l.words l.first l.b (l.n - l.b)))
-
-abbrev pub decreases-loop-b : goal.decreases-loop-b
-decreases-loop-b l = l.b

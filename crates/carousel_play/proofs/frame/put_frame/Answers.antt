@@ -11,7 +11,6 @@ pub returns : goal.returns
 returns c =
     let a = c.args in
     let h = a.h in
-    let w = then (first (head_bytes h.table h.extension h.version h.number h.last (12 + a.size)) c.put_head-end.ensures)
-    (message_head h.message h.identifier a.size) c.put_message.ensures in
+    let w = then (first (head_bytes h (12 + a.size)) c.put_head-end.ensures) (message_head h a.size) c.put_message.ensures in
     let e : 20 + a.size + 4 ≡ 24 + a.size = omega arith in
     (framed a.out.now h a.size c.requires.2 _ _ w.puts.0 c.put_crc.ensures.0, c.put_crc.ensures.1 ∙ e)

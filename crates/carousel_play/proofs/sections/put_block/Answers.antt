@@ -13,7 +13,7 @@ pub returns : goal.returns
 unfolding framed_by
 returns c =
     let a = c.args in
-    let p = carried_bytes a.number a.version a.block a.bytes.now in
-    let l = carried-size a.number a.version a.block a.bytes.now in
+    let p = carried_bytes a.m.number a.m.version a.block a.bytes.now in
+    let l = carried-size a.m.number a.m.version a.block a.bytes.now in
     let e : 24 + (6 + length a.bytes.now) ≡ 30 + length a.bytes.now = omega arith in
     (around a.out.now _ p _ _ (6 + length a.bytes.now) l (omega (arith, c.requires.1)) c.put_carried.ensures.0 c.put_frame.ensures.0, c.put_frame.ensures.1 ∙ e)

@@ -10,5 +10,6 @@ pub returns : goal.returns
 unfolding head_bytes
 returns c =
     let a = c.args in
-    let p = then (first {l = a.out.now} {i = 0} (a.table ∷ []) c.put-end.ensures) (spelled 2 (0xB000 + (9 + a.size))) c.put_sixteen-end.ensures in
-    (then (then p (spelled 2 a.extension) c.put_sixteen-end-2.ensures) ((0xC1 + 2 * a.version) ∷ a.number ∷ a.last ∷ []) c.put.ensures).puts
+    let h = a.h in
+    let p = then (first {l = a.out.now} {i = 0} (h.table ∷ []) c.put-end.ensures) (spelled 2 (0xB000 + (9 + a.size))) c.put_sixteen-end.ensures in
+    (then (then p (spelled 2 h.extension) c.put_sixteen-end-2.ensures) ((0xC1 + 2 * h.version) ∷ h.number ∷ h.last ∷ []) c.put.ensures).puts

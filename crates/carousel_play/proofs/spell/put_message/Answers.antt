@@ -9,6 +9,6 @@ pub returns : goal.returns
 unfolding message_head
 returns c =
     let a = c.args in
-    let p = then (first {l = a.out.now} {i = a.at} (0x11 ∷ 0x03 ∷ []) c.put-end.ensures) (spelled 2 a.message) c.put_sixteen-end.ensures in
-    let q = then (then p (spelled 4 a.identifier) c.put_thirty_two-end.ensures) (0xFF ∷ 0 ∷ []) c.put-end-2.ensures in
+    let p = then (first {l = a.out.now} {i = a.at} (0x11 ∷ 0x03 ∷ []) c.put-end.ensures) (spelled 2 a.h.message) c.put_sixteen-end.ensures in
+    let q = then (then p (spelled 4 a.h.identifier) c.put_thirty_two-end.ensures) (0xFF ∷ 0 ∷ []) c.put-end-2.ensures in
     (then q (spelled 2 a.size) c.put_sixteen.ensures).puts

@@ -16,19 +16,18 @@ all : (s : Start) → length (map number_in s.args.ms) ≡ most_modules
 all s = length-map s.args.ms number_in ∙ s.well_formed.0.1.0.1
 
 pub loop-i-init : goal.loop-i-init
-loop-i-init c = (omega arith, length-replicate {A = ℕ} most_modules 0, refl)
+loop-i-init c = (length-replicate {A = ℕ} most_modules 0, refl)
 
 pub loop-i-preserved : goal.loop-i-preserved
 loop-i-preserved c =
     let ms = c.args.ms in
     let i = c.loop-i.i in (
-      omega arith,
-      length-set c.loop-i.ns i _ ∙ c.loop-i.invariant.1,
-      filled_next 0 c.loop-i.ns (map number_in ms) i _ (omega arith) (omega (arith, all (goal.at.loop-i-preserved c).Start)) (sym (get_or-map number_in ms i unused)) c.loop-i.invariant.2,
+      length-set c.loop-i.ns i _ ∙ c.loop-i.invariant.0,
+      filled_next 0 c.loop-i.ns (map number_in ms) i _ (omega arith) (omega (arith, all (goal.at.loop-i-preserved c).Start)) (sym (get_or-map number_in ms i unused)) c.loop-i.invariant.1,
     )
 
 pub returns : goal.returns
 returns c =
     let ms = c.args.ms in
     let i = c.loop-i.i in
-    sym (take_all i c.loop-i.ns (omega arith)) ∙ c.loop-i.invariant.2 ∙ take_all i (map number_in ms) (omega (arith, all (goal.at.returns c).Start))
+    sym (take_all i c.loop-i.ns (omega arith)) ∙ c.loop-i.invariant.1 ∙ take_all i (map number_in ms) (omega (arith, all (goal.at.returns c).Start))

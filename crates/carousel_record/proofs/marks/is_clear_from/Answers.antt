@@ -15,7 +15,7 @@ abbrev given : At-loop-i → List ℕ
 given h = h.args.words.now
 
 pub loop-i-init : goal.loop-i-init
-loop-i-init c = (omega arith, refl)
+loop-i-init c = refl
 
 -- nothing is left of n: the rest of the words is clear, or not
 pub returns-then-left-eq0 : goal.returns-then-left-eq0
@@ -26,22 +26,20 @@ returns-then-left-eq0 c =
     c.is_zero.ensures
     ∙ ap (λ (us : List ℕ). clear_from 0 us) (take_all (length ws - l.i) (drop l.i ws) (omega arith))
     ∙ ap (λ (m : ℕ). clear_from m (drop l.i ws)) (sym c.if-left-eq0.true)
-    ∙ l.invariant.1
+    ∙ l.invariant
 
 pub returns-then-not-is_word_clear : goal.returns-then-not-is_word_clear
 returns-then-not-is_word_clear c =
     let l = c.loop-i in
-    sym (word-off (given (goal.at.returns-then-not-is_word_clear c).At-loop-i) l.i l.left (omega arith) (sym c.is_word_clear.ensures ∙ c.if-not-is_word_clear.true)) ∙ l.invariant.1
+    sym (word-off (given (goal.at.returns-then-not-is_word_clear c).At-loop-i) l.i l.left (omega arith) (sym c.is_word_clear.ensures ∙ c.if-not-is_word_clear.true)) ∙ l.invariant
 
 pub loop-i-preserved : goal.loop-i-preserved
 loop-i-preserved c =
-    let l = c.loop-i in (
-      omega arith,
-      rw c.after_word-left.ensures
-          (word_next (given (goal.at.loop-i-preserved c).At-loop-i) l.i l.left (omega arith) (sym c.is_word_clear.ensures ∙ c.if-not-is_word_clear.false) ∙ l.invariant.1),
-    )
+    let l = c.loop-i in
+    rw c.saturating_sub-left.ensures
+    (word_next (given (goal.at.loop-i-preserved c).At-loop-i) l.i l.left (omega arith) (sym c.is_word_clear.ensures ∙ c.if-not-is_word_clear.false) ∙ l.invariant)
 
 pub returns : goal.returns
 returns c =
     let l = c.loop-i in
-    sym (word-done (given (goal.at.returns c).At-loop-i) l.i l.left (omega arith)) ∙ l.invariant.1
+    sym (word-done (given (goal.at.returns c).At-loop-i) l.i l.left (omega arith)) ∙ l.invariant

@@ -4,15 +4,15 @@ use native.Mathlib.Omega.{arith}
 use Rattle.carousel_record.proofs.Laws.Words.{zero-next, zero-done}
 use Rattle.carousel_record.proofs.marks.is_zero.Goals as goal
 
-pub loop-k-init : goal.loop-k-init
-loop-k-init c = (omega arith, refl)
+pub loop-w-init : goal.loop-w-init
+loop-w-init c = refl
 
-pub loop-k-preserved : goal.loop-k-preserved
-loop-k-preserved c =
-    let l = c.loop-k in
-    (omega arith, zero-next c.args.words.now l.all l.k (omega arith) ∙ l.invariant.1)
+pub loop-w-preserved : goal.loop-w-preserved
+loop-w-preserved c =
+    let l = c.loop-w in
+    zero-next c.args.words.now l.all l.w-index (omega arith) ∙ l.invariant
 
 pub returns : goal.returns
 returns c =
-    let l = c.loop-k in
-    sym (zero-done c.args.words.now l.all l.k (omega arith)) ∙ l.invariant.1
+    let l = c.loop-w in
+    sym (zero-done c.args.words.now l.all l.w-index (omega arith)) ∙ l.invariant

@@ -1,7 +1,7 @@
 -- `carousel_record::rule::is_in_place` meets its contract. The invariant: the words left keep to the numbers of blocks left just where all keep to all.
 use mathlib.Core.Path.{◌≡◌}
 use mathlib.Core.List.{map}
-use Prim.Native.Nat.{◌-◌, ◌*◌, ◌≤◌}
+use Prim.Native.Nat.{◌*◌, ◌≤◌}
 use lib.ListN.{take, drop}
 use Rattle.carousel_record.specs.Blocks.{blocks_of}
 use Rattle.carousel_record.specs.Marks.{module_words, marks_within}
@@ -14,6 +14,3 @@ invariant-loop-i l =
     (l.i ≤ l.n)
     × (marks_within module_words (map (λ z. blocks_of l.c.block_size z) (sizes_of (drop l.i (map listed_in (take l.n l.ms))))) (drop (module_words * l.i) l.words)
     ≡ marks_within module_words (map (λ z. blocks_of l.c.block_size z) (sizes_of (map listed_in (take l.n l.ms)))) l.words)
-
-abbrev pub decreases-loop-i : goal.decreases-loop-i
-decreases-loop-i l = l.n - l.i

@@ -1,5 +1,4 @@
 -- `carousel_step::announce::bare` meets its contract. The invariant: the record has the first i modules, `sum` is their sizes together, and the others begin at byte `at`.
-use Prim.Native.Nat.{◌-◌, ◌≤◌}
 use mathlib.Core.Path.{◌≡◌}
 use Rattle.carousel_messages.specs.Heard.{list_of}
 use Rattle.carousel_messages.proofs.Laws.Reading.{Reading}
@@ -7,7 +6,4 @@ use Rattle.carousel_step.proofs.Laws.Afresh.{filled, before}
 use Rattle.carousel_step.proofs.announce.bare.Given as goal
 
 abbrev pub invariant-loop-i : goal.invariant-loop-i
-invariant-loop-i l = (l.i ≤ l.a.count) × (l.sum ≡ before (list_of l.list) l.i) × (l.next ≡ filled l.a (list_of l.list) l.i) × (Reading l.list l.i l.at)
-
-abbrev pub decreases-loop-i : goal.decreases-loop-i
-decreases-loop-i l = l.a.count - l.i
+invariant-loop-i l = (l.sum ≡ before (list_of l.list) l.i) × (l.next ≡ filled l.fn.a (list_of l.list) l.i) × (Reading l.list l.i l.at)

@@ -1,5 +1,4 @@
 -- `carousel_step::announce::is_same_list` meets its contract. The invariant: what is left is the same just where all is, and the announced modules that are left begin at byte `at`.
-use Prim.Native.Nat.{◌-◌, ◌≤◌}
 use mathlib.Core.Path.{◌≡◌}
 use mathlib.Core.List.{map}
 use lib.ListN.{drop, take}
@@ -11,7 +10,4 @@ use Rattle.carousel_step.proofs.announce.is_same_list.Given as goal
 
 abbrev pub invariant-loop-i : goal.invariant-loop-i
 invariant-loop-i l =
-    (l.i ≤ l.n) × (same_modules (drop l.i (map listed_in (take l.n l.ms))) (drop l.i (list_of l.list)) ≡ same_modules (map listed_in (take l.n l.ms)) (list_of l.list)) × (Reading l.list l.i l.at)
-
-abbrev pub decreases-loop-i : goal.decreases-loop-i
-decreases-loop-i l = l.n - l.i
+    (same_modules (drop l.i (map listed_in (take l.n l.ms))) (drop l.i (list_of l.list)) ≡ same_modules (map listed_in (take l.n l.ms)) (list_of l.list)) × (Reading l.list l.i l.at)

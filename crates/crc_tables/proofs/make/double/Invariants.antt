@@ -1,12 +1,9 @@
 -- `crc_tables::make::double` meets its contract. The invariant: so many entries stand.
-use Prim.Native.Nat.{◌+◌, ◌-◌, ◌≤◌}
+use Prim.Native.Nat.{◌+◌}
 use mathlib.Core.Path.{◌≡◌}
 use lib.ListN.{length}
 use Rattle.crc_tables.proofs.Laws.Made.{Made}
 use Rattle.crc_tables.proofs.make.double.Given as goal
 
 abbrev pub invariant-loop-j : goal.invariant-loop-j
-invariant-loop-j l = (l.j ≤ l.w) × (length l.t ≡ length l.initial.t) × Made l.t (l.at + l.w + l.j)
-
-abbrev pub decreases-loop-j : goal.decreases-loop-j
-decreases-loop-j l = l.w - l.j
+invariant-loop-j l = (length l.t ≡ length l.initial.t) × Made l.t (l.at + l.w + l.j)

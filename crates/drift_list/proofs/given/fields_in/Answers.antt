@@ -9,9 +9,9 @@ use Rattle.drift_list.proofs.given.fields_in.Goals as goal
 pub returns : goal.returns
 unfolding fix_in
 returns c =
-    let b = c.magnitude-buoy.ensures ∙ ap mag (kept _ _ c.cell_at.ensures) in
-    let s = c.magnitude.ensures ∙ ap mag (kept _ _ c.cell_at-2.ensures) in
-    let x = kept _ _ c.cell_at-longitude.ensures in
-    let y = kept _ _ c.cell_at-latitude.ensures in
-    let m = c.magnitude-2.ensures ∙ ap mag (kept _ _ c.cell_at-3.ensures) in
+    let b = c.magnitude.ensures ∙ ap mag (kept _ _ c.cell_at.ensures) in
+    let s = c.magnitude-2.ensures ∙ ap mag (kept _ _ c.cell_at-2.ensures) in
+    let x = kept _ _ c.cell_at-3.ensures in
+    let y = kept _ _ c.cell_at-4.ensures in
+    let m = c.magnitude-3.ensures ∙ ap mag (kept _ _ c.cell_at-5.ensures) in
     λ i. record { buoy = b i; state = s i % 2 ^ 8; longitude = x i; latitude = y i; minute = m i % 2 ^ 16 }

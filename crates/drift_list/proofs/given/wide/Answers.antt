@@ -1,56 +1,60 @@
--- `drift_list::given::wide` meets its contract.
-use Prim.Native.Nat.{ℕ, ◌^◌, ◌<◌, ◌≤◌}
-use mathlib.Core.Path.{◌≡◌, sym, ap, subst, ◌∙◌}
-use mathlib.Core.Bool.{false}
+-- `drift_list::given::wide` meets its contract: each `||` is the definition's.
+use Prim.Native.Nat.{◌^◌}
+use mathlib.Core.Path.{◌≡◌, refl, sym, ap, ◌∙◌}
+use mathlib.Core.Bool.{Bool, true, false, ◌||◌}
+use lib.Dec.{leb}
 use lib.Signed.{mag}
-use Rattle.drift_list.specs.Writing.{cell, outside}
-use Rattle.drift_list.proofs.Laws.Cells.{kept, wide-1, wide-2, wide-3, wide-4, wide-5}
+use Rattle.drift_list.specs.Writing.{cell, outside, outside_signed, wide_at}
+use Rattle.drift_list.proofs.Laws.Cells.{kept}
 use Rattle.drift_list.proofs.given.wide.Goals as goal
-use Rattle.drift_list.proofs.given.wide.Goals.{After-is_outside, After-is_outside-2, After-magnitude, After-magnitude-2, Else-is_outside, Else-is_outside-2, Else-magnitude-ge134217728}
-use Rattle.drift_list.proofs.given.wide.Goals.{Else-magnitude-ge67108864}
+use Rattle.drift_list.proofs.given.wide.Goals.{Joined-is_outside, Joined-is_outside-2, Joined-magnitude-ge134217728}
+use Rattle.drift_list.proofs.given.wide.Goals.{then-is_outside, else-is_outside, then-is_outside-2, else-is_outside-2, then-magnitude-ge134217728, else-magnitude-ge134217728}
 
--- what each number is known to be
-t1 : (c : After-is_outside) → c.is_outside.result ≡ outside (2 ^ 20) (cell c.args.numbers.now 0)
-t1 c = c.is_outside.ensures ∙ ap (outside (2 ^ 20)) (kept _ _ c.cell_at.ensures)
+-- a `||` of code, by its first test
+taken : (v r a b : Bool) → v ≡ r → r ≡ true → r ≡ a → v ≡ (a || b)
+taken v r a b e t q = e ∙ t ∙ sym (ap (λ (x : Bool). x || b) (sym q ∙ t))
 
-t2 : (c : After-is_outside-2) → c.is_outside-2.result ≡ outside (2 ^ 2) (cell c.args.numbers.now 1)
-t2 c = c.is_outside-2.ensures ∙ ap (outside (2 ^ 2)) (kept _ _ c.cell_at-2.ensures)
+left : (r a b s : Bool) → r ≡ false → r ≡ a → s ≡ b → s ≡ (a || b)
+left r a b s t q e = e ∙ sym (ap (λ (x : Bool). x || b) (sym q ∙ t))
 
-t3 : (c : After-magnitude) → c.magnitude.result ≡ mag (cell c.args.numbers.now 2)
-t3 c = c.magnitude.ensures ∙ ap mag (kept _ _ c.cell_at-3.ensures)
+first : (c : Joined-is_outside) → let ns = c.args.numbers.now in
+    c.if-is_outside.value ≡ (outside (2 ^ 20) (cell ns 0) || outside (2 ^ 2) (cell ns 1))
+first c =
+    let e = c.is_outside.ensures ∙ ap (outside (2 ^ 20)) (kept _ _ c.cell_at.ensures) in
+    elim c.if-is_outside.branch [
+      | then-is_outside w ↦ taken _ _ _ _ w.value-is w.if-is_outside.true e
+      | else-is_outside w ↦ w.value-is ∙ left _ _ _ _ w.if-is_outside.false e
+          (w.is_outside-else-is_outside.ensures ∙ ap (outside (2 ^ 2)) (kept _ _ w.cell_at-else-is_outside.ensures))
+    ]
 
-t4 : (c : After-magnitude-2) → c.magnitude-2.result ≡ mag (cell c.args.numbers.now 3)
-t4 c = c.magnitude-2.ensures ∙ ap mag (kept _ _ c.cell_at-4.ensures)
+second : (c : Joined-is_outside-2) → let ns = c.args.numbers.now in
+    c.if-is_outside-2.value ≡ (outside (2 ^ 20) (cell ns 0) || outside (2 ^ 2) (cell ns 1) || outside_signed (2 ^ 27) (cell ns 2))
+second c =
+    let e = first (goal.at.Joined-is_outside-2 c).Joined-is_outside in
+    elim c.if-is_outside-2.branch [
+      | then-is_outside-2 w ↦ taken _ _ _ _ w.value-is w.if-is_outside-2.true e
+      | else-is_outside-2 w ↦ w.value-is ∙ left _ _ _ _ w.if-is_outside-2.false e
+          (ap (leb (2 ^ 27)) (w.magnitude.ensures ∙ ap mag (kept _ _ w.cell_at-else-is_outside-2.ensures)))
+    ]
 
-n1 : (c : Else-is_outside) → outside (2 ^ 20) (cell c.args.numbers.now 0) ≡ false
-n1 c = sym (t1 (goal.at.Else-is_outside c).After-is_outside) ∙ c.if-is_outside.false
-
-n2 : (c : Else-is_outside-2) → outside (2 ^ 2) (cell c.args.numbers.now 1) ≡ false
-n2 c = sym (t2 (goal.at.Else-is_outside-2 c).After-is_outside-2) ∙ c.if-is_outside-2.false
-
-n3 : (c : Else-magnitude-ge134217728) → mag (cell c.args.numbers.now 2) < 2 ^ 27
-n3 c = subst (λ (n : ℕ). n < 2 ^ 27) (t3 (goal.at.Else-magnitude-ge134217728 c).After-magnitude) c.if-magnitude-ge134217728.false
-
-n4 : (c : Else-magnitude-ge67108864) → mag (cell c.args.numbers.now 3) < 2 ^ 26
-n4 c = subst (λ (n : ℕ). n < 2 ^ 26) (t4 (goal.at.Else-magnitude-ge67108864 c).After-magnitude-2) c.if-magnitude-ge67108864.false
-
-pub returns-then-is_outside : goal.returns-then-is_outside
-returns-then-is_outside c = wide-1 _ (sym (t1 (goal.at.returns-then-is_outside c).After-is_outside) ∙ c.if-is_outside.true)
-
-pub returns-then-is_outside-2 : goal.returns-then-is_outside-2
-returns-then-is_outside-2 c = wide-2 _ (n1 (goal.at.returns-then-is_outside-2 c).Else-is_outside) (sym (t2 (goal.at.returns-then-is_outside-2 c).After-is_outside-2) ∙ c.if-is_outside-2.true)
-
-pub returns-then-magnitude-ge134217728 : goal.returns-then-magnitude-ge134217728
-returns-then-magnitude-ge134217728 c = wide-3 _ (n1 (goal.at.returns-then-magnitude-ge134217728 c).Else-is_outside) (n2 (goal.at.returns-then-magnitude-ge134217728 c).Else-is_outside-2) (subst
-    (λ (n : ℕ). 2 ^ 27 ≤ n) (t3 (goal.at.returns-then-magnitude-ge134217728 c).After-magnitude) c.if-magnitude-ge134217728.true)
+third : (c : Joined-magnitude-ge134217728) → let ns = c.args.numbers.now in
+    c.if-magnitude-ge134217728.value
+    ≡ (outside (2 ^ 20) (cell ns 0) || outside (2 ^ 2) (cell ns 1) || outside_signed (2 ^ 27) (cell ns 2) || outside_signed (2 ^ 26) (cell ns 3))
+third c =
+    let e = second (goal.at.Joined-magnitude-ge134217728 c).Joined-is_outside-2 in
+    elim c.if-magnitude-ge134217728.branch [
+      | then-magnitude-ge134217728 w ↦ taken _ _ _ _ w.value-is w.if-magnitude-ge134217728.true e
+      | else-magnitude-ge134217728 w ↦ w.value-is ∙ left _ _ _ _ w.if-magnitude-ge134217728.false e
+          (ap (leb (2 ^ 26)) (w.magnitude-else-magnitude-ge134217728.ensures ∙ ap mag (kept _ _ w.cell_at-else-magnitude-ge134217728.ensures)))
+    ]
 
 pub returns-then-magnitude-ge67108864 : goal.returns-then-magnitude-ge67108864
+unfolding wide_at
 returns-then-magnitude-ge67108864 c =
-    wide-4 _ (n1 (goal.at.returns-then-magnitude-ge67108864 c).Else-is_outside) (n2 (goal.at.returns-then-magnitude-ge67108864 c).Else-is_outside-2) (n3
-    (goal.at.returns-then-magnitude-ge67108864 c).Else-magnitude-ge134217728) (subst (λ (n : ℕ). 2 ^ 26 ≤ n) (t4
-    (goal.at.returns-then-magnitude-ge67108864 c).After-magnitude-2) c.if-magnitude-ge67108864.true)
+    taken _ _ _ _ refl c.if-magnitude-ge67108864.true (third (goal.at.returns-then-magnitude-ge67108864 c).Joined-magnitude-ge134217728)
 
-pub returns : goal.returns
-returns c =
-    c.is_outside-3.ensures ∙ ap (outside (2 ^ 14)) (kept _ _ c.cell_at-5.ensures) ∙ wide-5 _ (n1 (goal.at.returns c).Else-is_outside) (n2 (goal.at.returns c).Else-is_outside-2) (n3
-    (goal.at.returns c).Else-magnitude-ge134217728) (n4 (goal.at.returns c).Else-magnitude-ge67108864)
+pub returns-else-magnitude-ge67108864 : goal.returns-else-magnitude-ge67108864
+unfolding wide_at
+returns-else-magnitude-ge67108864 c =
+    left _ _ _ _ c.if-magnitude-ge67108864.false (third (goal.at.returns-else-magnitude-ge67108864 c).Joined-magnitude-ge134217728)
+    (c.is_outside-else-magnitude-ge67108864.ensures ∙ ap (outside (2 ^ 14)) (kept _ _ c.cell_at-else-magnitude-ge67108864.ensures))

@@ -1,11 +1,17 @@
-use Rattle.drift_list.proofs.Laws.Faults.{fault-three, fault_zero, fault-other}
+-- `drift_list::judge::state_fault` meets its contract.
+use native.Mathlib.Omega.{arith}
+use Rattle.std.proofs.lemmas.Bool.Decides.{nat_tests}
+use Rattle.drift_list.specs.Values.{state_fault}
 use Rattle.drift_list.proofs.judge.state_fault.Goals as goal
 
-pub returns-then-state-ge3 : goal.returns-then-state-ge3
-returns-then-state-ge3 c = fault-three _ _ c.if-state-ge3.true
+pub returns-in-0 : goal.returns-in-0
+unfolding state_fault
+returns-in-0 c = grind (arith, nat_tests)
 
-pub returns-then-state-eq0 : goal.returns-then-state-eq0
-returns-then-state-eq0 c = fault_zero _ _ c.if-state-ge3.false c.if-state-eq0.true
+pub returns-in-1 : goal.returns-in-1
+unfolding state_fault
+returns-in-1 c = let w = c.in-1 in grind (arith, nat_tests)
 
-pub returns : goal.returns
-returns c = fault-other _ _ c.if-state-ge3.false c.if-state-eq0.false
+pub returns-in_default : goal.returns-in_default
+unfolding state_fault
+returns-in_default c = let w = c.in_default in grind (arith, nat_tests)

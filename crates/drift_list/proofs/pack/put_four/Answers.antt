@@ -1,21 +1,29 @@
 -- `drift_list::pack::put_four` meets its contract.
-use Prim.Native.Nat.{◌+◌, ◌/◌, ◌%◌}
+use Prim.Native.Nat.{ℕ, ◌+◌, ◌-◌, ◌/◌, ◌%◌, ◌≤◌}
+use mathlib.Core.Path.{◌≡◌, ap, ◌∙◌}
+use mathlib.Core.List.{List, [], ◌∷◌, append_assoc}
 use native.Mathlib.Omega.{arith}
-use lib.ListN.{length-set}
-use Rattle.drift_list.proofs.Laws.Puts.{four-spelled, room2, room3}
+use lib.ListN.{length}
+use lib.Seq.{sets, sets-eq}
+use Rattle.std.proofs.lemmas.List.{drop-drop}
+use borrow.Rule.Slice.PartMut.{put_mid}
+use mir.Syntax.{w32}
+use Rattle.std.specs.Int.{to_be_bytes}
+use Rattle.wire.specs.Fields.{spelled}
+use Rattle.wire.proofs.Laws.Fields.{spelled_length}
 use Rattle.drift_list.proofs.pack.put_four.Goals as goal
 
-pub bounds-out-at-2 : goal.bounds-out-at-2
-bounds-out-at-2 c = let h = c.requires in rw length-set (omega arith)
+bytes-spelled : (x : ℕ) → to_be_bytes w32 x ≡ spelled 4 x
+unfolding spelled
+bytes-spelled x = let z : x % 256 ≡ x / 1 % 256 = omega arith in ap (λ (b : ℕ). x / 16777216 % 256 ∷ x / 65536 % 256 ∷ x / 256 % 256 ∷ b ∷ []) z
 
-pub bounds-out-at-3 : goal.bounds-out-at-3
-bounds-out-at-3 c = let a = c.args in let h = c.requires in room2 a.out.now a.at (a.x / 16777216) (a.at + 1) (a.x / 65536 % 256) (a.at + 2) (omega arith)
-
-pub bounds-out-at-4 : goal.bounds-out-at-4
-bounds-out-at-4 c =
-    let a = c.args in
-    let h = c.requires in
-    room3 a.out.now a.at (a.x / 16777216) (a.at + 1) (a.x / 65536 % 256) (a.at + 2) (a.x / 256 % 256) (a.at + 3) (omega arith)
+-- a part that is written is put
+part-put : (l : List ℕ) (i n : ℕ) (bs : List ℕ) → n ≡ length bs → i + length bs ≤ length l → put_mid i n l bs ≡ sets l i bs
+part-put l i n bs e h = rw (e, sets-eq bs l i h, append_assoc, drop-drop (length bs) i l)
 
 pub returns : goal.returns
-returns c = four-spelled c.args.out.now c.args.at c.args.x c.ranges.x.fits
+returns c =
+    let a = c.args in
+    let e : c.copy_from_slice.new.self ≡ spelled 4 a.x = c.copy_from_slice.ensures.after ∙ c.to_be_bytes.ensures ∙ bytes-spelled a.x in
+    let w = spelled_length 4 a.x in
+    ap (put_mid a.at (a.at + 4 - a.at) a.out.now) e ∙ part-put a.out.now a.at (a.at + 4 - a.at) (spelled 4 a.x) (omega arith) (omega arith)

@@ -1,5 +1,5 @@
 -- `drift_report::lines::put_fixes` meets its contract. The invariant: the lines of the records that are left, put from here on, leave what all of them leave.
-use Prim.Native.Nat.{ℕ, ◌-◌, ◌≤◌}
+use Prim.Native.Nat.{ℕ, ◌-◌}
 use mathlib.Core.Path.{◌≡◌}
 use mathlib.Core.List.{List}
 use lib.ListN.{length}
@@ -15,8 +15,5 @@ abbrev pub fixes : List ℕ → ℕ → Fix
 fixes s k = fix_of (fix_at s k)
 
 abbrev pub invariant-loop-k : goal.invariant-loop-k
-invariant-loop-k l = (length l.out ≡ length l.initial.out) × (l.k ≤ l.count) × Writing l.out l.end (fix_lines (l.count - l.k) l.k (fixes l.list)) l.initial.out l.at (fix_lines l.count 0
+invariant-loop-k l = (length l.out ≡ length l.initial.out) × Writing l.out l.end (fix_lines (l.count - l.k) l.k (fixes l.list)) l.initial.out l.at (fix_lines l.count 0
     (fixes l.list))
-
-abbrev pub decreases-loop-k : goal.decreases-loop-k
-decreases-loop-k l = l.count - l.k

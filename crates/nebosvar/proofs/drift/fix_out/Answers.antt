@@ -5,13 +5,13 @@ use mir.ValLaws.{to_z-of_z}
 use Rattle.nebosvar.specs.Drift.{fix_out}
 use Rattle.nebosvar.proofs.drift.fix_out.Goals as goal
 
-pub returns-in-Refused : goal.returns-in-Refused
-returns-in-Refused c = sym (ap fix_out c.in-Refused.is)
+pub returns-in-Err : goal.returns-in-Err
+returns-in-Err c = sym (ap fix_out c.in-Err.is)
 
-pub returns-in-Found : goal.returns-in-Found
-returns-in-Found c =
-    let f = c.in-Found.fix in
+pub returns-in-Ok : goal.returns-in-Ok
+returns-in-Ok c =
+    let f = c.in-Ok.fix in
     let x = to_z-of_z w32 f.longitude (record { sfits = c.struct_told-1.given.1.1.0.1 }) in
     let y = to_z-of_z w32 f.latitude (record { sfits = c.struct_told-1.given.1.1.1.0.1 }) in
     (λ i. record { buoy = f.buoy; longitude = x i; latitude = y i; minute = f.minute; state = c.state_number.ensures i; refusal = 0 })
-    ∙ sym (ap fix_out c.in-Found.is)
+    ∙ sym (ap fix_out c.in-Ok.is)

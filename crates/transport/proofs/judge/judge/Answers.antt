@@ -1,45 +1,53 @@
--- `transport::judge::judge` meets its contract: refused; by a last packet of the stretch; by none; or by the one in the state.
-use Prim.Native.Nat.{ℕ}
-use mathlib.Core.Path.{◌≡◌, sym, ap, ◌∙◌}
-use mathlib.Core.List.{List}
+-- `transport::judge::judge` meets its contract: refused; by the last packet; by none; or by the one in the state.
+use mathlib.Core.Path.{◌≡◌, sym, ap, subst, ◌∙◌}
 use native.Mathlib.Omega.{arith}
 use lib.Seq.{length-take-le}
+use borrow.Author.Rules.{rules}
+use Rattle.std.proofs.Common.{Ok, Err, IfSome, option_copied}
+use Rattle.wire.proofs.Laws.Outcomes.{refused_by_lem, not_refused}
 use Rattle.transport.specs.Packet.{packet_length, packet_refusal}
-use Rattle.transport.specs.Pieces.{judged_after}
-use Rattle.transport.proofs.Laws.Judged.{judged-refused, inside, same_part, judged_in, judged-first, judged-past}
+use Rattle.transport.specs.State.{last_in}
+use Rattle.transport.specs.Pieces.{last_seen}
+use Rattle.transport.proofs.Laws.Judged.{judged-refused, judged-by, judged-first, judged-past}
 use Rattle.transport.proofs.Laws.Rule.{full}
 use Rattle.transport.proofs.judge.judge.Goals as goal
-use Rattle.transport.proofs.judge.judge.Goals.{Else-n-ne0}
+use Rattle.transport.proofs.judge.judge.Goals.{In_ok-judge_packet, In_default}
 
-not-refused : (c : Else-n-ne0) → packet_refusal c.args.pid c.args.p.now ≡ 0
-not-refused c = sym c.packet_refusal-n.ensures.0 ∙ c.if-n-ne0.false
+clear : (c : In_ok-judge_packet) → packet_refusal c.args.pid c.args.p.now ≡ 0
+clear c = not_refused _ tt tt (sym c.in_ok-judge_packet.was ∙ c.judge_packet.ensures)
 
-pub returns-then-n-ne0 : goal.returns-then-n-ne0
-returns-then-n-ne0 c = judged-refused _ _ _ _ c.packet_refusal-n.ensures.0 c.if-n-ne0.true
+-- no packet of the stretch is the last
+still : (c : In_default) → last_seen (option_copied c.args.last) c.args.state.now ≡ last_in c.args.state.now
+still c = ap (λ o. last_seen (option_copied o) c.args.state.now) c.in_default.is
 
-pub slice_bounds-judge_after-end : goal.slice_bounds-judge_after-end
-slice_bounds-judge_after-end c =
-    let i = inside c.args.packets.now c.args.last c.if-last-packets.true (full _ _ (c.requires.1 c.if-last-packets.true)) in
-    omega (arith, i)
+pub returns-in_err-judge_packet : goal.returns-in_err-judge_packet
+returns-in_err-judge_packet c =
+    let r : c.from_residual.result ≡ Err c.in_err-judge_packet.field-0.0 = search rules in
+    let n = refused_by_lem _ _ tt (sym c.in_err-judge_packet.was ∙ c.judge_packet.ensures) in
+    r ∙ judged-refused _ _ _ _ n.0 (λ z. n.1 (sym n.0 ∙ z))
 
-pub returns-then-last-packets : goal.returns-then-last-packets
-returns-then-last-packets c =
-    c.judge_after.ensures
-    ∙ ap (λ (l : List ℕ). judged_after l c.args.p.now) (same_part c.args.packets.now c.args.last 188)
-    ∙ judged_in c.args.pid c.args.packets.now c.args.last c.args.state.now c.args.p.now (not-refused (goal.at.returns-then-last-packets c).Else-n-ne0) c.if-last-packets.true
+pub judge_after-requires : goal.judge_after-requires
+judge_after-requires c = full _ _ (subst (λ o. IfSome (option_copied o) (λ l. packet_refusal c.args.pid l ≡ 0)) c.in-Some.is c.requires.1)
+
+pub returns-in-Some : goal.returns-in-Some
+returns-in-Some c =
+    ap Ok c.judge_after.ensures
+    ∙ judged-by c.args.pid c.args.state.now c.args.p.now (clear (goal.at.returns-in-Some c).In_ok-judge_packet) (option_copied c.args.last) _
+    (ap (λ o. last_seen (option_copied o) c.args.state.now) c.in-Some.is)
 
 pub returns-then-state-eq0 : goal.returns-then-state-eq0
 returns-then-state-eq0 c =
-    judged-first c.args.pid c.args.packets.now c.args.last c.args.state.now c.args.p.now (not-refused (goal.at.returns-then-state-eq0 c).Else-n-ne0) (omega
-    (arith, c.if-last-packets.false)) c.if-state-eq0.true
+    let k = goal.at.returns-then-state-eq0 c in
+    judged-first c.args.pid c.args.state.now c.args.p.now (clear k.In_ok-judge_packet) (option_copied c.args.last) (still k.In_default) c.if-state-eq0.true
 
-pub slice_bounds-judge_after-end-2 : goal.slice_bounds-judge_after-end-2
-slice_bounds-judge_after-end-2 c = sym (length-take-le packet_length c.args.state.now (omega (arith, c.requires.0)))
+pub slice_bounds-judge_after-end : goal.slice_bounds-judge_after-end
+slice_bounds-judge_after-end c = sym (length-take-le packet_length c.args.state.now (omega (arith, c.requires.0)))
 
 pub judge_after-requires-2 : goal.judge_after-requires-2
 judge_after-requires-2 c = length-take-le packet_length c.args.state.now (omega (arith, c.requires.0))
 
 pub returns : goal.returns
 returns c =
-    c.judge_after-2.ensures
-    ∙ judged-past c.args.pid c.args.packets.now c.args.last c.args.state.now c.args.p.now (not-refused (goal.at.returns c).Else-n-ne0) (omega (arith, c.if-last-packets.false)) c.if-state-eq0.false
+    let k = goal.at.returns c in
+    ap Ok c.judge_after-2.ensures
+    ∙ judged-past c.args.pid c.args.state.now c.args.p.now (clear k.In_ok-judge_packet) (option_copied c.args.last) (still k.In_default) c.if-state-eq0.false

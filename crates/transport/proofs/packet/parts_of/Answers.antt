@@ -1,13 +1,12 @@
 -- `transport::packet::parts_of` meets its contract: no payload, one that goes on, one in which a section begins.
-use Prim.Native.Nat.{ℕ, ◌+◌, ◌≤◌}
+use Prim.Native.Nat.{ℕ, ◌+◌}
 use mathlib.Core.Path.{◌≡◌, sym, ap, subst, ◌∙◌}
 use mathlib.Core.Bool.{true, false}
 use mathlib.Core.List.{List}
-use native.Mathlib.Omega.{arith}
 use lib.ListN.{length}
 use Rattle.wire.specs.Fields.{byte_at}
 use Rattle.transport.specs.Packet.{has_payload, payload_at}
-use Rattle.transport.proofs.Laws.Packets.{Lies, lies-idle, lies-on, lies-start, payload-inside}
+use Rattle.transport.proofs.Laws.Packets.{Lies, lies-idle, lies-on, lies-start}
 use Rattle.transport.proofs.packet.parts_of.Goals as goal
 use Rattle.transport.proofs.packet.parts_of.Goals.{After-payload_at-at, Else-not-has_payload, Start}
 
@@ -20,24 +19,14 @@ paid c = sym c.has_payload.ensures ∙ c.if-not-has_payload.false
 pub returns-then-not-has_payload : goal.returns-then-not-has_payload
 returns-then-not-has_payload c =
     let l = lies-idle (packet (goal.at.returns-then-not-has_payload c).Start) (sym c.has_payload.ensures ∙ c.if-not-has_payload.true) in
-    (l.has, l.begins-one, l.order, l.inside, l.before-is, l.after_is)
+    (l.has, tt)
 
 pub returns-then-not-is_start : goal.returns-then-not-is_start
 returns-then-not-is_start c =
     let n = sym c.is_start.ensures ∙ c.if-not-is_start.true in
     let l = subst (λ (k : ℕ). Lies (packet (goal.at.returns-then-not-is_start c).Start) true false k (length (packet (goal.at.returns-then-not-is_start c).Start))) (sym c.payload_at-at.ensures)
     (lies-on (packet (goal.at.returns-then-not-is_start c).Start) c.requires.0 c.requires.1 (paid (goal.at.returns-then-not-is_start c).Else-not-has_payload) n) in
-    (l.has, l.begins-one, l.order, l.inside, l.before-is, l.after_is)
-
--- the payload lies in the packet
-at_most : (c : After-payload_at-at) → c.payload_at-at.result ≤ 188
-at_most c = omega (arith, payload-inside (packet (goal.at.After-payload_at-at c).Start) c.requires.0 c.requires.1, c.payload_at-at.ensures)
-
-pub overflow_add-from : goal.overflow_add-from
-overflow_add-from c = let m = at_most (goal.at.overflow_add-from c).After-payload_at-at in omega arith
-
-pub overflow_add-result : goal.overflow_add-result
-overflow_add-result c = let m = at_most (goal.at.overflow_add-result c).After-payload_at-at in let b = c.eight_at.ensures.1 in omega arith
+    (l.has, (l.begins-one, l.order, l.inside, l.before-is, l.after_is))
 
 pub returns : goal.returns
 returns c =
@@ -47,4 +36,4 @@ returns c =
     let w = lies-start (packet (goal.at.returns c).Start) c.requires.0 c.requires.1 (paid (goal.at.returns c).Else-not-has_payload) n in
     let l = subst (λ (m : ℕ). Lies (packet (goal.at.returns c).Start) true true (m + 1) (m + 1 + c.eight_at.result)) (sym k)
     (subst (λ (m : ℕ). Lies (packet (goal.at.returns c).Start) true true (payload_at (packet (goal.at.returns c).Start) + 1) (payload_at (packet (goal.at.returns c).Start) + 1 + m)) (sym b) w) in
-    (l.has, l.begins-one, l.order, l.inside, l.before-is, l.after_is)
+    (l.has, (l.begins-one, l.order, l.inside, l.before-is, l.after_is))

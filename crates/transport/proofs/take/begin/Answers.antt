@@ -4,7 +4,6 @@ use mathlib.Core.Path.{◌≡◌, sym, ap, ◌∙◌}
 use mathlib.Core.List.{List}
 use native.Mathlib.Omega.{arith}
 use lib.ListN.{length, take, drop, length-drop}
-use lib.Seq.{length-take-le}
 use Rattle.wire.specs.Copies.{laid_at}
 use Rattle.wire.specs.Fields.{byte_at}
 use Rattle.wire.specs.Items.{items, joined}
@@ -31,9 +30,6 @@ laid c =
 -- what is left of it
 rest : (c : After-copy_at) → drop c.whole_in-n.result c.args.after.now ≡ left_of c.args.after.now
 rest c = ap (λ (n : ℕ). drop n c.args.after.now) c.whole_in-n.ensures.0
-
-pub slice_bounds-copy_at-end : goal.slice_bounds-copy_at-end
-slice_bounds-copy_at-end c = sym (length-take-le _ c.args.after.now c.whole_in-n.ensures.1)
 
 pub returns-then-byte_at : goal.returns-then-byte_at
 returns-then-byte_at c =

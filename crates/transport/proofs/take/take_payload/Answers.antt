@@ -5,7 +5,6 @@ use mathlib.Core.List.{List}
 use native.Mathlib.Omega.{arith}
 use lib.ListN.{length, take, drop, length-append, length-drop}
 use lib.Seq.{length-take-le}
-use borrow.Author.Tests.{not-true, not-false}
 use Rattle.wire.specs.Items.{items, joined}
 use Rattle.wire.specs.Pieces.{laid_first}
 use Rattle.wire.proofs.Laws.Loops.{tail}
@@ -14,7 +13,7 @@ use Rattle.transport.specs.Packet.{View, view_of}
 use Rattle.transport.specs.Feed.{is_head, ended, grown, head_in, leaves}
 use Rattle.transport.specs.State.{hand_at, state_bytes}
 use Rattle.transport.proofs.Laws.Hands.{none-long, none_laid}
-use Rattle.transport.proofs.Laws.Rule.{brings-most, ended-most, items-most}
+use Rattle.transport.proofs.Laws.Rule.{brings-most, ended-most}
 use Rattle.transport.proofs.Laws.Taking.{idle_hands, start_hands, on_hands, left-same, given_as, put-behind, started-size, started_out}
 use Rattle.transport.proofs.Laws.Judged.{same_part}
 use Rattle.transport.proofs.take.take_payload.Goals as goal
@@ -39,7 +38,7 @@ held s = let e = held-there s in omega (arith, e, s.requires.2)
 given : (c : After-hand_on-n) →
     (c.hand_on-n.result ≡ length (joined (ended (hand (goal.at.After-hand_on-n c).Start) (view (goal.at.After-hand_on-n c).Start).before))) × (c.hand_on-n.new.out ≡ laid_first
     (joined (ended (hand (goal.at.After-hand_on-n c).Start) (view (goal.at.After-hand_on-n c).Start).before)) c.args.out.now)
-given c = given_as _ _ _ _ _ _ _ (same_part c.args.state.now 190 c.args.held) c.parts_of-v.ensures.4 c.hand_on-n.ensures
+given c = given_as _ _ _ _ _ _ _ (same_part c.args.state.now 190 c.args.held) c.in-Some.ensures.1.3 c.hand_on-n.ensures
 
 -- it has room
 brings : (s : Start) → length (view s).before + length (view s).after ≤ 184
@@ -67,14 +66,14 @@ as_long c =
     omega (arith, e, a, d, (given c).0, few c)
 
 -- the bytes after the pointed place
-after : (c : After-begin-b) → take (length c.args.p.now - c.parts_of-v.result.mid) (drop c.parts_of-v.result.mid c.args.p.now) ≡ (view_of c.args.p.now).after
-after c = tail c.args.p.now _ ∙ c.parts_of-v.ensures.5
+after : (c : After-begin-b) → take (length c.args.p.now - c.in-Some.v.mid) (drop c.in-Some.v.mid c.args.p.now) ≡ (view_of c.args.p.now).after
+after c = tail c.args.p.now _ ∙ c.in-Some.ensures.1.4
 
-pub returns-then-not-v : goal.returns-then-not-v
-returns-then-not-v c =
-    let i = idle_hands (hand (goal.at.returns-then-not-v c).Start) (view (goal.at.returns-then-not-v c).Start) (sym c.parts_of-v.ensures.0 ∙ not-true _ c.if-not-v.true) in (
+pub returns-in_default : goal.returns-in_default
+returns-in_default c =
+    let i = idle_hands (hand (goal.at.returns-in_default c).Start) (view (goal.at.returns-in_default c).Start) (sym c.in_default.ensures.0) in (
       sym none-long ∙ ap (λ (ss : List (List ℕ)). length (joined ss)) (sym i.0),
-      sym (held-there (goal.at.returns-then-not-v c).Start) ∙ ap (λ (h : List ℕ). length h) (sym i.1),
+      sym (held-there (goal.at.returns-in_default c).Start) ∙ ap (λ (h : List ℕ). length h) (sym i.1),
       left-same c.args.p.now c.args.state.now c.requires.0 c.args.held _ c.requires.2 c.requires.3 i.1,
       sym (none_laid c.args.out.now) ∙ ap (λ (ss : List (List ℕ)). laid_first (joined ss) c.args.out.now) (sym i.0),
     )
@@ -82,19 +81,13 @@ returns-then-not-v c =
 pub hand_on-n-requires : goal.hand_on-n-requires
 hand_on-n-requires c =
     let a = ap (λ (x : List ℕ). length x) (same_part c.args.state.now 190 c.args.held) in
-    let b = ap (λ (x : List ℕ). length x) c.parts_of-v.ensures.4 in
+    let b = ap (λ (x : List ℕ). length x) c.in-Some.ensures.1.3 in
     (ap is_head (same_part c.args.state.now 190 c.args.held) ∙ c.requires.4, omega (arith, a, b, held (goal.at.hand_on-n-requires c).Start, brings (goal.at.hand_on-n-requires c).Start, c.requires.5))
-
-pub slice_bounds-begin-count-then-v : goal.slice_bounds-begin-count-then-v
-slice_bounds-begin-count-then-v c = omega (arith, few (goal.at.slice_bounds-begin-count-then-v c).After-hand_on-n, as_long (goal.at.slice_bounds-begin-count-then-v c).After-hand_on-n)
-
-pub slice_bounds-begin-start-then-v : goal.slice_bounds-begin-start-then-v
-slice_bounds-begin-start-then-v c = omega (arith, few (goal.at.slice_bounds-begin-start-then-v c).After-hand_on-n, as_long (goal.at.slice_bounds-begin-start-then-v c).After-hand_on-n)
 
 pub begin-b-requires : goal.begin-b-requires
 begin-b-requires c =
     let o = c.hand_on-n.new.out in
-    let a = ap (λ (x : List ℕ). length x) (tail c.args.p.now c.parts_of-v.result.mid ∙ c.parts_of-v.ensures.5) in
+    let a = ap (λ (x : List ℕ). length x) (tail c.args.p.now c.in-Some.v.mid ∙ c.in-Some.ensures.1.4) in
     let r = ap (λ (x : List ℕ). length x) (tail o c.hand_on-n.result) in
     let d = length-drop c.hand_on-n.result o in (
       omega (arith, a, brings (goal.at.begin-b-requires c).Start),
@@ -110,55 +103,41 @@ begin-b-requires c =
       ),
     )
 
-pub overflow_add-result : goal.overflow_add-result
-overflow_add-result c =
-    let m = c.begin-b.ensures.0 ∙ ap (λ (x : List ℕ). length (joined (items whole_at x))) (after (goal.at.overflow_add-result c).After-begin-b) in
-    let l : c.hand_on-n.result + c.begin-b.result.size ≤ 4465 = omega (
-      arith,
-      (given (goal.at.overflow_add-result c).After-hand_on-n).0,
-      ended-most (hand (goal.at.overflow_add-result c).Start)
-          (view (goal.at.overflow_add-result c).Start).before,
-      held (goal.at.overflow_add-result c).Start,
-      brings (goal.at.overflow_add-result c).Start,
-      m,
-      items-most (view
-          (goal.at.overflow_add-result c).Start).after,
-    ) in
-    omega (arith, l)
-
-pub returns-then-v : goal.returns-then-v
-returns-then-v c =
-    let p = sym c.parts_of-v.ensures.0 ∙ not-false _ c.if-not-v.false in
-    let t = sym c.parts_of-v.ensures.1 ∙ c.if-v.true in
-    let m = c.begin-b.ensures.0 ∙ ap (λ (x : List ℕ). length (joined (items whole_at x))) (after (goal.at.returns-then-v c).After-begin-b) in
+pub returns-then-start : goal.returns-then-start
+returns-then-start c =
+    let p = sym c.in-Some.ensures.0 in
+    let t = sym c.in-Some.ensures.1.0 ∙ c.if-start.true in
+    let m = c.begin-b.ensures.0 ∙ ap (λ (x : List ℕ). length (joined (items whole_at x))) (after (goal.at.returns-then-start c).After-begin-b) in
     let o = c.hand_on-n.new.out in
     let n = c.hand_on-n.result in
-    let l : n ≤ length c.args.out.now = omega (arith, few (goal.at.returns-then-v c).After-hand_on-n) in
-    let h : head_in _ ≡ leaves (hand (goal.at.returns-then-v c).Start) (view (goal.at.returns-then-v c).Start) = ap head_in (after (goal.at.returns-then-v c).After-begin-b) ∙ sym (start_hands
-    (hand (goal.at.returns-then-v c).Start) (view (goal.at.returns-then-v c).Start) p t).1 in
-    let r = c.begin-b.ensures.3 ∙ ap₂ (λ (x y : List ℕ). laid_first (joined (items whole_at x)) y) (after (goal.at.returns-then-v c).After-begin-b) (tail o n) in (
-      started-size (hand (goal.at.returns-then-v c).Start) c.args.out.now (view (goal.at.returns-then-v c).Start) p t n c.begin-b.result.size (given (goal.at.returns-then-v c).After-hand_on-n).0 m,
+    let l : n ≤ length c.args.out.now = omega (arith, few (goal.at.returns-then-start c).After-hand_on-n) in
+    let h : head_in _ ≡ leaves (hand (goal.at.returns-then-start c).Start) (view (goal.at.returns-then-start c).Start) =
+    ap head_in (after (goal.at.returns-then-start c).After-begin-b)
+    ∙ sym (start_hands (hand (goal.at.returns-then-start c).Start) (view (goal.at.returns-then-start c).Start) p t).1 in
+    let r = c.begin-b.ensures.3 ∙ ap₂ (λ (x y : List ℕ). laid_first (joined (items whole_at x)) y) (after (goal.at.returns-then-start c).After-begin-b) (tail o n) in (
+      started-size (hand (goal.at.returns-then-start c).Start) c.args.out.now (view (goal.at.returns-then-start c).Start) p t n c.begin-b.result.size
+          (given (goal.at.returns-then-start c).After-hand_on-n).0 m,
       c.begin-b.ensures.1 ∙ ap (λ (x : List ℕ). length x) h,
       c.begin-b.ensures.2 c.args.p.now c.requires.0
           ∙ ap (λ (x : List ℕ). laid_first (state_bytes (record { last = c.args.p.now; hand = x })) c.args.state.now) h,
-      put-behind n o _ (omega (arith, l, as_long (goal.at.returns-then-v c).After-hand_on-n)) ∙ started_out (hand (goal.at.returns-then-v c).Start) c.args.out.now (view
-          (goal.at.returns-then-v c).Start) p t o _ n (given (goal.at.returns-then-v c).After-hand_on-n).0 (given (goal.at.returns-then-v c).After-hand_on-n).1 r l,
+      put-behind n o _ (omega (arith, l, as_long (goal.at.returns-then-start c).After-hand_on-n)) ∙ started_out (hand (goal.at.returns-then-start c).Start) c.args.out.now (view
+          (goal.at.returns-then-start c).Start) p t o _ n (given (goal.at.returns-then-start c).After-hand_on-n).0 (given (goal.at.returns-then-start c).After-hand_on-n).1 r l,
     )
 
 pub go_on-requires : goal.go_on-requires
 go_on-requires c =
-    let b = ap (λ (x : List ℕ). length x) c.parts_of-v.ensures.4 in
-    let q = c.parts_of-v.result in
+    let b = ap (λ (x : List ℕ). length x) c.in-Some.ensures.1.3 in
+    let q = c.in-Some.v in
     let m = take (q.mid - q.from) (drop q.from c.args.p.now) in
     let n = c.hand_on-n.ensures.0 ∙ ap (λ (x : List ℕ). length (joined (ended x m))) (same_part c.args.state.now 190 c.args.held) in
     (c.requires.3, c.requires.2, c.requires.4, omega (arith, b, brings (goal.at.go_on-requires c).Start), n)
 
 pub returns : goal.returns
 returns c =
-    let p = sym c.parts_of-v.ensures.0 ∙ not-false _ c.if-not-v.false in
-    let t = sym c.parts_of-v.ensures.1 ∙ c.if-v.false in
+    let p = sym c.in-Some.ensures.0 in
+    let t = sym c.in-Some.ensures.1.0 ∙ c.if-start.false in
     let o = on_hands (hand (goal.at.returns c).Start) (view (goal.at.returns c).Start) p t in
-    let h = ap (grown (hand (goal.at.returns c).Start)) c.parts_of-v.ensures.4 ∙ sym o.1 in
+    let h = ap (grown (hand (goal.at.returns c).Start)) c.in-Some.ensures.1.3 ∙ sym o.1 in
     let g = given (goal.at.returns c).After-hand_on-n in (
       g.0 ∙ ap (λ (ss : List (List ℕ)). length (joined ss)) (sym o.0),
       c.go_on.ensures.0 ∙ ap (λ (x : List ℕ). length x) h,

@@ -1,9 +1,0 @@
--- `test_transport::follow` is safe, and ends: each turn passes a case.
-use Rattle.std.proofs.Common.{◌≡◌, ◌-◌, ◌≤◌, length}
-use Rattle.test_transport.proofs.follow.Given as goal
-
-abbrev pub invariant-loop-at : goal.invariant-loop-at
-invariant-loop-at g l = (l.at ≤ length l.s) × (length l.state ≡ length l.initial.state)
-
-abbrev pub decreases-loop-at : goal.decreases-loop-at
-decreases-loop-at g l = length l.s - l.at
