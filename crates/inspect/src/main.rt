@@ -5,12 +5,17 @@
 // out.
 #![tactic(auto)]
 
-mod descriptors;
 mod fields;
 mod items;
+mod kinds;
 mod page;
 mod record;
 mod table;
+mod tag00;
+mod tag01;
+mod tag02;
+mod tag05;
+mod tag15;
 
 use crate::fields::Maybe;
 use crate::page::Page;

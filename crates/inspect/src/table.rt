@@ -1,9 +1,7 @@
 // An accepted table: its header, its common descriptors and its applications.
-use crate::descriptors::put_descriptor;
 use crate::fields::Holder;
-use crate::items::put_items;
+use crate::kinds::{put_below, put_descriptor};
 use crate::page::Page;
-use ait_descriptors::{Described, Repeated};
 use ait_read::{Class, Control, Scope};
 use std::fmt;
 use std::fmt::Write;
@@ -83,20 +81,4 @@ fn put_descriptors<P: Print>(
         }
     }
     Ok(())
-}
-
-// The items below a descriptor's line: those of its sort and, below a 0x00 alone, its labels after them.
-fn put_below<P: Print>(page: &mut Page<P>, s: &[u8], holder: Holder, d: Described) -> fmt::Result {
-    match d {
-        Described::Application(x) => {
-            put_items(page, s, holder, Repeated::Profiles, x.profiles)?;
-            put_items(page, s, holder, Repeated::Labels, x.labels)
-        }
-        Described::Names(names) => put_items(page, s, holder, Repeated::Names, names),
-        Described::Bases(x) => put_items(page, s, holder, Repeated::Bases, x.bases),
-        Described::Identifiers(identifiers) => {
-            put_items(page, s, holder, Repeated::Identifiers, identifiers)
-        }
-        _ => Ok(()),
-    }
 }
