@@ -4,7 +4,7 @@
   the rows are the refusals of include/nebosvar.h, in order, none left out;
   the words stand in the comments of the files that the definitions are in, clause by clause;
   a definition stands beside the number in a table of tests, `(16, meets16 ..)`, or its file has such a table;
-  each function that is named gives the number, `return 16;`, `Err(16)`, `number: 16` or `refuse(16)`, and no function besides them does;
+  each function that is named gives the number, `return 16;`, `Err(16)`, `Err(refusal(16))`, `number: 16` or `refuse(16)`, and no function besides them does;
   the stored answers of each crate that is named as a test have the number;
   the edits are edits of the gate."""
 import re
@@ -14,7 +14,7 @@ import names
 from names import ROOT, text_of
 
 # what is returned is a number where it is a u8, `turn` of a packet's counter apart; a place is a usize
-GIVEN = r"-> u8\n.*return {0};|\bErr\({0}\)(?! =>)|Refusal {{\s*number: {0},|refuse\({0}\)"
+GIVEN = r"-> u8\n.*return {0};|\bErr\((?:refusal\()?{0}\)(?! =>)|Refusal {{\s*number: {0},|refuse\({0}\)"
 # a line of stored answers, and which of its numbers are refusals; a place may follow one, `5@12`
 ANSWERS = {
     "test_section": r"^\w+ (\d+)(?:@\d+)? (\d+)(?:@\d+)?$",
