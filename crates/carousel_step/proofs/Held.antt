@@ -4,7 +4,7 @@ use mathlib.Core.Path.{◌≡◌, refl, sym, ap, ap₂, ◌∙◌}
 use mathlib.Core.Bool.{Bool, true, false, not, cond, ◌||◌}
 use mathlib.Core.List.{List, [], ◌∷◌}
 use native.Mathlib.Omega.{arith}
-use Rattle.std.proofs.Common.{Option, Some, None}
+use Rattle.std.proofs.Common.{Option, Some}
 use lib.Dec.{eqb, ltb}
 use lib.ListN.{length, get_or, take, drop}
 use borrow.Author.Tests.{eqb-true, eqb-false, ltb-true, ltb-false, le-ltb}
@@ -28,7 +28,7 @@ use Rattle.carousel_record.proofs.Laws.Rule.{kept, ruled-says, ruled-count}
 use Rattle.carousel_record.proofs.Laws.Says.{says-count, says_module, says-start}
 use Rattle.carousel_step.specs.Step.{Answered, StepOutcome, refusing, repeated, stored, meets12, meets14, meets16, block_refusal, bytes_differ}
 use Rattle.carousel_step.specs.Step.{matched, on_arrived, answer_of, carousel_after, image_after}
-use Rattle.carousel_step.specs.Held.{slot_place, slot_entry, held_refusal, put_outcome, held_outcome, marks_after}
+use Rattle.carousel_step.specs.Held.{slot_place, slot_entry, is_past, held_refusal, put_outcome, held_outcome, marks_after}
 use Rattle.carousel_step.proofs.Laws.Outcomes.{arrived_bad, arrived-good, held_bad, held-good}
 use Rattle.carousel_step.proofs.Laws.Slots.{found-slot, no_slot}
 use Rattle.carousel_step.proofs.View.{fits, fits_in}
@@ -46,9 +46,34 @@ put-matched r image i d room =
     turned true = refl
     turned false = refl
 
--- A record c with all its entries, that keeps its rule; a block d; and the entry of its module's number, if there is one.
+-- WHAT MAY STAND FOR A MODULE'S NUMBER: if it is listed among the record's counted entries, that entry and its place; if it is not, nothing, or any entry at a place that is
+-- not counted.
+pub record StandsFor (c : Carousel) (number : ℕ) (o : Option Slot) : Type 0 where
+  pub listed : place_of (announced_by c) number < c.count
+      → o ≡ Some (record { place = place_of (announced_by c) number; entry = get_or c.modules (place_of (announced_by c) number) unused })
+  pub unlisted : c.count ≤ place_of (announced_by c) number → is_past c.count o ≡ true
+
+-- what is found by the number stands for it
+pub found-stands : (c : Carousel) → length c.modules ≡ most_modules → ruled_of c ≡ true → (number : ℕ) (o : Option Slot) → o ≡ slot_of c number → StandsFor c number o
+found-stands c entries ruled number o e =
+    record {
+      listed = λ l. e ∙ found-slot c entries (ruled-count c ruled) number l;
+      unlisted = λ l. ap (is_past c.count) (e ∙ no_slot c entries (ruled-count c ruled) number l);
+    }
+
+-- and so does the number's place with the entry there, where the place is counted; with any entry where it is not
+pub place-stands : (c : Carousel) (number i : ℕ) (m : Module) → i ≡ place_of (announced_by c) number → (i < c.count → m ≡ get_or c.modules i unused)
+    → StandsFor c number (Some (record { place = i; entry = m }))
+place-stands c number i m place entry =
+    record {
+      listed = λ l. let k : i < c.count = omega (arith, place) in
+          ap₂ (λ (p : ℕ) (x : Module). Some (record { place = p; entry = x })) place (entry k ∙ ap (λ (p : ℕ). get_or c.modules p unused) place);
+      unlisted = λ l. let k : c.count ≤ i = omega (arith, place) in ap not (le-ltb i c.count k);
+    }
+
+-- A record c with all its entries, that keeps its rule; a block d; and what stands for its module's number.
 module _ (c : Carousel) (entries : length c.modules ≡ most_modules) (ruled : ruled_of c ≡ true) (image : List ℕ) (d : Arrived) (o : Option Slot)
-    (slot : o ≡ slot_of c d.number) where
+    (slot : StandsFor c d.number o) where
   abbrev a : Announced
   a = announced_by c
 
@@ -57,13 +82,6 @@ module _ (c : Carousel) (entries : length c.modules ≡ most_modules) (ruled : r
 
   counted : length a.modules ≡ c.count
   counted = says-count c entries (ruled-count c ruled)
-
-  -- what was found
-  there : p < c.count → o ≡ Some (record { place = p; entry = get_or c.modules p unused })
-  there l = slot ∙ found-slot c entries (ruled-count c ruled) d.number l
-
-  nowhere : c.count ≤ p → o ≡ None
-  nowhere l = slot ∙ no_slot c entries (ruled-count c ruled) d.number l
 
   -- 12 to 16 by four numbers: how many modules there are, the place of this one, its version and its size
   abbrev lowest : (count place version size : ℕ) → ℕ
@@ -87,8 +105,8 @@ module _ (c : Carousel) (entries : length c.modules ≡ most_modules) (ruled : r
       go : (t : Bool) → ltb p c.count ≡ t → held_refusal (head_of c) o (length image) d ≡ lowest c.count p (module_at a p).version (module_at a p).size
       go true e =
           let l = ltb-true p c.count e in
-          rw (there l) (ap (λ (x : Listed). lowest c.count p x.version x.size) (sym (says_module c p l)))
-      go false e = rw (nowhere (ltb-false p c.count e), e)
+          rw (slot.listed l) (ap (λ (x : Listed). lowest c.count p x.version x.size) (sym (says_module c p l)))
+      go false e = rw (slot.unlisted (ltb-false p c.count e), e)
 
   -- its place in the image
   at-is : p < c.count → (get_or c.modules p unused).start + d.block * c.block_size ≡ block_at (record_of c) p d.block
@@ -102,7 +120,7 @@ module _ (c : Carousel) (entries : length c.modules ≡ most_modules) (ruled : r
       let k = kept (record_of c) (omega arith) (ruled-says c ruled) in
       let l : p < c.count = omega (arith, counted) in
       held-good (head_of c) o c.marks image d (same-refusal ∙ e)
-      ∙ ap (λ (s : Option Slot). put_outcome (mark_of (slot_place s) d.block) ((slot_entry s).start + d.block * c.block_size) c.marks image d.bytes) (there l)
+      ∙ ap (λ (s : Option Slot). put_outcome (mark_of (slot_place s) d.block) ((slot_entry s).start + d.block * c.block_size) c.marks image d.bytes) (slot.listed l)
       ∙ ap (λ (y : ℕ). put_outcome (mark_of p d.block) y c.marks image d.bytes) (at-is l)
       ∙ put-matched (record_of c) image p d (fits_in (record { says = record_of c; image = image }) k d f)
       ∙ sym (arrived-good (record_of c) image d e)
@@ -143,7 +161,7 @@ held-marks h o ws image d g ms =
 
 -- WHAT A CALLER OF `take_block` KNOWS: of a record c that keeps its rule, held in its parts, the answer, the record put together again and the image are those of 01
 module _ (c : Carousel) (entries : length c.modules ≡ most_modules) (ruled : ruled_of c ≡ true) (image : List ℕ) (b : Block) (x y : List ℕ) (h : Head) (o : Option Slot)
-    (own : h ≡ head_of c) (part : x ≡ y) (slot : o ≡ slot_of c b.number) where
+    (own : h ≡ head_of c) (part : x ≡ y) (slot : StandsFor c b.number o) where
   abbrev held : StepOutcome
   held = held_outcome h o c.marks image (arrived_in b x)
 
@@ -166,3 +184,9 @@ module _ (c : Carousel) (entries : length c.modules ≡ most_modules) (ruled : r
 
   pub held-image : (i : List ℕ) → i ≡ image_after image held → i ≡ image_after image comes
   held-image i e = e ∙ ap (λ (o : StepOutcome). image_after image o) comes_to
+
+-- The same for a place i and an entry m that a caller has by itself: the entry is asked for only where the place is counted.
+pub held-placed : (c : Carousel) → length c.modules ≡ most_modules → ruled_of c ≡ true → (image : List ℕ) (d : Arrived) (i : ℕ) (m : Module)
+    → i ≡ place_of (announced_by c) d.number → (i < c.count → m ≡ get_or c.modules i unused)
+    → held_outcome (head_of c) (Some (record { place = i; entry = m })) c.marks image d ≡ on_arrived (record_of c) image d
+held-placed c entries ruled image d i m place entry = held-is c entries ruled image d _ (place-stands c d.number i m place entry)

@@ -21,7 +21,7 @@ use Rattle.carousel_record.specs.declared.Carousel.{Carousel}
 use Rattle.carousel_step.specs.declared.Stepped.{Stepped}
 use Rattle.carousel_step.specs.Step.{Answered, on_announced, returning, stepped_of, image_of, number_of_answer, step_tests}
 use Rattle.carousel_step.proofs.Exact.{step-number}
-use Rattle.carousel_step.proofs.Held.{held-answer, held_record, held-image}
+use Rattle.carousel_step.proofs.Held.{found-stands, held-answer, held_record, held-image}
 use Rattle.carousel_record.proofs.Laws.Places.{bytes_most}
 use Rattle.carousel_record.proofs.Laws.Rule.{ruled-count}
 use Rattle.carousel_step.proofs.Laws.Outcomes.{announced-image, stepped-is, comes_broken, comes-refused, comes-announced, comes-carried}
@@ -136,7 +136,8 @@ returns-in-Ok-Carried c =
     let z = all-entries (goal.at.returns-in-Ok-Carried c).Start in
     let o = c.head_of-h.ensures in
     let e = c.take_block-answer.ensures in
-    let r = held-answer s.c z u s.image.now b _ _ _ _ o l c.slot_of-slot.ensures _ e.0 in
-    let d = own-parts s.c _ _ o ∙ held_record s.c z u s.image.now b _ _ _ _ o l c.slot_of-slot.ensures _ e.1 in
+    let f = found-stands s.c z u b.number _ c.slot_of-slot.ensures in
+    let r = held-answer s.c z u s.image.now b _ _ _ _ o l f _ e.0 in
+    let d = own-parts s.c _ _ o ∙ held_record s.c z u s.image.now b _ _ _ _ o l f _ e.1 in
     numbered _ _ _ _ _ ((λ i. record { answer = r i; state = d i }) ∙ sym p.0)
-    (held-image s.c z u s.image.now b _ _ _ _ o l c.slot_of-slot.ensures _ e.2 ∙ sym p.1)
+    (held-image s.c z u s.image.now b _ _ _ _ o l f _ e.2 ∙ sym p.1)

@@ -24,7 +24,7 @@ use Rattle.carousel_record.specs.declared.Module.{Module}
 use Rattle.carousel_record.specs.declared.Slot.{Slot}
 use Rattle.carousel_record.specs.Record.{announced_by, head_of, joined_of, number_in, place_among, slot_at, slot_of, ruled_of}
 use Rattle.carousel_record.proofs.Laws.Entries.{found-entries}
-use Rattle.carousel_step.proofs.Held.{joined-own, held_record, held-image}
+use Rattle.carousel_step.proofs.Held.{joined-own, found-stands, held_record, held-image}
 use Rattle.receiver.specs.declared.Stop.{Stop}
 use Rattle.receiver.specs.declared.Given.{Given}
 use Rattle.receiver.specs.declared.Ran.{Ran}
@@ -220,7 +220,7 @@ loop-taken-preserved c =
           rw (w.image-is, w.h-is, w.ms-is, w.numbers-is, w.marks-is) (one_more_lem j l.h l.ms l.numbers l.marks l.image refl l.invariant.3 (sym g.0) (sym g.1))
       | in-Ok-Carried w ↦
           let b = w.in-Ok-Carried.b in
-          let o = said l.h l.ms l.numbers l.marks b.number _ l.invariant.3.0 w.slot_in-slot.ensures in
+          let o = found-stands d entries r b.number _ (said l.h l.ms l.numbers l.marks b.number _ l.invariant.3.0 w.slot_in-slot.ensures) in
           let p = part s b.part.start b.part.size in
           let e = w.take_block.ensures in
           let k : judged_of s ≡ Ok (message.Carried b) = sym (judged-is j) ∙ w.in-Ok-Carried.is ∙ ap Ok (rw w.in-Ok-Carried.is at w.in-Ok-Carried.field-0-is) in
