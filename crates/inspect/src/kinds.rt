@@ -1,13 +1,12 @@
-// A line for each kind of descriptor, and of item, and what stands below it.
+// A line for each kind of descriptor, and of item.
 use crate::fields::{Holder, Part};
-use crate::items::put_items;
 use crate::page::Page;
 use crate::tag00::{put_application_descriptor, put_label, put_profile};
 use crate::tag01::{put_name, put_names};
 use crate::tag02::{put_base, put_bases, put_local, put_remote, put_selector};
 use crate::tag05::{put_identifier, put_identifiers};
 use crate::tag15::put_path;
-use ait_descriptors::{Described, Item, Raw, Repeated};
+use ait_descriptors::{Described, Item, Raw};
 use std::fmt;
 use std::fmt::Write;
 
@@ -30,27 +29,6 @@ fn put_raw<P: Print>(page: &mut Page<P>, x: Raw) -> fmt::Result {
     let tag = x.tag;
     let part = Part(x.contents);
     writeln!(page, "{tag},raw,{part}")
-}
-
-// The items below a descriptor's line: those of its sort and, below a 0x00 alone, its labels after them.
-pub fn put_below<P: Print>(
-    page: &mut Page<P>,
-    s: &[u8],
-    holder: Holder,
-    d: Described,
-) -> fmt::Result {
-    match d {
-        Described::Application(x) => {
-            put_items(page, s, holder, Repeated::Profiles, x.profiles)?;
-            put_items(page, s, holder, Repeated::Labels, x.labels)
-        }
-        Described::Names(names) => put_items(page, s, holder, Repeated::Names, names),
-        Described::Bases(x) => put_items(page, s, holder, Repeated::Bases, x.bases),
-        Described::Identifiers(identifiers) => {
-            put_items(page, s, holder, Repeated::Identifiers, identifiers)
-        }
-        _ => Ok(()),
-    }
 }
 
 // The item at place k of a descriptor of the section s.

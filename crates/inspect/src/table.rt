@@ -1,6 +1,7 @@
 // An accepted table: its header, its common descriptors and its applications.
 use crate::fields::Holder;
-use crate::kinds::{put_below, put_descriptor};
+use crate::items::put_below;
+use crate::kinds::put_descriptor;
 use crate::page::Page;
 use ait_read::{Class, Control, Scope};
 use std::fmt;
