@@ -58,7 +58,7 @@ def stands(crate, name):
     if name in LANGUAGE or name in CRATES or any(ROOT.glob(name.replace("/C/", "/*/"))) and re.search(r"[/.]", name):
         return True
     if "::" in name:
-        crate, name = name.split("::")
+        crate, name = name.split("::")[0], name.split("::")[-1]
         return any(re.search(r"\bfn %s\b" % name, text_of(p)) for p in sources(crate) if p.suffix == ".rt")
     if crate is None:
         return False
@@ -87,7 +87,7 @@ def faults(document):
             own = None
         if OWN.search(cell):
             own = OWN.search(cell)[1]
-        call = re.fullmatch(r"`(\w+)::\w+`", first)
+        call = re.fullmatch(r"`(\w+)(?:::\w+)+`", first)
         for crate, files, name in citations(cell, call[1] if call else own):
             count += 1
             if not (any(defined_in(p, name) for p in files) if files else stands(crate, name)):
