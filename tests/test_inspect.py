@@ -46,8 +46,10 @@ After the last section the stop, and what is announced, if anything is:
     test_inspect.py built    run target/bin/inspect, which tools/build.sh builds, on every input and compare what it prints
 """
 import random
+import socket
 import sys
 import time
+from concurrent.futures import ThreadPoolExecutor
 from typing import NamedTuple
 
 import test_ait
@@ -436,6 +438,31 @@ def inputs():
         yield from topic()
 
 
+# what the program gathers before it writes, and room enough for any line
+PAGE, LINE = 65_536, 128
+
+
+def written(command, i):
+    """Its writes, one by one: this kind of socket keeps them apart."""
+    ours, theirs = socket.socketpair(socket.AF_UNIX, socket.SOCK_SEQPACKET)
+    with ours, theirs, ThreadPoolExecutor(1) as pool:
+        reading = pool.submit(lambda: list(iter(lambda: ours.recv(2 * PAGE), b"")))
+        program.from_file(command, i, stdout=theirs)
+        theirs.close()
+        return reading.result()
+
+
+def check_writes(command, cases):
+    """Lines go out whole, and as many at once as a page surely holds: who stops reading, or has a full disk, is left with no part of a line."""
+    longest = sorted(cases, key=lambda case: -len(case[1]))[:9]
+    for i, output in longest + cases[:9]:
+        writes = written(command, i)
+        program.check_same(i.name + ", its writes", b"".join(writes), output)
+        if not all(w.endswith(b"\n") for w in writes) or len(writes) > 1 + len(output) // (PAGE - LINE):
+            program.differs(i.name, "%d writes, of which %d end within a line" % (len(writes), sum(not w.endswith(b"\n") for w in writes)))
+    assert len(longest[-1][1]) > PAGE, "none is longer than a page"
+
+
 def check_built(command, cases):
     longest = (0, "")
     for i, output in cases:
@@ -443,6 +470,7 @@ def check_built(command, cases):
         program.check_same(i.name, program.from_file(command, i), output)
         longest = max(longest, (time.monotonic() - begun, i.name))
     print("test_inspect.py: longest run %.2f s: %s" % longest)
+    check_writes(command, cases)
     program.check_beyond(command, cases)
     program.check_pieces(command, cases)
     program.check_unheard(command)
