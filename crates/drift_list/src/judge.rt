@@ -100,13 +100,10 @@ fn at_zero(x: i32, y: i32) -> bool
     x == 0 && y == 0
 }
 
-// Whether a state does not go with coordinates that are both zero, or not.
+// Whether a state does not go with coordinates that are both zero, or not. An expression, since a branch on the state is guessed wrong where
+// states are mixed.
 fn state_fault(state: u8, origin: bool) -> bool
     ensures { result ≡ state_fault state origin }
 {
-    match state {
-        0 => !origin,
-        1 | 2 => origin,
-        _ => true,
-    }
+    3 <= state || (state == 0) != origin
 }
